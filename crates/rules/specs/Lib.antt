@@ -1,0 +1,11 @@
+pub mod Hall
+pub mod Steps
+pub mod Table
+pub mod Bytes
+pub mod Sheet
+pub mod Tally
+pub mod Lines
+pub mod History
+pub mod Demands
+pub mod SheetCases
+pub mod laws

@@ -1,0 +1,146 @@
+-- Collect and retire at one desk: no session is lost or made, and the list stays in order.
+use Prim.Native.Nat.{ℕ, suc, _+_, _*_, _≤_, _<_}
+use native.Mathlib.Omega.{arith}
+use mathlib.Core.Path.{_≡_, refl, sym, ap, _∙_}
+use mathlib.Core.Bool.{Bool, true, false, not}
+use mathlib.Core.List.{List, [], _∷_, map}
+use lib.ListN.{length, getD, drop, length-append, length-drop, length-map}
+use lib.Dec.{eqb}
+use borrow.Author.Tests.{eqb-true, eqb-false}
+use Rattle.rules.specs.Hall.{Desk, TestedPlace, unmarked, usedPlaces}
+use Rattle.rules.specs.History.{copies, oneIf}
+use Rattle.rules.specs.Steps.{begin, beginAt, collect, isSession, markEach, markedOf, nextScreens, readScreens, retire, scan, scanAt, settle, settleIf, unmarkedOf}
+use Rattle.rules.specs.laws.Lists.{copies-append, copies-drop, matches, matches-other}
+use Rattle.rules.specs.laws.Marks.{length-mark-each, length-next-screens, tested-copies-begin, tested-copies-mark-each, testedCopies, unmarked-and-marked}
+
+abbrev pub copiesOn : ℕ → Desk → ℕ
+copiesOn s D = copies s (D .ready) + testedCopies s (D .tested) + copies s (D .waiting)
+
+-- A pass: how far it has gone.
+abbrev pub Scanning : ℕ → ℕ → List TestedPlace → Type 0
+Scanning S k [] = k ≡ 0
+Scanning S k (p ∷ ps) = k < S
+
+pub record Orderly (S : ℕ) (D : Desk) : Type 0 where
+  pub total : usedPlaces D ≤ 2 * S
+  pub real : copiesOn 0 D ≡ 0
+  pub going : Scanning S (D .scanned) (D .tested)
+
+-- (b) and (c), by cases: nothing tested, the pass goes on, the pass ends.
+pub by-scan : (Q : Desk → Type 0) (S : ℕ) (shown : List ℕ) (A : Desk) → 1 ≤ S → length shown ≡ S → Scanning S (A .scanned) (A .tested)
+    → (A .tested ≡ [] → Q A)
+    → (1 ≤ length (A .tested) → length (nextScreens shown A) ≡ 2 → A .scanned + 2 < S → Q (readScreens (nextScreens shown A) A))
+    → (1 ≤ length (A .tested) → A .scanned < S → S ≤ A .scanned + 2 → A .scanned + length (nextScreens shown A) ≡ S → Q (settleIf true (readScreens (nextScreens shown A) A)))
+    → Q (settle S (scan shown A))
+by-scan Q S shown A hS hl g rest on over = at (A .tested) refl g
+  where
+    at : (t : List TestedPlace) → A .tested ≡ t → Scanning S (A .scanned) t → Q (settle S (scanAt t (nextScreens shown A) A))
+    at [] e h = at0 (eqb (A .scanned) S) refl
+      where
+        at0 : (b : Bool) → eqb (A .scanned) S ≡ b → Q (settleIf b A)
+        at0 true q = absurd (omega (arith, eqb-true (A .scanned) S q))
+        at0 false q = rest e
+    at (p ∷ ps) e h = at1 (eqb (A .scanned + length (nextScreens shown A)) S) refl
+      where
+        at1 : (b : Bool) → eqb (A .scanned + length (nextScreens shown A)) S ≡ b → Q (settleIf b (readScreens (nextScreens shown A) A))
+        at1 true q = let ls = length-next-screens (A .scanned) shown in let ks = eqb-true (A .scanned + length (nextScreens shown A)) S q in let le = ap length e in over (omega arith) h (omega arith) ks
+        at1 false q = let ls = length-next-screens (A .scanned) shown in let nk = eqb-false (A .scanned + length (nextScreens shown A)) S q in let le = ap length e in on (omega arith) (omega arith) (omega arith)
+
+-- (a) moves the waiting ones, and changes no count.
+pub record BeginKeeps (S : ℕ) (D A : Desk) : Type 0 where
+  pub total : usedPlaces A ≡ usedPlaces D
+  pub copy : (s : ℕ) → copiesOn s A ≡ copiesOn s D
+  pub ready : A .ready ≡ D .ready
+  pub going : Scanning S (A .scanned) (A .tested)
+
+going-free : (S k : ℕ) (w : List ℕ) → 1 ≤ S → k ≡ 0 → Scanning S k (map unmarked w)
+going-free S k [] hS h = h
+going-free S k (x ∷ w) hS h = omega arith
+
+pub begin-keeps : (S : ℕ) (D : Desk) → 1 ≤ S → Orderly S D → BeginKeeps S D (begin D)
+begin-keeps S D hS ok = go (D .tested) refl (ok .going)
+  where
+    go : (t : List TestedPlace) → D .tested ≡ t → Scanning S (D .scanned) t → BeginKeeps S D (beginAt t D)
+    go [] e g = record { total = let le = ap length e in let lm = length-map (D .waiting) unmarked in omega arith; copy = λ s. (let be = ap (testedCopies s) e in let bf = tested-copies-begin s (D .waiting) in omega arith); ready = refl; going = going-free S (D .scanned) (D .waiting) hS g }
+    go (p ∷ ps) e g = record { total = refl; copy = λ s. refl; ready = refl; going = ok .going }
+
+-- (b) and (c) change no count.
+pub record ScanKeeps (S : ℕ) (A X : Desk) : Type 0 where
+  pub total : usedPlaces X ≡ usedPlaces A
+  pub copy : (s : ℕ) → copiesOn s X ≡ copiesOn s A
+  pub going : Scanning S (X .scanned) (X .tested)
+
+pub scan-keeps : (S : ℕ) (shown : List ℕ) (A : Desk) → 1 ≤ S → length shown ≡ S → Scanning S (A .scanned) (A .tested) → ScanKeeps S A (settle S (scan shown A))
+scan-keeps S shown A hS hl g = by-scan (ScanKeeps S A) S shown A hS hl g (λ e. record { total = refl; copy = λ s. refl; going = g }) on over
+  where
+    busy : (t : List TestedPlace) (k : ℕ) → 1 ≤ length t → k < S → Scanning S k t
+    busy [] k h l = absurd (omega arith)
+    busy (p ∷ ps) k h l = l
+
+    on : 1 ≤ length (A .tested) → length (nextScreens shown A) ≡ 2 → A .scanned + 2 < S → ScanKeeps S A (readScreens (nextScreens shown A) A)
+    on h1 h2 h3 =
+        let lw = length-mark-each (nextScreens shown A) (A .tested) in
+        record { total = omega arith; copy = λ s. (let bs = tested-copies-mark-each s (nextScreens shown A) (A .tested) in omega arith); going = busy (markEach (nextScreens shown A) (A .tested)) (A .scanned + length (nextScreens shown A)) (omega arith) (omega arith) }
+
+    over : 1 ≤ length (A .tested) → A .scanned < S → S ≤ A .scanned + 2 → A .scanned + length (nextScreens shown A) ≡ S → ScanKeeps S A (settleIf true (readScreens (nextScreens shown A) A))
+    over h1 h2 h3 h4 =
+        let t = markEach (nextScreens shown A) (A .tested) in
+        let lw = length-mark-each (nextScreens shown A) (A .tested) in
+        let fk = unmarked-and-marked t in
+        let la = length-append (A .ready) (unmarkedOf t) in
+        let lb = length-append (markedOf t) (A .waiting) in
+        record { total = omega arith; copy = λ s. (let bs = tested-copies-mark-each s (nextScreens shown A) (A .tested) in let ca = copies-append s (A .ready) (unmarkedOf t) in let cb = copies-append s (markedOf t) (A .waiting) in omega arith); going = refl }
+
+-- What a collect leaves: the counts before the hand-back.
+abbrev pub beforeHandBack : ℕ → List ℕ → Desk → Desk
+beforeHandBack S shown D = settle S (scan shown (begin D))
+
+pub record BeforeHandBack (S : ℕ) (D X : Desk) : Type 0 where
+  pub total : usedPlaces X ≡ usedPlaces D
+  pub copy : (s : ℕ) → copiesOn s X ≡ copiesOn s D
+  pub going : Scanning S (X .scanned) (X .tested)
+
+pub before-hand-back : (S : ℕ) (shown : List ℕ) (D : Desk) → 1 ≤ S → length shown ≡ S → Orderly S D → BeforeHandBack S D (beforeHandBack S shown D)
+before-hand-back S shown D hS hl ok =
+    let b = begin-keeps S D hS ok in
+    let p = scan-keeps S shown (begin D) hS hl (b .going) in
+    record { total = p .total ∙ b .total; copy = λ s. p .copy s ∙ b .copy s; going = p .going }
+
+first-leaves-copies : (s : ℕ) (r : List ℕ) → (s ≡ 0 → ⊥) → copies s (drop 1 r) + matches s (getD r 0 0) ≡ copies s r
+first-leaves-copies s [] h = omega (arith, matches-other s 0 h)
+first-leaves-copies s (x ∷ r) h = omega arith
+
+first-leaves-length : (r : List ℕ) → copies 0 r ≡ 0 → length (drop 1 r) + oneIf (isSession (getD r 0 0)) ≡ length r
+first-leaves-length [] h = refl
+first-leaves-length (x ∷ r) h = go (eqb x 0) refl
+  where
+    go : (b : Bool) → eqb x 0 ≡ b → length r + oneIf (not b) ≡ suc (length r)
+    go true q = let x0 : x ≡ 0 = eqb-true x 0 q in absurd (omega (arith, rw x0 at h))
+    go false q = omega arith
+
+pub collect-orderly : (S : ℕ) (shown : List ℕ) (D : Desk) → 1 ≤ S → length shown ≡ S → Orderly S D → Orderly S (collect S shown D .after)
+collect-orderly S shown D hS hl ok =
+    let b = before-hand-back S shown D hS hl ok in
+    let X = beforeHandBack S shown D in
+    record { total = omega (arith, b .total, ok .total, length-drop 1 (X .ready)); real = omega (arith, b .copy 0, ok .real, copies-drop 0 1 (X .ready)); going = b .going }
+
+pub collect-copies : (s S : ℕ) (shown : List ℕ) (D : Desk) → 1 ≤ S → length shown ≡ S → Orderly S D → (s ≡ 0 → ⊥) → copiesOn s (collect S shown D .after) + matches s (collect S shown D .session) ≡ copiesOn s D
+collect-copies s S shown D hS hl ok h =
+    let b = before-hand-back S shown D hS hl ok in
+    omega (arith, b .copy s, first-leaves-copies s (beforeHandBack S shown D .ready) h)
+
+pub collect-places : (S : ℕ) (shown : List ℕ) (D : Desk) → 1 ≤ S → length shown ≡ S → Orderly S D → usedPlaces (collect S shown D .after) + oneIf (isSession (collect S shown D .session)) ≡ usedPlaces D
+collect-places S shown D hS hl ok =
+    let b = before-hand-back S shown D hS hl ok in
+    let X = beforeHandBack S shown D in
+    let hz : copies 0 (X .ready) ≡ 0 = omega (arith, b .copy 0, ok .real) in
+    omega (arith, b .total, first-leaves-length (X .ready) hz)
+
+pub retire-orderly : (S : ℕ) (D : Desk) → (D .owed ≡ 0 → ⊥) → usedPlaces D < 2 * S → Orderly S D → Orderly S (retire D)
+retire-orderly S D h l ok = record { total = omega (arith, length-append (D .waiting) (D .owed ∷ [])); real = omega (arith, ok .real, copies-append 0 (D .waiting) (D .owed ∷ []), matches-other 0 (D .owed) (λ q. h (sym q))); going = ok .going }
+
+pub retire-copies : (s v : ℕ) (D : Desk) → D .owed ≡ v → copiesOn s (retire D) ≡ copiesOn s D + matches s v
+retire-copies s v D q = omega (arith, copies-append s (D .waiting) (D .owed ∷ []), ap (matches s) q)
+
+pub retire-places : (D : Desk) → usedPlaces (retire D) ≡ usedPlaces D + 1
+retire-places D = omega (arith, length-append (D .waiting) (D .owed ∷ []))

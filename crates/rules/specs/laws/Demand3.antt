@@ -1,0 +1,84 @@
+-- Demand 3 of the rules: of every list of calls from the opening on, for every desk number.
+use Prim.Native.Nat.{ℕ, _+_, _-_, _≤_, suc, _*_, _<_}
+use native.Mathlib.Omega.{arith}
+use native.Mathlib.Decide.{decLt}
+use mathlib.Core.Path.{_≡_, sym, ap, _∙_, subst}
+use mathlib.Core.Bool.{false}
+use mathlib.Core.List.{List}
+use lib.ListN.{length, take, drop}
+use Rattle.rules.specs.Demands.{BackWithin, exactBound}
+use Rattle.rules.specs.Hall.{Hall, State, allScreens, deskOf, fresh, usedPlaces}
+use Rattle.rules.specs.History.{Deed, Disciplined, Shows, collectsOf, deedAt, handBacks, handBacksOf, isCollect, isHandBackOf, lacksRoom, nothing, retirements, retirementsOf, retires}
+use Rattle.rules.specs.Steps.{Call, end, run}
+use Rattle.rules.specs.laws.Fresh.{fresh-copies, fresh-formed, fresh-places, fresh-room, fresh-shown, fresh-sound}
+use Rattle.rules.specs.laws.HandBack.{due-start}
+use Rattle.rules.specs.laws.Links.{Range}
+use Rattle.rules.specs.laws.Runs.{copies-run, due-run, formed-run, places-run, room-run, sound-run}
+use Rattle.rules.specs.laws.Screens.{AllShown, all-shown-run, hidden-run}
+use Rattle.rules.specs.laws.Splits.{count-split, deeds-past, deeds-split, range-run, run-take}
+
+module _ (H : Hall) (some : 1 ≤ allScreens H) (cs : List Call) where
+  -- ---- Room.
+  pub never-lacks-room : (d : ℕ) → Disciplined (deedAt (run H (fresh H) cs)) d → (i : ℕ) → deedAt (run H (fresh H) cs) i ≡ lacksRoom d → ⊥
+  never-lacks-room d disciplined i q =
+      let r = subst (Range H) q (range-run H cs (fresh H) (fresh-formed H) i) in
+      room-run H d some (r .0) cs (fresh H) false (fresh-formed H) (fresh-room H d some)
+      (record { between = disciplined; since = λ z. (let o : _≡_ {A = ℕ} 0 1 = cc in absurd (omega arith)) }) i q
+
+  -- ---- What is on the list.
+  pub on-list : (d : ℕ) → 1 ≤ d → retirements d (run H (fresh H) cs) ≡ handBacks d (run H (fresh H) cs) + usedPlaces (deskOf (end H (fresh H) cs) d)
+  on-list d hd = omega (arith, places-run H d some hd cs (fresh H) (fresh-formed H) (fresh-sound H d), fresh-places H d)
+
+  pub list-bound : (d : ℕ) → 1 ≤ d → retirements d (run H (fresh H) cs) ≤ handBacks d (run H (fresh H) cs) + 2 * allScreens H
+  list-bound d hd = omega (arith, on-list d hd, sound-run H d some hd cs (fresh H) (fresh-formed H) (fresh-sound H d) .total)
+
+-- ---- Back in time.
+module _ (H : Hall) (some : 1 ≤ allScreens H) (cs : List Call) (B : ℕ) (enough : exactBound (allScreens H) ≤ B) where
+  -- the retire is the last of the first n calls; k more calls hold the collects
+  back-from : (d s n k : ℕ) → 1 ≤ d → (s ≡ 0 → ⊥) → n ≤ length cs
+      → collectsOf d (run H (end H (fresh H) (take n cs)) (take k (drop n cs))) ≡ B
+      → ((m e c : ℕ) → n ≤ m → m < n + k → Shows (deedAt (run H (fresh H) cs)) m e c s → ⊥)
+      → retirementsOf d s (run H (fresh H) (take n cs)) ≤ handBacksOf d s (run H (fresh H) (take (n + k) cs))
+  back-from d s n k hd hs hn hc unshown =
+      let st : State = end H (fresh H) (take n cs) in
+      let f : ℕ → Deed = deedAt (run H (fresh H) cs) in
+      let formed = formed-run H (take n cs) (fresh H) (fresh-formed H) in
+      let ok = sound-run H d some hd (take n cs) (fresh H) (fresh-formed H) (fresh-sound H d) in
+      let zero-plus : (i : ℕ) → f (0 + i) ≡ f i = (λ i. let e : 0 + i ≡ i = omega arith in ap f e) in
+      let shown : AllShown H f n (end H (fresh H) (take n cs)) = subst (λ (m : ℕ). AllShown H f m (end H (fresh H) (take n cs))) (omega arith) (all-shown-run H f s hs n cs (fresh H) 0 zero-plus (fresh-formed H) (fresh-shown H f) hn) in
+      let hidden = hidden-run H f s hs k (drop n cs) (end H (fresh H) (take n cs)) n (deeds-split H n cs (fresh H)) formed shown unshown in
+      let c1 = copies-run H d some hd s hs (take n cs) (fresh H) (fresh-formed H) (fresh-sound H d) in
+      let c2 = copies-run H d some hd s hs (take k (drop n cs)) (end H (fresh H) (take n cs)) formed ok in
+      let du = due-run H d some hd s (take k (drop n cs)) (end H (fresh H) (take n cs)) B 0 formed ok (due-start (allScreens H) s B 0 (deskOf (end H (fresh H) (take n cs)) d) some enough (ok .pass)) hidden hc in
+      let hb = count-split (isHandBackOf s) d H n k cs (fresh H) in
+      omega (arith, fresh-copies H d s)
+
+  pub back-in-time : BackWithin B (run H (fresh H) cs)
+  back-in-time d s r h q hc unshown = go (decLt h r)
+    where
+      range : (1 ≤ d) × (d ≤ H .desks) × (s ≡ 0 → ⊥)
+      range = subst (Range H) q (range-run H cs (fresh H) (fresh-formed H) r)
+
+      inside : suc r ≤ length cs
+      inside = at (decLt r (length cs))
+        where
+          at : Dec (r < length cs) → suc r ≤ length cs
+          at (yes l) = l
+          at (no l) = let k : nothing ≡ retires d s = sym (deeds-past H cs (fresh H) r (omega arith)) ∙ q in let z : _≡_ {A = ℕ} 0 1 = cc in absurd (omega arith)
+
+      collected : (n : ℕ) → collectsOf d (take n (run H (fresh H) cs)) ≡ collectsOf d (run H (fresh H) (take n cs))
+      collected n = ap (collectsOf d) (run-take H n cs (fresh H))
+
+      go : Dec (h < r) → retirementsOf d s (take (suc r) (run H (fresh H) cs)) ≤ handBacksOf d s (take (suc h) (run H (fresh H) cs))
+      go (yes l) =
+          let e : suc h + (r - h) ≡ suc r = omega arith in
+          let c = count-split isCollect d H (suc h) (r - h) cs (fresh H) in
+          let c′ = ap (λ (m : ℕ). collectsOf d (run H (fresh H) (take m cs))) e in
+          absurd (omega (arith, collected (suc h), collected (suc r)))
+      go (no l) =
+          let e : suc r + (h - r) ≡ suc h = omega arith in
+          let c = count-split isCollect d H (suc r) (h - r) cs (fresh H) in
+          let c′ = ap (λ (m : ℕ). collectsOf d (run H (fresh H) (take m cs))) e in
+          let b = back-from d s (suc r) (h - r) (range .0) (range .2) inside (omega (arith, collected (suc h), collected (suc r))) (λ m x y a b. unshown m x y (omega arith) (omega arith)) in
+          let b′ = ap (λ (m : ℕ). handBacksOf d s (run H (fresh H) (take m cs))) e in
+          omega (arith, ap (retirementsOf d s) (run-take H (suc r) cs (fresh H)), ap (handBacksOf d s) (run-take H (suc h) cs (fresh H)))

@@ -1,0 +1,81 @@
+-- The table and the rules: a desk's record, read back, is the desk.
+use Prim.Native.Nat.{ℕ, zero, suc, _+_, _*_, _-_, _/_, _%_, _≤_}
+use native.Mathlib.Omega.{arith}
+use mathlib.Core.Path.{_≡_, refl, ap, ap₂, _∙_}
+use mathlib.Core.Bool.{Bool, true, false}
+use mathlib.Core.List.{List, [], _∷_, _++_, append-assoc}
+use lib.ListN.{length, take, drop, replicate, length-append, length-replicate, length-drop, take-append-drop}
+use lib.Seq.{take-at, drop-at, take-append-seam, drop-append-seam, length-take-le, drop-append-add}
+use lib.Dec.{T}
+use borrow.Author.Tests.{eq-eqb, ne-eqb}
+use Rattle.rules.specs.Hall.{Desk, TestedPlace, marked, unmarked}
+use Rattle.rules.specs.Table.{bitValue, bitsOfWord, bitsOfWords, decodeDesk, encodeDesk, listOf, marksOf, ones, placesOf, sessionsOf, wordOfBits, wordsOfBits}
+use Rattle.rules.specs.laws.Marks.{markCount}
+
+bits-of-word-of-bits : (n : ℕ) (bs : List Bool) → length bs ≡ n → bitsOfWord n (wordOfBits bs) ≡ bs
+bits-of-word-of-bits zero [] h = refl
+bits-of-word-of-bits zero (b ∷ bs) h = absurd (omega arith)
+bits-of-word-of-bits (suc n) [] h = absurd (omega arith)
+bits-of-word-of-bits (suc n) (true ∷ bs) h = λ i. eq-eqb ((1 + 2 * wordOfBits bs) % 2) 1 (omega arith) i ∷ (ap (bitsOfWord n) (half true) ∙ bits-of-word-of-bits n bs (omega arith)) i
+  where
+    half : (b : Bool) → (bitValue b + 2 * wordOfBits bs) / 2 ≡ wordOfBits bs
+    half true = omega arith
+    half false = omega arith
+bits-of-word-of-bits (suc n) (false ∷ bs) h = λ i. ne-eqb ((0 + 2 * wordOfBits bs) % 2) 1 (λ q. omega arith) i ∷ (ap (bitsOfWord n) half ∙ bits-of-word-of-bits n bs (omega arith)) i
+  where
+    half : (0 + 2 * wordOfBits bs) / 2 ≡ wordOfBits bs
+    half = omega arith
+
+bits-of-words-of-bits : (n : ℕ) (bs : List Bool) → length bs ≡ n * 16 → bitsOfWords (wordsOfBits n bs) ≡ bs
+bits-of-words-of-bits zero [] h = refl
+bits-of-words-of-bits zero (b ∷ bs) h = absurd (omega arith)
+bits-of-words-of-bits (suc n) bs h = ap₂ {C = List Bool} (λ x y. x ++ y) (bits-of-word-of-bits 16 (take 16 bs) (length-take-le 16 bs (omega arith))) (bits-of-words-of-bits n (drop 16 bs) (omega (arith, length-drop 16 bs))) ∙ take-append-drop 16 bs
+
+pub length-sessions : (ps : List TestedPlace) → length (sessionsOf ps) ≡ length ps
+length-sessions [] = refl
+length-sessions (unmarked x ∷ ps) = ap suc (length-sessions ps)
+length-sessions (marked x ∷ ps) = ap suc (length-sessions ps)
+
+pub length-marks : (ps : List TestedPlace) → length (marksOf ps) ≡ length ps
+length-marks [] = refl
+length-marks (unmarked x ∷ ps) = ap suc (length-marks ps)
+length-marks (marked x ∷ ps) = ap suc (length-marks ps)
+
+pub places-again : (ps : List TestedPlace) → placesOf (sessionsOf ps) (marksOf ps) ≡ ps
+places-again [] = refl
+places-again (unmarked x ∷ ps) = ap {B = List TestedPlace} (λ r. unmarked x ∷ r) (places-again ps)
+places-again (marked x ∷ ps) = ap {B = List TestedPlace} (λ r. marked x ∷ r) (places-again ps)
+
+pub ones-marks : (ps : List TestedPlace) → ones (marksOf ps) ≡ markCount ps
+ones-marks [] = refl
+ones-marks (unmarked x ∷ ps) = omega (arith, ones-marks ps)
+ones-marks (marked x ∷ ps) = omega (arith, ones-marks ps)
+
+module _ {A : Type 0} (a b c z : List A) where
+  part-1 : take (length a) ((a ++ (b ++ c)) ++ z) ≡ a
+  part-1 = ap (take (length a)) (append-assoc a (b ++ c) z) ∙ take-append-seam a ((b ++ c) ++ z)
+
+  part-2 : (n : ℕ) → length b ≡ n → take n (drop (length a) ((a ++ (b ++ c)) ++ z)) ≡ b
+  part-2 n h = ap (λ (l : List A). take n (drop (length a) l)) (append-assoc a (b ++ c) z) ∙ ap (take n) (drop-append-seam a ((b ++ c) ++ z)) ∙ ap (take n) (append-assoc b c z) ∙ take-at b (c ++ z) n h
+
+  part-3 : (n : ℕ) → length b ≡ n → take (length c) (drop (length a + n) ((a ++ (b ++ c)) ++ z)) ≡ c
+  part-3 n h = ap (λ (l : List A). take (length c) (drop (length a + n) l)) (append-assoc a (b ++ c) z) ∙ ap (take (length c)) (drop-append-add a ((b ++ c) ++ z) n) ∙ ap (λ (l : List A). take (length c) (drop n l)) (append-assoc b c z) ∙ ap (take (length c)) (drop-at b (c ++ z) n h) ∙ take-append-seam c z
+
+pub marks-read-back : (T : List TestedPlace) → length T ≤ 128 → bitsOfWords (wordsOfBits 8 (marksOf T ++ replicate (128 - length T) false)) ≡ marksOf T ++ replicate (128 - length T) false
+marks-read-back T h = bits-of-words-of-bits 8 (marksOf T ++ replicate (128 - length T) false) (omega (arith, length-append (marksOf T) (replicate (128 - length T) false), length-marks T, length-replicate {A = Bool} (128 - length T) false))
+
+pub desk-read-back : (S : ℕ) (D : Desk) → length (D .tested) ≤ 128 → decodeDesk (encodeDesk S D) ≡ D
+unfolding encodeDesk decodeDesk
+desk-read-back S D h = λ i. record { owed = D .owed; scanned = D .scanned; ready = rd i; tested = td i; waiting = wd i }
+  where
+    z : List ℕ
+    z = replicate (2 * S - length (listOf D)) 0
+
+    rd : decodeDesk (encodeDesk S D) .ready ≡ D .ready
+    rd = part-1 (D .ready) (sessionsOf (D .tested)) (D .waiting) (replicate (2 * S - length (listOf D)) 0)
+
+    td : decodeDesk (encodeDesk S D) .tested ≡ D .tested
+    td = ap₂ placesOf (part-2 (D .ready) (sessionsOf (D .tested)) (D .waiting) (replicate (2 * S - length (listOf D)) 0) (length (D .tested)) (length-sessions (D .tested))) (ap (take (length (D .tested))) (marks-read-back (D .tested) h) ∙ take-at (marksOf (D .tested)) _ (length (D .tested)) (length-marks (D .tested))) ∙ places-again (D .tested)
+
+    wd : decodeDesk (encodeDesk S D) .waiting ≡ D .waiting
+    wd = part-3 (D .ready) (sessionsOf (D .tested)) (D .waiting) (replicate (2 * S - length (listOf D)) 0) (length (D .tested)) (length-sessions (D .tested))

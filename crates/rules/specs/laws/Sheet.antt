@@ -1,0 +1,512 @@
+-- Laws of the day sheet: every reader moves on, the reading goes record by record, and what is written is read back.
+use Prim.Native.Nat.{ℕ, zero, suc, _+_, _*_, _/_, _%_, _≤_, _<_}
+use native.Mathlib.Omega.{arith}
+use native.Mathlib.Bridge.{le-by-compare, IsLe}
+use native.Mathlib.Numerals.{bound}
+use mathlib.Core.Path.{_≡_, refl, sym, ap, _∙_, subst}
+use mathlib.Core.Bool.{Bool, true, false, cond, _&&_}
+use mathlib.Core.List.{List, [], _∷_, _++_, append-assoc, append-nil}
+use lib.ListN.{length, drop, length-append, length-drop}
+use lib.Seq.{drop-length, drop-drop, drop-append-seam}
+use lib.Dec.{leb, ltb}
+use borrow.Author.Tests.{ltb-false, leb-true, lt-ltb, le-ltb, le-leb, lt-leb}
+use Rattle.rules.specs.Hall.{Hall}
+use Rattle.rules.specs.Steps.{firstNo, inRange}
+use Rattle.rules.specs.Table.{need, openQuestions, openIf, openTable}
+use Rattle.rules.specs.Sheet.{Refusal, Got, got, refused, andThen, Groups, ended, stopped, endless, before, groupsIn}
+use Rattle.rules.specs.Sheet.{valueOf, numberOf, number, mostNumber, Record, recordFor, deskField, screenField}
+use Rattle.rules.specs.Sheet.{positionField, sessionField, follows, fieldAt, fieldsAt, withCode, isCode, recordAt}
+use Rattle.rules.specs.Sheet.{Records, more, complete, stop, recordsAt, headerAt, lentTable, openingNumber, opened}
+use Rattle.rules.specs.Sheet.{mostBytes, reading, Meaning, whole, Accepted, shortest, numberBytes, fieldBytes}
+use Rattle.rules.specs.Sheet.{fieldsBytes, recordBytes, recordsBytes, headerBytes, sheetBytes}
+use Rattle.rules.specs.Tally.{zeros}
+use Rattle.rules.specs.Lines.{line, endLine, printed}
+
+-- ---- What a reader that got a value had before it.
+refused-not-got : {A : Type 0} {reason : Refusal} {value : A} {next : ℕ} → refused reason ≡ got value next → ⊥
+refused-not-got e = let z : _≡_ {A = ℕ} 0 1 = cc in omega arith
+
+then-got : {A B : Type 0} (first : Got A) (rest : A → ℕ → Got B) (value : B) (next : ℕ) → andThen first rest ≡ got value next
+    → (a : A) × (middle : ℕ) × (first ≡ got a middle) × (rest a middle ≡ got value next)
+then-got (got a middle) rest value next e = (a, middle, refl, e)
+then-got (refused reason) rest value next e = absurd (refused-not-got e)
+
+asked-got : {A : Type 0} (yes : Bool) (reason : Refusal) (rest : Got A) (value : A) (next : ℕ)
+    → cond yes rest (refused reason) ≡ got value next
+    → (yes ≡ true) × (rest ≡ got value next)
+asked-got true reason rest value next e = (refl, e)
+asked-got false reason rest value next e = absurd (refused-not-got e)
+
+coded-got : {A : Type 0} (code : ℕ) (inner : Got A) (value : A) (next : ℕ) → withCode code inner ≡ got value next
+    → inner ≡ got value next
+coded-got code (got a middle) value next e = e
+coded-got code (refused reason) value next e = absurd (refused-not-got e)
+
+-- what holds of a value and its place holds of those that are equal to them
+same-got : {A : Type 0} (P : A → ℕ → Type 0) (first second : A) (at next : ℕ) → got first at ≡ got second next → P first at
+    → P second next
+same-got P first second at next e holds =
+    let same : first ≡ second = cc in
+    let far : at ≡ next = cc in
+    subst (λ (n : ℕ). P second n) far (subst (λ a. P a at) same holds)
+
+-- ---- Every reader moves on, and stays in the sheet.
+pub record Onward (sheet : List ℕ) (at next : ℕ) : Type 0 where
+  pub past : at < next
+  pub inside : next ≤ length sheet
+
+-- Groups that end take a byte or more, and no more than there are.
+abbrev Taken : ℕ → Groups → Type 0
+Taken most (ended groups) = (1 ≤ length groups) × (length groups ≤ most)
+Taken most stopped = Unit {0}
+Taken most endless = Unit {0}
+
+groups-taken : (most : ℕ) (bytes : List ℕ) → Taken (length bytes) (groupsIn most bytes)
+groups-taken zero bytes = tt
+groups-taken (suc most) [] = tt
+groups-taken (suc most) (byte ∷ bytes) = one-more (ltb byte 128) (groupsIn most bytes) (groups-taken most bytes)
+  where
+    one-more : (last : Bool) (found : Groups) → Taken (length bytes) found
+        → Taken (suc (length bytes)) (cond last (ended (byte ∷ [])) (before (byte % 128) found))
+    one-more true found taken = (omega arith, omega arith)
+    one-more false (ended groups) taken = (omega (arith, taken .0), omega (arith, taken .1))
+    one-more false stopped taken = tt
+    one-more false endless taken = tt
+
+pub record NumberGot (limit : ℕ) (sheet : List ℕ) (at value next : ℕ) : Type 0 where
+  pub small : value ≤ limit
+  pub moved : Onward sheet at next
+
+pub number-got : (limit : ℕ) (sheet : List ℕ) (at value next : ℕ) → number limit sheet at ≡ got value next
+    → NumberGot limit sheet at value next
+unfolding number
+number-got limit sheet at value next e = of-groups (groupsIn 3 (drop at sheet)) (groups-taken 3 (drop at sheet)) e
+  where
+    of-groups : (found : Groups) → Taken (length (drop at sheet)) found → numberOf limit at found ≡ got value next
+        → NumberGot limit sheet at value next
+    of-groups (ended groups) taken q =
+        let asked = asked-got (leb (valueOf groups) limit) _ _ value next q in
+        let place : at + length groups ≡ next = cc (asked .1) in
+        let same : valueOf groups ≡ value = cc (asked .1) in
+        record {
+          small = omega (arith, leb-true (valueOf groups) limit (asked .0));
+          moved = record { past = omega (arith, taken .0); inside = omega (arith, taken .0, taken .1, length-drop at sheet) };
+        }
+    of-groups stopped taken q = absurd (refused-not-got q)
+    of-groups endless taken q = absurd (refused-not-got q)
+
+-- What a field holds: a number where it follows the code, else 0.
+abbrev pub Due : Bool → ℕ → Type 0
+Due true value = value ≤ mostNumber
+Due false value = value ≡ 0
+
+-- A record that a sheet can have.
+pub record GoodRecord (entry : Record) : Type 0 where
+  pub code : isCode (entry .code) ≡ true
+  pub desk : Due (follows (entry .code) deskField) (entry .desk)
+  pub screen : Due (follows (entry .code) screenField) (entry .screen)
+  pub position : Due (follows (entry .code) positionField) (entry .position)
+  pub session : Due (follows (entry .code) sessionField) (entry .session)
+
+record FieldGot (present : Bool) (sheet : List ℕ) (at value next : ℕ) : Type 0 where
+  due : Due present value
+  past : at ≤ next
+  inside : next ≤ length sheet
+
+field-got : (present : Bool) (sheet : List ℕ) (at value next : ℕ) → at ≤ length sheet
+    → fieldAt present mostNumber sheet at ≡ got value next
+    → FieldGot present sheet at value next
+field-got true sheet at value next h e =
+    let g = number-got mostNumber sheet at value next e in
+    record { due = g .small; past = omega (arith, g .moved .past); inside = g .moved .inside }
+field-got false sheet at value next h e =
+    let place : at ≡ next = cc in
+    let none : value ≡ 0 = cc in
+    record { due = none; past = omega arith; inside = omega arith }
+
+record FieldsGot (code : ℕ) (sheet : List ℕ) (at : ℕ) (entry : Record) (next : ℕ) : Type 0 where
+  good : isCode code ≡ true → GoodRecord entry
+  past : at ≤ next
+  inside : next ≤ length sheet
+
+fields-got : (code : ℕ) (sheet : List ℕ) (at : ℕ) (entry : Record) (next : ℕ) → at ≤ length sheet
+    → fieldsAt code sheet at ≡ got entry next
+    → FieldsGot code sheet at entry next
+fields-got code sheet at entry next h e =
+    let e₁ = then-got (fieldAt (follows code deskField) mostNumber sheet at) _ entry next e in
+    let g₁ = field-got (follows code deskField) sheet at (e₁ .0) (e₁ .1) h (e₁ .2) in
+    let e₂ = then-got (fieldAt (follows code screenField) mostNumber sheet (e₁ .1)) _ entry next (e₁ .3) in
+    let g₂ = field-got (follows code screenField) sheet (e₁ .1) (e₂ .0) (e₂ .1) (g₁ .inside) (e₂ .2) in
+    let e₃ = then-got (fieldAt (follows code positionField) mostNumber sheet (e₂ .1)) _ entry next (e₂ .3) in
+    let g₃ = field-got (follows code positionField) sheet (e₂ .1) (e₃ .0) (e₃ .1) (g₂ .inside) (e₃ .2) in
+    let e₄ = then-got (fieldAt (follows code sessionField) mostNumber sheet (e₃ .1)) _ entry next (e₃ .3) in
+    let g₄ = field-got (follows code sessionField) sheet (e₃ .1) (e₄ .0) (e₄ .1) (g₃ .inside) (e₄ .2) in
+    same-got (FieldsGot code sheet at) (recordFor code (e₁ .0) (e₂ .0) (e₃ .0) (e₄ .0)) entry (e₄ .1) next (e₄ .3)
+    (record {
+      good = λ fine. record { code = fine; desk = g₁ .due; screen = g₂ .due; position = g₃ .due; session = g₄ .due };
+      past = omega (arith, g₁ .past, g₂ .past, g₃ .past, g₄ .past);
+      inside = g₄ .inside;
+    })
+
+pub record RecordGot (sheet : List ℕ) (at : ℕ) (entry : Record) (next : ℕ) : Type 0 where
+  pub good : GoodRecord entry
+  pub moved : Onward sheet at next
+
+pub record-got : (sheet : List ℕ) (at : ℕ) (entry : Record) (next : ℕ) → recordAt sheet at ≡ got entry next
+    → RecordGot sheet at entry next
+unfolding recordAt
+record-got sheet at entry next e =
+    let e₁ = then-got (number mostNumber sheet at) _ entry next e in
+    let g = number-got mostNumber sheet at (e₁ .0) (e₁ .1) (e₁ .2) in
+    let e₂ = asked-got (isCode (e₁ .0)) _ _ entry next (e₁ .3) in
+    let fields = fields-got (e₁ .0) sheet (e₁ .1) entry next (g .moved .inside) (coded-got (e₁ .0) _ entry next (e₂ .1)) in
+    record { good = fields .good (e₂ .0); moved = record { past = omega (arith, g .moved .past, fields .past); inside = fields .inside } }
+
+pub header-got : (sheet : List ℕ) (at : ℕ) (hall : Hall) (next : ℕ) → headerAt sheet at ≡ got hall next
+    → Onward sheet at next
+unfolding headerAt
+header-got sheet at hall next e =
+    let e₁ = then-got (number mostNumber sheet at) _ hall next e in
+    let g₁ = number-got mostNumber sheet at (e₁ .0) (e₁ .1) (e₁ .2) in
+    let e₂ = then-got (number mostNumber sheet (e₁ .1)) _ hall next (e₁ .3) in
+    let g₂ = number-got mostNumber sheet (e₁ .1) (e₂ .0) (e₂ .1) (e₂ .2) in
+    let e₃ = then-got (number mostNumber sheet (e₂ .1)) _ hall next (e₂ .3) in
+    let g₃ = number-got mostNumber sheet (e₂ .1) (e₃ .0) (e₃ .1) (e₃ .2) in
+    let place : e₃ .1 ≡ next = cc (e₃ .3) in
+    record { past = omega (arith, g₁ .moved .past, g₂ .moved .past, g₃ .moved .past); inside = omega (arith, g₃ .moved .inside) }
+
+-- ---- The reading goes record by record: how many records it may take does not matter, once they are enough.
+pub records-enough : (most other : ℕ) (sheet : List ℕ) (at : ℕ) → length sheet ≤ at + most → length sheet ≤ at + other
+    → recordsAt most sheet at ≡ recordsAt other sheet at
+records-enough zero zero sheet at h g = refl
+records-enough zero (suc other) sheet at h g = simp (le-ltb at (length sheet) (omega arith))
+records-enough (suc most) zero sheet at h g = simp (le-ltb at (length sheet) (omega arith))
+records-enough (suc most) (suc other) sheet at h g =
+    by-record (recordAt sheet at) refl
+    (λ entry next e.
+    let moved = record-got sheet at entry next e .moved in
+    records-enough most other sheet next (omega (arith, moved .past)) (omega (arith, moved .past)))
+  where
+    by-record : (found : Got Record) → recordAt sheet at ≡ found
+        → ((entry : Record) (next : ℕ) → recordAt sheet at ≡ got entry next → recordsAt most sheet next ≡ recordsAt other sheet next)
+        → recordsAt (suc most) sheet at ≡ recordsAt (suc other) sheet at
+    by-record (refused reason) e rest = simp e
+    by-record (got entry next) e rest =
+        simp e (ap (λ (records : Records). cond (ltb at (length sheet)) (more entry records) complete) (rest entry next e))
+
+one-further : (sheet : List ℕ) (at : ℕ) → recordsAt (length sheet) sheet at ≡ recordsAt (suc (length sheet)) sheet at
+one-further sheet at = records-enough (length sheet) (suc (length sheet)) sheet at (omega arith) (omega arith)
+
+pub records-more : (sheet : List ℕ) (at : ℕ) (entry : Record) (next : ℕ) → at < length sheet
+    → recordAt sheet at ≡ got entry next
+    → recordsAt (length sheet) sheet at ≡ more entry (recordsAt (length sheet) sheet next)
+records-more sheet at entry next h e = one-further sheet at ∙ simp (lt-ltb at (length sheet) h, e)
+
+pub records-stop : (sheet : List ℕ) (at : ℕ) (reason : Refusal) → at < length sheet → recordAt sheet at ≡ refused reason
+    → recordsAt (length sheet) sheet at ≡ stop reason
+records-stop sheet at reason h e = one-further sheet at ∙ simp (lt-ltb at (length sheet) h, e)
+
+pub records-end : (sheet : List ℕ) (at : ℕ) → length sheet ≤ at → recordsAt (length sheet) sheet at ≡ complete
+records-end sheet at h = one-further sheet at ∙ simp (le-ltb at (length sheet) h)
+
+-- ---- Bytes that stand in a sheet, from a place up to the next.
+pub record Stands (bytes sheet : List ℕ) (at next : ℕ) : Type 0 where
+  pub here : drop at sheet ≡ bytes ++ drop next sheet
+  pub far : next ≡ at + length bytes
+
+pub stands-split : (first second sheet : List ℕ) (at next : ℕ) → Stands (first ++ second) sheet at next
+    → Stands first sheet at (at + length first) × Stands second sheet (at + length first) next
+stands-split first second sheet at next h =
+    (record { here = one; far = refl }, record { here = two; far = omega (arith, h .far, length-append first second) })
+  where
+    all : drop at sheet ≡ first ++ (second ++ drop next sheet)
+    all = h .here ∙ append-assoc first second (drop next sheet)
+
+    two : drop (at + length first) sheet ≡ second ++ drop next sheet
+    two = sym (drop-drop (length first) at sheet) ∙ ap (drop (length first)) all ∙ drop-append-seam first (second ++ drop next sheet)
+
+    one : drop at sheet ≡ first ++ drop (at + length first) sheet
+    one = all ∙ ap (λ (rest : List ℕ). first ++ rest) (sym two)
+
+stands-whole : (sheet : List ℕ) → Stands sheet sheet 0 (length sheet)
+stands-whole sheet =
+    record { here = sym (append-nil sheet) ∙ ap (λ (rest : List ℕ). sheet ++ rest) (sym (drop-length sheet)); far = omega arith }
+
+-- ---- A written number is read back.
+
+-- how many numbers so many bytes can write
+abbrev room : ℕ → ℕ
+room zero = 1
+room (suc most) = 128 * room most
+
+-- the groups of the shortest form
+abbrev groupsOf : ℕ → ℕ → List ℕ
+groupsOf zero value = []
+groupsOf (suc most) value = cond (ltb value 128) (value ∷ []) ((value % 128) ∷ groupsOf most (value / 128))
+
+groups-read-back : (most value : ℕ) (rest : List ℕ) → value < room most → 1 ≤ value + most
+    → groupsIn most (shortest most value ++ rest) ≡ ended (groupsOf most value)
+groups-read-back zero value rest h g = absurd (omega arith)
+groups-read-back (suc most) value rest h g =
+    by-size (ltb value 128) refl (λ big. groups-read-back most (value / 128) rest (omega arith) (omega arith))
+  where
+    by-size : (small : Bool) → ltb value 128 ≡ small
+        → (128 ≤ value → groupsIn most (shortest most (value / 128) ++ rest) ≡ ended (groupsOf most (value / 128)))
+        → groupsIn (suc most) (shortest (suc most) value ++ rest) ≡ ended (groupsOf (suc most) value)
+    by-size true e later = simp e
+    by-size false e later =
+        let big : 128 ≤ value = ltb-false value 128 e in
+        let low : (value % 128 + 128) % 128 ≡ value % 128 = omega arith in
+        simp (e, le-ltb (value % 128 + 128) 128 (omega arith), low, later big)
+
+value-of-groups : (most value : ℕ) → value < room most → valueOf (groupsOf most value) ≡ value
+value-of-groups zero value h = omega arith
+value-of-groups (suc most) value h = by-size (ltb value 128) refl (value-of-groups most (value / 128) (omega arith))
+  where
+    by-size : (small : Bool) → ltb value 128 ≡ small → valueOf (groupsOf most (value / 128)) ≡ value / 128
+        → valueOf (groupsOf (suc most) value) ≡ value
+    by-size true e later = simp e (omega arith)
+    by-size false e later = simp (e, later) (omega arith)
+
+one-byte-a-group : (most value : ℕ) → length (groupsOf most value) ≡ length (shortest most value)
+one-byte-a-group zero value = refl
+one-byte-a-group (suc most) value = by-size (ltb value 128) refl (one-byte-a-group most (value / 128))
+  where
+    by-size : (small : Bool) → ltb value 128 ≡ small
+        → length (groupsOf most (value / 128)) ≡ length (shortest most (value / 128))
+        → length (groupsOf (suc most) value) ≡ length (shortest (suc most) value)
+    by-size true e later = simp e
+    by-size false e later = simp (e, later)
+
+pub number-read-back : (limit value : ℕ) (sheet : List ℕ) (at next : ℕ) → value ≤ limit → limit ≤ mostNumber
+    → Stands (numberBytes value) sheet at next
+    → number limit sheet at ≡ got value next
+unfolding number numberBytes
+number-read-back limit value sheet at next h g stands =
+    ap (λ (bytes : List ℕ). numberOf limit at (groupsIn 3 bytes)) (stands .here)
+    ∙ ap (numberOf limit at) (groups-read-back 3 value (drop next sheet) (omega arith) (omega arith))
+    ∙ simp (value-of-groups 3 value (omega arith), le-leb value limit h, place)
+  where
+    place : at + length (groupsOf 3 value) ≡ next
+    place = omega (arith, one-byte-a-group 3 value, stands .far)
+
+-- ---- A written record is read back.
+field-read-back : (present : Bool) (value : ℕ) (sheet : List ℕ) (at next : ℕ) → Due present value
+    → Stands (fieldBytes present value) sheet at next
+    → fieldAt present mostNumber sheet at ≡ got value next
+field-read-back true value sheet at next due stands = number-read-back mostNumber value sheet at next due (omega arith) stands
+field-read-back false value sheet at next due stands = let place : next ≡ at = omega (arith, stands .far) in cc
+
+fields-read-back : (entry : Record) (sheet : List ℕ) (at next : ℕ) → GoodRecord entry
+    → Stands (fieldsBytes entry) sheet at next
+    → fieldsAt (entry .code) sheet at ≡ got entry next
+fields-read-back entry sheet at next good stands =
+    simp (
+      field-read-back (follows (entry .code) deskField) (entry .desk) sheet at at₁ (good .desk) (s₁ .0),
+      field-read-back (follows (entry .code) screenField) (entry .screen) sheet at₁ at₂ (good .screen) (s₂ .0),
+      field-read-back (follows (entry .code) positionField) (entry .position) sheet at₂ at₃ (good .position) (s₃ .0),
+      field-read-back (follows (entry .code) sessionField) (entry .session) sheet at₃ next (good .session) (s₃ .1),
+    )
+  where
+    desk : List ℕ
+    desk = fieldBytes (follows (entry .code) deskField) (entry .desk)
+
+    screen : List ℕ
+    screen = fieldBytes (follows (entry .code) screenField) (entry .screen)
+
+    position : List ℕ
+    position = fieldBytes (follows (entry .code) positionField) (entry .position)
+
+    session : List ℕ
+    session = fieldBytes (follows (entry .code) sessionField) (entry .session)
+
+    at₁ : ℕ
+    at₁ = at + length desk
+
+    at₂ : ℕ
+    at₂ = at₁ + length screen
+
+    at₃ : ℕ
+    at₃ = at₂ + length position
+
+    s₁ : Stands desk sheet at at₁ × Stands (screen ++ (position ++ session)) sheet at₁ next
+    s₁ = stands-split desk (screen ++ (position ++ session)) sheet at next stands
+
+    s₂ : Stands screen sheet at₁ at₂ × Stands (position ++ session) sheet at₂ next
+    s₂ = stands-split screen (position ++ session) sheet at₁ next (s₁ .1)
+
+    s₃ : Stands position sheet at₂ at₃ × Stands session sheet at₃ next
+    s₃ = stands-split position session sheet at₂ next (s₂ .1)
+
+false-not-true : false ≡ true → ⊥
+false-not-true e = let z : _≡_ {A = ℕ} 0 1 = cc in omega arith
+
+-- a number that is in its range is at most the range's end
+in-range : (value most : ℕ) → inRange value most ≡ true → value ≤ most
+in-range value most e = second (leb 1 value) (leb value most) refl e
+  where
+    second : (low high : Bool) → leb value most ≡ high → (low && high) ≡ true → value ≤ most
+    second true true q e = leb-true value most q
+    second true false q e = absurd (false-not-true e)
+    second false high q e = absurd (false-not-true e)
+
+pub record-read-back : (entry : Record) (sheet : List ℕ) (at next : ℕ) → GoodRecord entry
+    → Stands (recordBytes entry) sheet at next
+    → recordAt sheet at ≡ got entry next
+unfolding recordAt recordBytes
+record-read-back entry sheet at next good stands =
+    simp (
+      number-read-back mostNumber (entry .code) sheet at (at + length code) small (omega arith) (split .0),
+      good .code,
+      fields-read-back entry sheet (at + length code) next good (split .1),
+    )
+  where
+    small : entry .code ≤ mostNumber
+    small = omega (arith, in-range (entry .code) 5 (good .code))
+
+    code : List ℕ
+    code = numberBytes (entry .code)
+
+    split : Stands code sheet at (at + length code) × Stands (fieldsBytes entry) sheet (at + length code) next
+    split = stands-split code (fieldsBytes entry) sheet at next stands
+
+-- ---- A written sheet is read back.
+abbrev pub EachGood : List Record → Type 0
+EachGood [] = Unit {0}
+EachGood (entry ∷ entries) = GoodRecord entry × EachGood entries
+
+records-read-back : (entries : List Record) (sheet : List ℕ) (at : ℕ) → EachGood entries
+    → Stands (recordsBytes entries) sheet at (length sheet)
+    → recordsAt (length sheet) sheet at ≡ whole entries
+records-read-back [] sheet at good stands = records-end sheet at (omega (arith, stands .far))
+records-read-back (entry ∷ entries) sheet at good stands =
+    let next : ℕ = at + length (recordBytes entry) in
+    let split = stands-split (recordBytes entry) (recordsBytes entries) sheet at (length sheet) stands in
+    let e : recordAt sheet at ≡ got entry next = record-read-back entry sheet at next (good .0) (split .0) in
+    let moved = record-got sheet at entry next e .moved in
+    records-more sheet at entry next (omega (arith, moved .past, moved .inside)) e
+    ∙ ap (more entry) (records-read-back entries sheet next (good .1) (split .1))
+
+-- A header that opens has numbers in their ranges.
+record Ranges (hall : Hall) : Type 0 where
+  desks : hall .desks ≤ 16
+  screens : hall .screens ≤ 4
+  positions : hall .positions ≤ 64
+
+ranges-from : (hall : Hall) → inRange (hall .desks) 16 ≡ true → inRange (hall .screens) 4 ≡ true
+    → inRange (hall .positions) 64 ≡ true
+    → Ranges hall
+ranges-from hall d c p =
+    record { desks = in-range (hall .desks) 16 d; screens = in-range (hall .screens) 4 c; positions = in-range (hall .positions) 64 p }
+
+-- the opening's number, from the answers to its four questions
+abbrev fourAnswers : Bool → Bool → Bool → Bool → ℕ
+fourAnswers desks screens positions long = cond desks (cond screens (cond positions (cond long 0 4) 3) 2) 1
+
+opening-ranges : (hall : Hall) → openingNumber hall ≡ 0 → Ranges hall
+unfolding openingNumber
+opening-ranges hall e =
+    by-answers (inRange (hall .desks) 16) (inRange (hall .screens) 4) (inRange (hall .positions) 64) (leb (need hall) (length lentTable))
+    refl refl refl e
+  where
+    by-answers : (desks screens positions long : Bool) → inRange (hall .desks) 16 ≡ desks
+        → inRange (hall .screens) 4 ≡ screens
+        → inRange (hall .positions) 64 ≡ positions → fourAnswers desks screens positions long ≡ 0 → Ranges hall
+    by-answers true true true long d c p q = ranges-from hall d c p
+    by-answers true true false long d c p q = absurd (omega arith)
+    by-answers true false positions long d c p q = absurd (omega arith)
+    by-answers false screens positions long d c p q = absurd (omega arith)
+
+-- "Is the table at least the need? 4": the table that the program lends is, so its opening gives 1, 2, 3 or 0.
+need-at-most : (hall : Hall) → Ranges hall → need hall ≤ 2387
+unfolding IsLe
+need-at-most hall ranges =
+    grw (bound, ranges .positions, ranges .desks, ranges .screens, ranges .desks, ranges .desks, ranges .screens) (le-by-compare _ _ tt)
+
+pub opening-never-four : (hall : Hall) → openingNumber hall ≤ 3
+unfolding openingNumber lentTable
+opening-never-four hall = by-answers (inRange (hall .desks) 16) (inRange (hall .screens) 4) (inRange (hall .positions) 64) refl refl refl
+  where
+    by-answers : (desks screens positions : Bool) → inRange (hall .desks) 16 ≡ desks → inRange (hall .screens) 4 ≡ screens
+        → inRange (hall .positions) 64 ≡ positions → fourAnswers desks screens positions (leb (need hall) 2387) ≤ 3
+    by-answers true true true d c p = rw (le-leb (need hall) 2387 (need-at-most hall (ranges-from hall d c p))) (omega arith)
+    by-answers true true false d c p = omega arith
+    by-answers true false positions d c p = omega arith
+    by-answers false screens positions d c p = omega arith
+
+pub header-read-back : (hall : Hall) (sheet : List ℕ) (at next : ℕ) → openingNumber hall ≡ 0
+    → Stands (headerBytes hall) sheet at next
+    → headerAt sheet at ≡ got hall next
+unfolding headerAt headerBytes
+header-read-back hall sheet at next opens stands =
+    simp (
+      number-read-back mostNumber (hall .desks) sheet at at₁ (omega (arith, ranges .desks)) (omega arith) (s₁ .0),
+      number-read-back mostNumber (hall .screens) sheet at₁ at₂ (omega (arith, ranges .screens)) (omega arith) (s₂ .0),
+      number-read-back mostNumber (hall .positions) sheet at₂ next (omega (arith, ranges .positions)) (omega arith) (s₂ .1),
+    )
+  where
+    ranges : Ranges hall
+    ranges = opening-ranges hall opens
+
+    desks : List ℕ
+    desks = numberBytes (hall .desks)
+
+    screens : List ℕ
+    screens = numberBytes (hall .screens)
+
+    positions : List ℕ
+    positions = numberBytes (hall .positions)
+
+    at₁ : ℕ
+    at₁ = at + length desks
+
+    at₂ : ℕ
+    at₂ = at₁ + length screens
+
+    s₁ : Stands desks sheet at at₁ × Stands (screens ++ positions) sheet at₁ next
+    s₁ = stands-split desks (screens ++ positions) sheet at next stands
+
+    s₂ : Stands screens sheet at₁ at₂ × Stands positions sheet at₂ next
+    s₂ = stands-split screens positions sheet at₁ next (s₁ .1)
+
+-- The board's answer to the opening, at the table that the program lends, has the reading's number.
+pub opening-answer : (hall : Hall) → openTable hall lentTable .answer ≡ record { number = openingNumber hall; session = 0 }
+unfolding openTable openingNumber
+opening-answer hall = by-number (firstNo (openQuestions hall lentTable))
+  where
+    by-number : (n : ℕ) → openIf n hall lentTable .answer ≡ record { number = n; session = 0 }
+    by-number zero = refl
+    by-number (suc n) = refl
+
+-- A meaning that a sheet can have: its header opens, and its records are good.
+pub record GoodMeaning (meaning : Meaning) : Type 0 where
+  pub opens : openingNumber (meaning .header) ≡ 0
+  pub records : EachGood (meaning .records)
+
+pub reading-back : (meaning : Meaning) → GoodMeaning meaning → length (sheetBytes meaning) ≤ mostBytes
+    → Accepted (sheetBytes meaning) meaning
+unfolding reading sheetBytes
+reading-back meaning good short =
+    simp (
+      le-leb (length sheet) mostBytes short,
+      header-read-back (meaning .header) sheet 0 (0 + length header) (good .opens) (split .0),
+      good .opens,
+    )
+    (ap (opened (meaning .header)) (records-read-back (meaning .records) sheet (0 + length header) (good .records) (split .1)))
+  where
+    header : List ℕ
+    header = headerBytes (meaning .header)
+
+    records : List ℕ
+    records = recordsBytes (meaning .records)
+
+    sheet : List ℕ
+    sheet = header ++ records
+
+    split : Stands header sheet 0 (0 + length header) × Stands records sheet (0 + length header) (length sheet)
+    split = stands-split header records sheet 0 (length sheet) (stands-whole sheet)
+
+-- ---- "is the sheet at most 65,536 bytes? 18", and "18 prints `0 0 18 0`".
+pub long-sheet : (sheet : List ℕ) → mostBytes < length sheet → printed sheet ≡ line 0 0 18 0 ++ endLine zeros
+unfolding reading printed
+long-sheet sheet long = simp (lt-leb (length sheet) mostBytes long)

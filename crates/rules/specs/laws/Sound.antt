@@ -1,0 +1,148 @@
+-- Soundness: it is what the steps keep, and the table of a sound state passes the board's test.
+use Prim.Native.Nat.{ℕ, zero, suc, _+_, _*_, _-_, _%_, _≤_, _<_}
+use native.Mathlib.Omega.{arith}
+use mathlib.Core.Path.{_≡_, refl, ap, _∙_}
+use mathlib.Core.Bool.{Bool, true, false, not, _&&_}
+use mathlib.Core.List.{List, [], _∷_, _++_, map}
+use lib.ListN.{length, drop, replicate, length-append}
+use lib.Seq.{take-at, drop-at}
+use lib.Dec.{leb, ltb, eqb}
+use borrow.Author.Tests.{eq-eqb, ne-eqb, le-leb, lt-ltb}
+use Rattle.rules.specs.Hall.{Desk, TestedPlace, marked, unmarked, usedPlaces}
+use Rattle.rules.specs.History.{copies}
+use Rattle.rules.specs.Steps.{begin, beginAt, collect, markEach, nextScreens, owe, retire, scan, settle}
+use Rattle.rules.specs.Table.{bitsOfWords, encodeDesk, every, listOf, marksOf, ones, recordSound, scanSound, sessionsOf, wordsOfBits}
+use Rattle.rules.specs.laws.Collect.{Orderly, Scanning, by-scan, collect-orderly, copiesOn, retire-orderly}
+use Rattle.rules.specs.laws.Encoding.{length-marks, length-sessions, marks-read-back, ones-marks}
+use Rattle.rules.specs.laws.Lists.{copies-append}
+use Rattle.rules.specs.laws.Marks.{length-mark-each, mark-count-begin, mark-count-mark-each, markCount, testedCopies}
+
+abbrev pub ScanFits : ℕ → ℕ → List TestedPlace → Type 0
+ScanFits S k [] = k ≡ 0
+ScanFits S k (p ∷ ps) = (k % 2 ≡ 0) × (2 ≤ k) × (k < S) × (markCount (p ∷ ps) ≤ k)
+
+pub record Sound (S : ℕ) (D : Desk) : Type 0 where
+  pub total : usedPlaces D ≤ 2 * S
+  pub real : copiesOn 0 D ≡ 0
+  pub pass : ScanFits S (D .scanned) (D .tested)
+
+pub sound-orderly : (S : ℕ) (D : Desk) → Sound S D → Orderly S D
+sound-orderly S D s = record { total = s .total; real = s .real; going = go (D .tested) (s .pass) }
+  where
+    go : (t : List TestedPlace) → ScanFits S (D .scanned) t → Scanning S (D .scanned) t
+    go [] p = p
+    go (q ∷ qs) p = p .2
+
+-- The steps keep it.
+pub sound-owe : (S o : ℕ) (D : Desk) → Sound S D → Sound S (owe D o)
+sound-owe S o D s = record { total = s .total; real = s .real; pass = s .pass }
+
+pub retire-sound : (S : ℕ) (D : Desk) → (D .owed ≡ 0 → ⊥) → usedPlaces D < 2 * S → Sound S D → Sound S (retire D)
+retire-sound S D h l s = let o = retire-orderly S D h l (sound-orderly S D s) in record { total = o .total; real = o .real; pass = s .pass }
+
+abbrev BegunFits : ℕ → ℕ → List TestedPlace → Type 0
+BegunFits S k [] = k ≡ 0
+BegunFits S k (p ∷ ps) = (k % 2 ≡ 0) × (k < S) × (markCount (p ∷ ps) ≤ k)
+
+begun-scanning : (S k : ℕ) (t : List TestedPlace) → BegunFits S k t → Scanning S k t
+begun-scanning S k [] m = m
+begun-scanning S k (p ∷ ps) m = m .1
+
+begun-fits : (S : ℕ) (D : Desk) → 1 ≤ S → Sound S D → BegunFits S (begin D .scanned) (begin D .tested)
+begun-fits S D hS s = go (D .tested) refl (s .pass)
+  where
+    start : (w : List ℕ) → D .scanned ≡ 0 → BegunFits S (D .scanned) (map unmarked w)
+    start [] h = h
+    start (x ∷ w) h = omega (arith, mark-count-begin w)
+
+    again : (t : List TestedPlace) → ScanFits S (D .scanned) t → BegunFits S (D .scanned) t
+    again [] p = p
+    again (q ∷ qs) p = omega arith
+
+    go : (t : List TestedPlace) → D .tested ≡ t → ScanFits S (D .scanned) t → BegunFits S (beginAt t D .scanned) (beginAt t D .tested)
+    go [] e p = start (D .waiting) p
+    go (q ∷ qs) e p = again (D .tested) (s .pass)
+
+scan-collect : (S : ℕ) (shown : List ℕ) (A : Desk) → 1 ≤ S → length shown ≡ S → BegunFits S (A .scanned) (A .tested) → ScanFits S (settle S (scan shown A) .scanned) (settle S (scan shown A) .tested)
+scan-collect S shown A hS hl m = by-scan (λ (X : Desk). ScanFits S (X .scanned) (X .tested)) S shown A hS hl (begun-scanning S (A .scanned) (A .tested) m) (λ e. rest (A .tested) e m) (λ h1 h2 h3. on (A .tested) refl h1 h2 h3 m) (λ h1 h2 h3 h4. refl)
+  where
+    rest : (t : List TestedPlace) → t ≡ [] → BegunFits S (A .scanned) t → ScanFits S (A .scanned) t
+    rest [] e m = m
+    rest (p ∷ ps) e m = absurd (omega (arith, ap length e))
+
+    busy : (k : ℕ) (t : List TestedPlace) → 1 ≤ length t → k % 2 ≡ 0 → 2 ≤ k → k < S → markCount t ≤ k → ScanFits S k t
+    busy k [] h a b c d = absurd (omega arith)
+    busy k (p ∷ ps) h a b c d = (a, b, c, d)
+
+    on : (t : List TestedPlace) → A .tested ≡ t → 1 ≤ length (A .tested) → length (nextScreens shown A) ≡ 2 → A .scanned + 2 < S → BegunFits S (A .scanned) t → ScanFits S (A .scanned + length (nextScreens shown A)) (markEach (nextScreens shown A) (A .tested))
+    on [] e h1 h2 h3 m = absurd (omega (arith, ap length e))
+    on (p ∷ ps) e h1 h2 h3 m =
+        let lw = length-mark-each (nextScreens shown A) (A .tested) in
+        let mw = mark-count-mark-each (nextScreens shown A) (A .tested) in
+        let me = ap markCount e in
+        busy (A .scanned + length (nextScreens shown A)) (markEach (nextScreens shown A) (A .tested)) (omega arith) (omega arith) (omega arith) (omega arith) (omega arith)
+
+pub collect-sound : (S : ℕ) (shown : List ℕ) (D : Desk) → 1 ≤ S → length shown ≡ S → Sound S D → Sound S (collect S shown D .after)
+collect-sound S shown D hS hl s = let o = collect-orderly S shown D hS hl (sound-orderly S D s) in record { total = o .total; real = o .real; pass = scan-collect S shown (begin D) hS hl (begun-fits S D hS s) }
+
+-- The record of a sound desk passes the test.
+pub and-true : (a b : Bool) → a ≡ true → b ≡ true → a && b ≡ true
+and-true true b p q = q
+and-true false b p q = p
+
+every-real : (xs : List ℕ) → copies 0 xs ≡ 0 → every (λ x. not (eqb x 0)) xs ≡ true
+every-real [] h = refl
+every-real (x ∷ xs) h = and-true (not (eqb x 0)) (every (λ x. not (eqb x 0)) xs) (ap not (ne-eqb x 0 nz)) (every-real xs (omega arith))
+  where
+    nz : x ≡ 0 → ⊥
+    nz q = omega (arith, rw q at h)
+
+every-zero : (n : ℕ) → every (λ x. eqb x 0) (replicate n 0) ≡ true
+every-zero zero = refl
+every-zero (suc n) = every-zero n
+
+ones-none : (n : ℕ) → ones (replicate n false) ≡ 0
+ones-none zero = refl
+ones-none (suc n) = omega (arith, ones-none n)
+
+pub ones-append : (a b : List Bool) → ones (a ++ b) ≡ ones a + ones b
+ones-append [] b = omega arith
+ones-append (x ∷ a) b = omega (arith, ones-append a b)
+
+copies-sessions : (s : ℕ) (ps : List TestedPlace) → copies s (sessionsOf ps) ≡ testedCopies s ps
+copies-sessions s [] = refl
+copies-sessions s (unmarked x ∷ ps) = omega (arith, copies-sessions s ps)
+copies-sessions s (marked x ∷ ps) = omega (arith, copies-sessions s ps)
+
+pub length-list : (D : Desk) → length (listOf D) ≡ usedPlaces D
+length-list D = omega (arith, length-append (D .ready) (sessionsOf (D .tested) ++ D .waiting), length-append (sessionsOf (D .tested)) (D .waiting), length-sessions (D .tested))
+
+pub copies-list : (s : ℕ) (D : Desk) → copies s (listOf D) ≡ copiesOn s D
+copies-list s D = omega (arith, copies-append s (D .ready) (sessionsOf (D .tested) ++ D .waiting), copies-append s (sessionsOf (D .tested)) (D .waiting), copies-sessions s (D .tested))
+
+pass-true : (S k : ℕ) (t : List TestedPlace) → ScanFits S k t → scanSound S (length t) k ≡ true
+pass-true S k [] p = eq-eqb k 0 p
+pass-true S k (q ∷ qs) p = and-true (eqb (k % 2) 0) (leb 2 k && ltb k S) (eq-eqb (k % 2) 0 (p .0)) (and-true (leb 2 k) (ltb k S) (le-leb 2 k (p .1)) (lt-ltb k S (p .2)))
+
+pass-marks : (S k : ℕ) (t : List TestedPlace) → ScanFits S k t → markCount t ≤ k
+pass-marks S k [] p = omega arith
+pass-marks S k (q ∷ qs) p = p .3
+
+pub encoded-sound : (S : ℕ) (D : Desk) → S ≤ 64 → Sound S D → recordSound S (encodeDesk S D) ≡ true
+unfolding encodeDesk recordSound
+encoded-sound S D h s =
+    and-true _ _ (le-leb (usedPlaces D) (2 * S) (s .total))
+    (and-true _ _ (ap (every (λ x. not (eqb x 0))) (take-at (listOf D) pad (usedPlaces D) (length-list D)) ∙ every-real (listOf D) (copies-list 0 D ∙ s .real))
+    (and-true _ _ (ap (every (λ x. eqb x 0)) (drop-at (listOf D) pad (usedPlaces D) (length-list D)) ∙ every-zero (2 * S - length (listOf D)))
+    (and-true _ _ (eq-eqb _ 0 (ap (λ (b : List Bool). ones (drop (length (D .tested)) b)) mk ∙ ap ones (drop-at (marksOf (D .tested)) (replicate (128 - length (D .tested)) false) (length (D .tested)) (length-marks (D .tested))) ∙ ones-none (128 - length (D .tested))))
+    (and-true _ _ (pass-true S (D .scanned) (D .tested) (s .pass))
+    (le-leb _ (D .scanned) (rw (ap ones mk) few))))))
+  where
+    pad : List ℕ
+    pad = replicate (2 * S - length (listOf D)) 0
+
+    mk : bitsOfWords (wordsOfBits 8 (marksOf (D .tested) ++ replicate (128 - length (D .tested)) false)) ≡ marksOf (D .tested) ++ replicate (128 - length (D .tested)) false
+    mk = marks-read-back (D .tested) (omega (arith, s .total))
+
+    few : ones (marksOf (D .tested) ++ replicate (128 - length (D .tested)) false) ≤ D .scanned
+    few = omega (arith, ones-append (marksOf (D .tested)) (replicate (128 - length (D .tested)) false), ones-none (128 - length (D .tested)), ones-marks (D .tested), pass-marks S (D .scanned) (D .tested) (s .pass))

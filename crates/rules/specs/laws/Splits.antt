@@ -1,0 +1,84 @@
+-- A list of calls, cut in two: the histories, the counts and the states of its parts.
+use Prim.Native.Nat.{ℕ, _+_, _≤_, zero, suc}
+use native.Mathlib.Omega.{arith}
+use mathlib.Core.Path.{_≡_, refl, ap, _∙_}
+use mathlib.Core.Bool.{cond, Bool, true, false}
+use mathlib.Core.List.{List, [], _∷_}
+use lib.ListN.{length, take, drop}
+use lib.Dec.{eqb}
+use borrow.Author.Tests.{eqb-true}
+use Rattle.rules.specs.Hall.{Hall, State}
+use Rattle.rules.specs.History.{Deed, collects, deedAt, deedsOf, drops, handsBack, howMany, lacksRoom, nothing, oneIf, own, retires, swaps, takes}
+use Rattle.rules.specs.Steps.{Call, Event, end, run, step}
+use Rattle.rules.specs.laws.Effect.{Formed, formed-step}
+use Rattle.rules.specs.laws.Links.{Range, range-step}
+
+pub run-take : (H : Hall) (i : ℕ) (cs : List Call) (st : State) → take i (run H st cs) ≡ run H st (take i cs)
+run-take H zero cs st = refl
+run-take H (suc i) [] st = refl
+run-take H (suc i) (c ∷ cs) st = ap {B = List Event} (λ r. record { call = c; answer = step H st c .answer } ∷ r) (run-take H i cs (step H st c .after))
+
+pub end-split : (H : Hall) (n k : ℕ) (cs : List Call) (st : State) → end H st (take (n + k) cs) ≡ end H (end H st (take n cs)) (take k (drop n cs))
+end-split H zero k cs st = let e : 0 + k ≡ k = omega arith in ap (λ (m : ℕ). end H st (take m cs)) e
+end-split H (suc n) k [] st = nil (suc n + k) k
+  where
+    nil : (m j : ℕ) → end H st (take m []) ≡ end H st (take j [])
+    nil zero zero = refl
+    nil zero (suc j) = refl
+    nil (suc m) zero = refl
+    nil (suc m) (suc j) = refl
+end-split H (suc n) k (c ∷ cs) st = let e : suc n + k ≡ suc (n + k) = omega arith in ap (λ (m : ℕ). end H st (take m (c ∷ cs))) e ∙ end-split H n k cs (step H st c .after)
+
+pub count-split : (test : Deed → Bool) (d : ℕ) (H : Hall) (n k : ℕ) (cs : List Call) (st : State)
+    → howMany test (deedsOf d (run H st (take (n + k) cs))) ≡ howMany test (deedsOf d (run H st (take n cs))) + howMany test (deedsOf d (run H (end H st (take n cs)) (take k (drop n cs))))
+count-split test d H zero k cs st = let e : 0 + k ≡ k = omega arith in ap (λ (m : ℕ). howMany test (deedsOf d (run H st (take m cs)))) e ∙ omega arith
+count-split test d H (suc n) k [] st = nil (suc n + k) k
+  where
+    nil : (m j : ℕ) → howMany test (deedsOf d (run H st (take m []))) ≡ 0 + howMany test (deedsOf d (run H st (take j [])))
+    nil zero zero = refl
+    nil zero (suc j) = refl
+    nil (suc m) zero = refl
+    nil (suc m) (suc j) = refl
+count-split test d H (suc n) k (c ∷ cs) st =
+    let e : suc n + k ≡ suc (n + k) = omega arith in
+    ap (λ (m : ℕ). howMany test (deedsOf d (run H st (take m (c ∷ cs))))) e ∙ omega (arith, count-split test d H n k cs (step H st c .after))
+
+-- the deeds after the first n
+pub deeds-split : (H : Hall) (n : ℕ) (cs : List Call) (st : State) (i : ℕ) → deedAt (run H st cs) (n + i) ≡ deedAt (run H (end H st (take n cs)) (drop n cs)) i
+deeds-split H zero cs st i = let e : 0 + i ≡ i = omega arith in ap (deedAt (run H st cs)) e
+deeds-split H (suc n) [] st i = refl
+deeds-split H (suc n) (c ∷ cs) st i = let e : suc n + i ≡ suc (n + i) = omega arith in ap (deedAt (run H st (c ∷ cs))) e ∙ deeds-split H n cs (step H st c .after) i
+
+-- past the end nothing is done
+pub deeds-past : (H : Hall) (cs : List Call) (st : State) (a : ℕ) → length cs ≤ a → deedAt (run H st cs) a ≡ nothing
+deeds-past H [] st a h = refl
+deeds-past H (c ∷ cs) st zero h = absurd (omega arith)
+deeds-past H (c ∷ cs) st (suc a) h = deeds-past H cs (step H st c .after) a (omega arith)
+
+-- every deed of a run is of a desk of the hall
+pub range-run : (H : Hall) (cs : List Call) (st : State) → Formed H st → (m : ℕ) → Range H (deedAt (run H st cs) m)
+range-run H [] st formed m = tt
+range-run H (c ∷ cs) st formed zero = range-step H st formed c
+range-run H (c ∷ cs) st formed (suc m) = range-run H cs (step H st c .after) (formed-step H st 1 formed (omega arith) c) m
+
+-- and so a desk that the hall does not have does nothing
+module _ (H : Hall) (d : ℕ) (outside : (1 ≤ d) × (d ≤ H .desks) → ⊥) where
+  others : (by : ℕ) (D : Deed) → 1 ≤ by → by ≤ H .desks → (b : Bool) → eqb by d ≡ b → cond b D nothing ≡ nothing
+  others by D h g true q = let same : by ≡ d = eqb-true by d q in absurd (outside (omega arith, omega arith))
+  others by D h g false q = refl
+
+  outsider : (D : Deed) → Range H D → own d D ≡ nothing
+  outsider (takes by c p v) r = others by (takes by c p v) (r .0) (r .1) (eqb by d) refl
+  outsider (drops by c) r = others by (drops by c) (r .0) (r .1) (eqb by d) refl
+  outsider (swaps by p) r = others by (swaps by p) (r .0) (r .1) (eqb by d) refl
+  outsider (retires by v) r = others by (retires by v) (r .0) (r .1) (eqb by d) refl
+  outsider (lacksRoom by) r = others by (lacksRoom by) (r .0) (r .1) (eqb by d) refl
+  outsider (collects by) r = others by (collects by) (r .0) (r .1) (eqb by d) refl
+  outsider (handsBack by v) r = others by (handsBack by v) (r .0) (r .1) (eqb by d) refl
+  outsider nothing r = refl
+
+  pub outsider-counts : (test : Deed → Bool) → test nothing ≡ false → (cs : List Call) (st : State) → Formed H st → howMany test (deedsOf d (run H st cs)) ≡ 0
+  outsider-counts test none [] st formed = refl
+  outsider-counts test none (c ∷ cs) st formed =
+      omega (arith, ap (λ (D : Deed). oneIf (test D)) (outsider (deedAt (run H st (c ∷ cs)) 0) (range-step H st formed c)), ap oneIf none,
+      outsider-counts test none cs (step H st c .after) (formed-step H st 1 formed (omega arith) c))

@@ -1,0 +1,137 @@
+-- Laws of the tally: started at zeros it equals the counts in the list of replies, and the last line prints it.
+use Prim.Native.Nat.{ℕ, zero, suc, _+_, _≤_, min}
+use native.Mathlib.Omega.{arith}
+use mathlib.Core.Path.{_≡_, refl, sym, ap, _∙_}
+use mathlib.Core.Bool.{Bool, true, false, cond, not}
+use mathlib.Core.List.{List, [], _∷_, _++_, append-assoc}
+use lib.Dec.{ltb, eqb}
+use borrow.Author.Tests.{ltb-true, ltb-false, not-true}
+use Rattle.rules.specs.Hall.{Hall}
+use Rattle.rules.specs.Steps.{Call, Take, Drop, Swap, Retire, Collect, Event}
+use Rattle.rules.specs.Table.{stepTable, runTable, openTable}
+use Rattle.rules.specs.History.{deed, lacksRoom, nothing, isHandBack, oneIf, howMany}
+use Rattle.rules.specs.Sheet.{callOf, Records, more, complete, stop, lentTable, opened, reading}
+use Rattle.rules.specs.Tally.{Tally, tallyOf, zeros, isAccepted, isRefused, isHandedBack, largestCount, oneMore}
+use Rattle.rules.specs.Tally.{oneMoreIf, counted, tallied, countsIn}
+use Rattle.rules.specs.Lines.{answerLine, refusalLine, endLine, linesFrom, linesOf, printed}
+
+-- "A refused step changes only the count of refused steps."
+refused-hands-nothing : (call : Call) (n session : ℕ) → isHandBack (deed call (suc n) session) ≡ false
+refused-hands-nothing (Take d c p) n session = refl
+refused-hands-nothing (Drop d c) n session = refl
+refused-hands-nothing (Swap d p new) n session = refl
+refused-hands-nothing (Retire d) n session = either (eqb (suc n) 14)
+  where
+    either : (full : Bool) → isHandBack (cond full (lacksRoom d) nothing) ≡ false
+    either true = refl
+    either false = refl
+refused-hands-nothing (Collect d) n session = refl
+
+pub refused-step : (tally : Tally) (event : Event) → isRefused event ≡ true
+    → counted tally event ≡ tallyOf (tally .accepted) (oneMore (tally .refused)) (tally .handedBack)
+unfolding counted
+refused-step tally event e = by-number (event .answer .number) refl
+  where
+    by-number : (n : ℕ) → event .answer .number ≡ n → counted tally event ≡ tallyOf (tally .accepted) (oneMore (tally .refused)) (tally .handedBack)
+    by-number zero q = let clash : _≡_ {A = ℕ} 0 1 = cc in absurd (omega arith)
+    by-number (suc n) q =
+        let none : isHandedBack event ≡ false = ap (λ (m : ℕ). isHandBack (deed (event .call) m (event .answer .session))) q ∙ refused-hands-nothing (event .call) n (event .answer .session) in
+        simp (not-true (isAccepted event) e, none)
+
+-- One more, up to the largest, and then the rest.
+more-up-to : (test : Bool) (count rest : ℕ)
+    → min (oneMoreIf test count + rest) largestCount ≡ min (count + (oneIf test + rest)) largestCount
+more-up-to false count rest = omega arith
+more-up-to true count rest = by-room (ltb count largestCount) refl
+  where
+    by-room : (room : Bool) → ltb count largestCount ≡ room
+        → min (cond room (count + 1) count + rest) largestCount ≡ min (count + (1 + rest)) largestCount
+    by-room true e = omega arith
+    by-room false e = omega (arith, ltb-false count largestCount e)
+
+stays-up-to : (test : Bool) (count : ℕ) → count ≤ largestCount → oneMoreIf test count ≤ largestCount
+stays-up-to false count h = h
+stays-up-to true count h = by-room (ltb count largestCount) refl
+  where
+    by-room : (room : Bool) → ltb count largestCount ≡ room → cond room (count + 1) count ≤ largestCount
+    by-room true e = omega (arith, ltb-true count largestCount e)
+    by-room false e = h
+
+-- A tally that 32 bits hold, and the same tally with the counts of a list of replies added, each up to the largest.
+pub record Fits (tally : Tally) : Type 0 where
+  pub accepted : tally .accepted ≤ largestCount
+  pub refused : tally .refused ≤ largestCount
+  pub handedBack : tally .handedBack ≤ largestCount
+
+abbrev pub withCounts : Tally → List Event → Tally
+withCounts tally events =
+    tallyOf
+    (min (tally .accepted + howMany isAccepted events) largestCount)
+    (min (tally .refused + howMany isRefused events) largestCount)
+    (min (tally .handedBack + howMany isHandedBack events) largestCount)
+
+same-tally : (first second : Tally) → first .accepted ≡ second .accepted → first .refused ≡ second .refused
+    → first .handedBack ≡ second .handedBack → first ≡ second
+same-tally first second a r h = λ i. tallyOf (a i) (r i) (h i)
+
+-- From any tally that 32 bits hold.
+pub tally-from : (tally : Tally) (events : List Event) → Fits tally → tallied tally events ≡ withCounts tally events
+unfolding counted
+tally-from tally [] fits =
+    same-tally tally (withCounts tally []) (omega (arith, fits .accepted)) (omega (arith, fits .refused)) (omega (arith, fits .handedBack))
+tally-from tally (event ∷ events) fits =
+    tally-from (counted tally event) events
+    (record {
+      accepted = stays-up-to (isAccepted event) (tally .accepted) (fits .accepted);
+      refused = stays-up-to (isRefused event) (tally .refused) (fits .refused);
+      handedBack = stays-up-to (isHandedBack event) (tally .handedBack) (fits .handedBack);
+    })
+    ∙ same-tally (withCounts (counted tally event) events) (withCounts tally (event ∷ events))
+    (more-up-to (isAccepted event) (tally .accepted) (howMany isAccepted events))
+    (more-up-to (isRefused event) (tally .refused) (howMany isRefused events))
+    (more-up-to (isHandedBack event) (tally .handedBack) (howMany isHandedBack events))
+
+-- "Started at zeros, the tally equals the counts in the list of replies, each up to that largest"
+pub tally-from-zeros : (events : List Event) → tallied zeros events ≡ countsIn events
+tally-from-zeros events =
+    tally-from zeros events (record { accepted = omega arith; refused = omega arith; handedBack = omega arith })
+    ∙ same-tally (withCounts zeros events) (countsIn events) (omega arith) (omega arith) (omega arith)
+
+-- ---- The last line prints the counts in the list of replies.
+
+-- the steps of the records that were read, and all lines but the last
+abbrev pub callsIn : Records → List Call
+callsIn complete = []
+callsIn (stop reason) = []
+callsIn (more entry rest) = callOf entry ∷ callsIn rest
+
+abbrev pub linesBeforeEnd : List ℕ → ℕ → Records → List ℕ
+linesBeforeEnd table index complete = []
+linesBeforeEnd table index (stop reason) = refusalLine index reason
+linesBeforeEnd table index (more entry rest) =
+    let done = stepTable table (callOf entry) in
+    answerLine index (entry .code) (done .answer) ++ linesBeforeEnd (done .after) (suc index) rest
+
+lines-and-end : (table : List ℕ) (index : ℕ) (tally : Tally) (records : Records)
+    → linesFrom table index tally records ≡ linesBeforeEnd table index records ++ endLine (tallied tally (runTable table (callsIn records)))
+lines-and-end table index tally complete = refl
+lines-and-end table index tally (stop reason) = refl
+lines-and-end table index tally (more entry rest) =
+    let done = stepTable table (callOf entry) in
+    let first : List ℕ = answerLine index (entry .code) (done .answer) in
+    let event : Event = record { call = callOf entry; answer = done .answer } in
+    ap (λ (lines : List ℕ). first ++ lines) (lines-and-end (done .after) (suc index) (counted tally event) rest)
+    ∙ sym (append-assoc first (linesBeforeEnd (done .after) (suc index) rest) (endLine (tallied tally (runTable table (callsIn (more entry rest))))))
+
+pub end-line-counts : (sheet : List ℕ) (hall : Hall) (records : Records) → reading sheet ≡ opened hall records
+    → printed sheet
+    ≡ answerLine 0 0 (openTable hall lentTable .answer)
+    ++ (linesBeforeEnd (openTable hall lentTable .after) 1 records
+    ++ endLine (countsIn (runTable (openTable hall lentTable .after) (callsIn records))))
+unfolding printed
+end-line-counts sheet hall records e =
+    let table : List ℕ = openTable hall lentTable .after in
+    let first : List ℕ = answerLine 0 0 (openTable hall lentTable .answer) in
+    ap linesOf e
+    ∙ ap (λ (lines : List ℕ). first ++ lines) (lines-and-end table 1 zeros records)
+    ∙ ap (λ (tally : Tally). first ++ (linesBeforeEnd table 1 records ++ endLine tally)) (tally-from-zeros (runTable table (callsIn records)))

@@ -1,0 +1,126 @@
+-- A take that is linked to a retirement is dropped, or its screen is linkedTo to that retirement.
+use Prim.Native.Nat.{ℕ, zero, suc, _+_, _-_, _≤_, _<_}
+use native.Mathlib.Omega.{arith}
+use native.Mathlib.Decide.{ℕ-discrete}
+use mathlib.Core.Path.{_≡_, refl, sym, ap, _∙_, subst}
+use mathlib.Core.Bool.{Bool, true, false, cond}
+use lib.ListN.{take, drop}
+use lib.Dec.{eqb}
+use borrow.Author.Tests.{eqb-true, eqb-false, eq-eqb, ne-eqb}
+use Rattle.rules.specs.Hall.{Hall, screenIndex}
+use Rattle.rules.specs.History.{Deed, DroppedBefore, NextDrop, NextRetire, NextSwap, collects, drops, handsBack, lacksRoom, nothing, retires, swaps, takes}
+use Rattle.rules.specs.laws.Links.{Link, Range, beforeRetire, beforeSwap, link, linkedTo, next, unlinked}
+use Rattle.rules.specs.laws.ScreenIndex.{screen-same}
+
+-- How far a take at position p has come, with its swap, by desk e, at place j and its retirement at place r.
+data Stage (H : Hall) (f : ℕ → Deed) (x p e j r n : ℕ) : Type 0 where
+  first : n ≤ j → link H f x n ≡ beforeSwap p → Stage H f x p e j r n
+  second : j < n → n ≤ r → link H f x n ≡ beforeRetire e → Stage H f x p e j r n
+  third : r < n → link H f x n ≡ linkedTo r → Stage H f x p e j r n
+
+data Track (H : Hall) (f : ℕ → Deed) (i d c p e j r n : ℕ) : Type 0 where
+  gone : (q : ℕ) → NextDrop f i d c q → q < n → Track H f i d c p e j r n
+  on : ((m : ℕ) → i < m → m < n → f m ≡ drops d c → ⊥) → Stage H f (screenIndex H d c) p e j r n → Track H f i d c p e j r n
+
+module _ (H : Hall) (f : ℕ → Deed) (sane : (m : ℕ) → Range H (f m)) (i d c p v e j s r : ℕ) (tk : f i ≡ takes d c p v) (sw : NextSwap f i p e j) (re : NextRetire f j e s r) where
+  after : (n : ℕ) (D : Deed) (l l′ : Link) → f n ≡ D → link H f (screenIndex H d c) n ≡ l → next H (screenIndex H d c) n D l ≡ l′ → link H f (screenIndex H d c) (suc n) ≡ l′
+  after n D l l′ q a b = rw (q, a) b
+
+  -- the deed at n is neither the swap nor the retirement
+  plain : (n : ℕ) (D : Deed) → f n ≡ D → (swaps e p ≡ D → ⊥) → (retires e s ≡ D → ⊥) → ((l : Link) → (l ≡ unlinked → ⊥) → next H (screenIndex H d c) n D l ≡ l) → Stage H f (screenIndex H d c) p e j r n → Stage H f (screenIndex H d c) p e j r (suc n)
+  plain n D q nj nr same (first a l) = let z : n ≡ j → ⊥ = (λ t. nj (sym (sw .here) ∙ ap f (sym t) ∙ q)) in first (omega arith) (after n D (beforeSwap p) (beforeSwap p) q l (same (beforeSwap p) (λ t. let o : _≡_ {A = ℕ} 0 1 = cc in omega arith)))
+  plain n D q nj nr same (second a b l) = let z : n ≡ r → ⊥ = (λ t. nr (sym (re .here) ∙ ap f (sym t) ∙ q)) in second (omega arith) (omega arith) (after n D (beforeRetire e) (beforeRetire e) q l (same (beforeRetire e) (λ t. let o : _≡_ {A = ℕ} 0 1 = cc in omega arith)))
+  plain n D q nj nr same (third a l) = third (omega arith) (after n D (linkedTo r) (linkedTo r) q l (same (linkedTo r) (λ t. let o : _≡_ {A = ℕ} 0 1 = cc in omega arith)))
+
+  keep-take : (n a b w x : ℕ) (l : Link) → (l ≡ unlinked → ⊥) → next H (screenIndex H d c) n (takes a b w x) l ≡ l
+  keep-take n a b w x unlinked z = absurd (z refl)
+  keep-take n a b w x (beforeSwap q) z = refl
+  keep-take n a b w x (beforeRetire q) z = refl
+  keep-take n a b w x (linkedTo q) z = refl
+
+  on-swap : (n x w : ℕ) → i < n → f n ≡ swaps x w → Stage H f (screenIndex H d c) p e j r n → Stage H f (screenIndex H d c) p e j r (suc n)
+  on-swap n x w hi q (first a l) = go (ℕ-discrete w p)
+    where
+      go : Dec (w ≡ p) → Stage H f (screenIndex H d c) p e j r (suc n)
+      go (yes t) =
+          let nj : n ≡ j = at (ℕ-discrete n j) in
+          let sx : swaps x w ≡ swaps e p = sym q ∙ ap f nj ∙ sw .here in
+          let xe : x ≡ e = cc in
+          second (omega arith) (omega (arith, re .later)) (after n (swaps x w) (beforeSwap p) (beforeRetire e) q l (rw (eq-eqb w p t, xe)))
+        where
+          at : Dec (n ≡ j) → n ≡ j
+          at (yes u) = u
+          at (no u) = absurd (sw .first n x hi (omega arith) (q ∙ ap (swaps x) t))
+      go (no t) =
+          let z : n ≡ j → ⊥ = (λ u. let k : swaps x w ≡ swaps e p = sym q ∙ ap f u ∙ sw .here in t (cc)) in
+          first (omega arith) (after n (swaps x w) (beforeSwap p) (beforeSwap p) q l (rw (ne-eqb w p t)))
+  on-swap n x w hi q (second a b l) =
+      let z : n ≡ r → ⊥ = (λ t. let k : swaps x w ≡ retires e s = sym q ∙ ap f t ∙ re .here in let o : _≡_ {A = ℕ} 0 1 = cc in omega arith) in
+      second (omega arith) (omega arith) (after n (swaps x w) (beforeRetire e) (beforeRetire e) q l refl)
+  on-swap n x w hi q (third a l) = third (omega arith) (after n (swaps x w) (linkedTo r) (linkedTo r) q l refl)
+
+  on-retire : (n x v : ℕ) → i < n → f n ≡ retires x v → Stage H f (screenIndex H d c) p e j r n → Stage H f (screenIndex H d c) p e j r (suc n)
+  on-retire n x v hi q (first a l) =
+      let z : n ≡ j → ⊥ = (λ t. let k : retires x v ≡ swaps e p = sym q ∙ ap f t ∙ sw .here in let o : _≡_ {A = ℕ} 0 1 = cc in omega arith) in
+      first (omega arith) (after n (retires x v) (beforeSwap p) (beforeSwap p) q l refl)
+  on-retire n x v hi q (second a b l) = go (ℕ-discrete x e)
+    where
+      go : Dec (x ≡ e) → Stage H f (screenIndex H d c) p e j r (suc n)
+      go (yes t) =
+          let nr : n ≡ r = at (ℕ-discrete n r) in
+          third (omega arith) (after n (retires x v) (beforeRetire e) (linkedTo r) q l (rw (eq-eqb x e t) (ap linkedTo nr)))
+        where
+          at : Dec (n ≡ r) → n ≡ r
+          at (yes u) = u
+          at (no u) = absurd (re .first n v a (omega arith) (q ∙ ap (λ (m : ℕ). retires m v) t))
+      go (no t) =
+          let z : n ≡ r → ⊥ = (λ u. let k : retires x v ≡ retires e s = sym q ∙ ap f u ∙ re .here in t (cc)) in
+          second (omega arith) (omega arith) (after n (retires x v) (beforeRetire e) (beforeRetire e) q l (rw (ne-eqb x e t)))
+  on-retire n x v hi q (third a l) = third (omega arith) (after n (retires x v) (linkedTo r) (linkedTo r) q l refl)
+
+  more : (n : ℕ) → (f n ≡ drops d c → ⊥) → ((m : ℕ) → i < m → m < n → f m ≡ drops d c → ⊥) → (m : ℕ) → i < m → m < suc n → f m ≡ drops d c → ⊥
+  more n z h m a b q = go (ℕ-discrete m n)
+    where
+      go : Dec (m ≡ n) → ⊥
+      go (yes t) = z (ap f (sym t) ∙ q)
+      go (no t) = h m a (omega arith) q
+
+  step : (n : ℕ) → i < n → Track H f i d c p e j r n → Track H f i d c p e j r (suc n)
+  step n hi (gone q nd l) = gone q nd (omega arith)
+  step n hi (on undropped st) = go (f n) refl
+    where
+      go : (D : Deed) → f n ≡ D → Track H f i d c p e j r (suc n)
+      go (takes a b w x) q = on (more n (λ t. let k : takes a b w x ≡ drops d c = sym q ∙ t in let o : _≡_ {A = ℕ} 0 1 = cc in omega arith) undropped) (plain n (takes a b w x) q (λ t. let o : _≡_ {A = ℕ} 0 1 = cc in omega arith) (λ t. let o : _≡_ {A = ℕ} 0 1 = cc in omega arith) (keep-take n a b w x) st)
+      go (drops a b) q = at (eqb (screenIndex H a b) (screenIndex H d c)) refl
+        where
+          at : (y : Bool) → eqb (screenIndex H a b) (screenIndex H d c) ≡ y → Track H f i d c p e j r (suc n)
+          at true t =
+              let k = screen-same H a b d c (subst (Range H) q (sane n)) (subst (Range H) tk (sane i)) (eqb-true (screenIndex H a b) (screenIndex H d c) t) in
+              gone n (record { later = hi; here = q ∙ (λ z. drops (k .0 z) (k .1 z)); first = undropped }) (omega arith)
+          at false t =
+              let ne = eqb-false (screenIndex H a b) (screenIndex H d c) t in
+              on (more n (λ u. let k : drops a b ≡ drops d c = sym q ∙ u in ne (let ad : a ≡ d = cc in let bc : b ≡ c = cc in (λ z. screenIndex H (ad z) (bc z)))) undropped)
+              (plain n (drops a b) q (λ u. let o : _≡_ {A = ℕ} 0 1 = cc in omega arith) (λ u. let o : _≡_ {A = ℕ} 0 1 = cc in omega arith) (λ l z. ap (λ (y : Bool). cond y unlinked l) t) st)
+      go (swaps a b) q = on (more n (λ t. let k : swaps a b ≡ drops d c = sym q ∙ t in let o : _≡_ {A = ℕ} 0 1 = cc in omega arith) undropped) (on-swap n a b hi q st)
+      go (retires a b) q = on (more n (λ t. let k : retires a b ≡ drops d c = sym q ∙ t in let o : _≡_ {A = ℕ} 0 1 = cc in omega arith) undropped) (on-retire n a b hi q st)
+      go (lacksRoom a) q = on (more n (λ t. let k : lacksRoom a ≡ drops d c = sym q ∙ t in let o : _≡_ {A = ℕ} 0 1 = cc in omega arith) undropped) (plain n (lacksRoom a) q (λ t. let o : _≡_ {A = ℕ} 0 1 = cc in omega arith) (λ t. let o : _≡_ {A = ℕ} 0 1 = cc in omega arith) (λ l z. refl) st)
+      go (collects a) q = on (more n (λ t. let k : collects a ≡ drops d c = sym q ∙ t in let o : _≡_ {A = ℕ} 0 1 = cc in omega arith) undropped) (plain n (collects a) q (λ t. let o : _≡_ {A = ℕ} 0 1 = cc in omega arith) (λ t. let o : _≡_ {A = ℕ} 0 1 = cc in omega arith) (λ l z. refl) st)
+      go (handsBack a b) q = on (more n (λ t. let k : handsBack a b ≡ drops d c = sym q ∙ t in let o : _≡_ {A = ℕ} 0 1 = cc in omega arith) undropped) (plain n (handsBack a b) q (λ t. let o : _≡_ {A = ℕ} 0 1 = cc in omega arith) (λ t. let o : _≡_ {A = ℕ} 0 1 = cc in omega arith) (λ l z. refl) st)
+      go nothing q = on (more n (λ t. let k : nothing ≡ drops d c = sym q ∙ t in let o : _≡_ {A = ℕ} 0 1 = cc in omega arith) undropped) (plain n nothing q (λ t. let o : _≡_ {A = ℕ} 0 1 = cc in omega arith) (λ t. let o : _≡_ {A = ℕ} 0 1 = cc in omega arith) (λ l z. refl) st)
+
+  track : link H f (screenIndex H d c) i ≡ unlinked → (m : ℕ) → Track H f i d c p e j r (suc m + i)
+  track calm zero = subst (λ (n : ℕ). Track H f i d c p e j r n) (omega arith) start
+    where
+      start : Track H f i d c p e j r (suc i)
+      start = on (λ m a b q. absurd (omega arith)) (first (omega (arith, sw .later)) (after i (takes d c p v) unlinked (beforeSwap p) tk calm (rw (eq-eqb (screenIndex H d c) (screenIndex H d c) refl))))
+  track calm (suc m) = subst (λ (n : ℕ). Track H f i d c p e j r n) (omega arith) (step (suc m + i) (omega arith) (track calm m))
+
+  -- the tie
+  pub linked-tied : link H f (screenIndex H d c) i ≡ unlinked → (n : ℕ) → r < n → (link H f (screenIndex H d c) n ≡ linkedTo r → ⊥) → DroppedBefore f i n
+  linked-tied calm n h nt = go (subst (λ (m : ℕ). Track H f i d c p e j r m) (omega (arith, sw .later, re .later)) (track calm (n - suc i)))
+    where
+      go : Track H f i d c p e j r n → DroppedBefore f i n
+      go (gone q nd l) = record { desk = d; screen = c; position = p; shown = v; take = tk; dropAt = q; drop = nd; before = l }
+      go (on undropped (first a l)) = absurd (omega (arith, sw .later, re .later))
+      go (on undropped (second a b l)) = absurd (omega arith)
+      go (on undropped (third a l)) = absurd (nt l)
