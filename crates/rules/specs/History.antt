@@ -52,6 +52,12 @@ deedAt [] place = nothing
 deedAt (event ∷ history) zero = deed (event .call) (event .answer .number) (event .answer .session)
 deedAt (event ∷ history) (suc place) = deedAt history place
 
+-- The reply number at a place.
+abbrev pub numberAt : List Event → ℕ → ℕ
+numberAt [] place = 0
+numberAt (event ∷ history) zero = event .answer .number
+numberAt (event ∷ history) (suc place) = numberAt history place
+
 -- ---- Counts, desk by desk.
 
 -- the deed, if it is desk d's, and else nothing

@@ -7,5 +7,7 @@ pub mod Tally
 pub mod Lines
 pub mod History
 pub mod Demands
+pub mod Theorems
+pub mod Cases
 pub mod SheetCases
 pub mod laws

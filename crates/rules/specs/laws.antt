@@ -26,3 +26,5 @@ pub mod TableSteps
 pub mod SoundTables
 pub mod Sheet
 pub mod Tally
+pub mod TableHistories
+pub mod Demand1

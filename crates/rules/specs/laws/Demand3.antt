@@ -33,6 +33,11 @@ module _ (H : Hall) (some : 1 ≤ allScreens H) (cs : List Call) where
   list-bound d hd = omega (arith, on-list d hd, sound-run H d some hd cs (fresh H) (fresh-formed H) (fresh-sound H d) .total)
 
 -- ---- Back in time.
+
+-- three collects for each screen are more than enough
+pub three-is-enough : (S : ℕ) → 1 ≤ S → exactBound S ≤ 3 * S
+three-is-enough S some = omega arith
+
 module _ (H : Hall) (some : 1 ≤ allScreens H) (cs : List Call) (B : ℕ) (enough : exactBound (allScreens H) ≤ B) where
   -- the retire is the last of the first n calls; k more calls hold the collects
   back-from : (d s n k : ℕ) → 1 ≤ d → (s ≡ 0 → ⊥) → n ≤ length cs

@@ -7,7 +7,7 @@ use mathlib.Core.List.{List}
 use lib.ListN.{length, getD, set, length-set}
 use lib.Seq.{getD-set-same, getD-set-other}
 use lib.Dec.{leb, ltb, eqb}
-use borrow.Author.Tests.{eqb-true, eqb-false, ltb-true, ltb-false, leb-true, not-true}
+use borrow.Author.Tests.{eqb-true, eqb-false, ltb-true, ltb-false, leb-true, not-true, le-leb}
 use Rattle.rules.specs.Hall.{Desk, Hall, State, allScreens, deskOf, emptyDesk, screenIndex, usedPlaces}
 use Rattle.rules.specs.History.{Deed, collects, deed, drops, handsBack, lacksRoom, nothing, own, retires, swaps, takes}
 use Rattle.rules.specs.Steps.{Call, Collect, Drop, Retire, Swap, Take, collect, decide, firstNo, inRange, owe, perform, questions, retire, step}
@@ -55,6 +55,13 @@ in-range n m h = go (leb 1 n) (leb n m) refl refl h
     go true true p q e = (leb-true 1 n p, leb-true n m q)
     go true false p q e = let z : _≡_ {A = ℕ} 0 1 = cc in absurd (omega arith)
     go false b p q e = let z : _≡_ {A = ℕ} 0 1 = cc in absurd (omega arith)
+
+pub out-of-range : (n m : ℕ) → inRange n m ≡ false → (1 ≤ n) × (n ≤ m) → ⊥
+out-of-range n m e r = let t : inRange n m ≡ true = and-yes (leb 1 n) (leb n m) (le-leb 1 n (r .0)) (le-leb n m (r .1)) in let z : _≡_ {A = ℕ} 0 1 = cc in omega arith
+  where
+    and-yes : (a b : Bool) → a ≡ true → b ≡ true → a && b ≡ true
+    and-yes true b p q = q
+    and-yes false b p q = p
 
 yes1 : (a : Bool) (n : ℕ) → cond a 0 (suc n) ≡ 0 → a ≡ true
 yes1 true n e = refl

@@ -1,5 +1,5 @@
 -- What each screen's present take is linked to. It is kept beside the state, in the proofs only.
-use Prim.Native.Nat.{ℕ, zero, suc, _-_, _≤_, _<_}
+use Prim.Native.Nat.{ℕ, zero, suc, _-_, _≤_, _<_, _*_}
 use native.Mathlib.Omega.{arith}
 use native.Mathlib.Decide.{ℕ-discrete}
 use mathlib.Core.Path.{_≡_, refl, sym, ap, _∙_}
@@ -7,9 +7,9 @@ use mathlib.Core.Bool.{Bool, true, false, cond, not}
 use mathlib.Core.List.{List, [], _∷_}
 use lib.ListN.{length, getD, take, drop, set}
 use lib.Seq.{getD-set-same, getD-set-other}
-use lib.Dec.{eqb}
-use borrow.Author.Tests.{eqb-true, eqb-false, not-true}
-use Rattle.rules.specs.Hall.{Desk, Hall, State, TestedPlace, allScreens, deskOf, emptyDesk, screenIndex}
+use lib.Dec.{eqb, ltb}
+use borrow.Author.Tests.{eqb-true, eqb-false, not-true, ltb-true}
+use Rattle.rules.specs.Hall.{Desk, Hall, State, TestedPlace, allScreens, deskOf, emptyDesk, screenIndex, usedPlaces}
 use Rattle.rules.specs.History.{Deed, collects, deed, drops, handsBack, lacksRoom, nothing, retires, swaps, takes}
 use Rattle.rules.specs.Steps.{Call, Collect, Drop, Retire, Swap, Take, begin, beginAt, collect, decide, firstNo, inRange, owe, perform, questions, retire, retireQuestions, scan, scanAt, settleIf, step}
 use Rattle.rules.specs.laws.Effect.{Formed, in-range}
@@ -197,6 +197,12 @@ module _ (H : Hall) (st : State) (formed : Formed H st) where
       let y2 = holds (not (eqb (deskOf st d .owed) 0)) _ 12 (y1 .1) in
       let a = in-range d (H .desks) (y1 .0) in
       (a .0, a .1, eqb-false _ 0 (not-true _ (y2 .0)))
+
+  pub retire-room-fact : (d : ℕ) → firstNo (questions H st (Retire d)) ≡ 0 → usedPlaces (deskOf st d) < 2 * allScreens H
+  retire-room-fact d e =
+      let y1 = holds (inRange d (H .desks)) _ 5 e in
+      let y2 = holds (not (eqb (deskOf st d .owed) 0)) _ 12 (y1 .1) in
+      ltb-true (usedPlaces (deskOf st d)) (2 * allScreens H) (holds (ltb (usedPlaces (deskOf st d)) (2 * allScreens H)) _ 13 (y2 .1) .0)
 
   -- the desk of a retire or a collect
   pub desk-fact : (d m : ℕ) → cond {A = ℕ} (inRange d (H .desks)) m 6 ≡ 0 → (1 ≤ d) × (d ≤ H .desks)

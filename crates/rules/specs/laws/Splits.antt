@@ -1,17 +1,18 @@
 -- A list of calls, cut in two: the histories, the counts and the states of its parts.
 use Prim.Native.Nat.{ℕ, _+_, _≤_, zero, suc}
 use native.Mathlib.Omega.{arith}
-use mathlib.Core.Path.{_≡_, refl, ap, _∙_}
+use mathlib.Core.Path.{_≡_, refl, ap, _∙_, sym}
 use mathlib.Core.Bool.{cond, Bool, true, false}
 use mathlib.Core.List.{List, [], _∷_}
 use lib.ListN.{length, take, drop}
 use lib.Dec.{eqb}
-use borrow.Author.Tests.{eqb-true}
+use borrow.Author.Tests.{eqb-true, ne-eqb}
 use Rattle.rules.specs.Hall.{Hall, State}
-use Rattle.rules.specs.History.{Deed, collects, deedAt, deedsOf, drops, handsBack, howMany, lacksRoom, nothing, oneIf, own, retires, swaps, takes}
+use Rattle.rules.specs.History.{Deed, collects, deedAt, deedsOf, drops, handBacksOf, handsBack, howMany, isHandBackOf, isRetirementOf, lacksRoom, nothing, oneIf, own, retirementsOf, retires, swaps, takes}
 use Rattle.rules.specs.Steps.{Call, Event, end, run, step}
 use Rattle.rules.specs.laws.Effect.{Formed, formed-step}
 use Rattle.rules.specs.laws.Links.{Range, range-step}
+use Rattle.rules.specs.laws.OwnDeeds.{Own, othersDeed, own-cases, ownDeed}
 
 pub run-take : (H : Hall) (i : ℕ) (cs : List Call) (st : State) → take i (run H st cs) ≡ run H st (take i cs)
 run-take H zero cs st = refl
@@ -82,3 +83,28 @@ module _ (H : Hall) (d : ℕ) (outside : (1 ≤ d) × (d ≤ H .desks) → ⊥) 
   outsider-counts test none (c ∷ cs) st formed =
       omega (arith, ap (λ (D : Deed). oneIf (test D)) (outsider (deedAt (run H st (c ∷ cs)) 0) (range-step H st formed c)), ap oneIf none,
       outsider-counts test none cs (step H st c .after) (formed-step H st 1 formed (omega arith) c))
+
+-- Session 0 is neither retired nor handed back.
+range-not-zero : (H : Hall) (d : ℕ) (D : Deed) → Range H D → (isRetirementOf 0 (own d D) ≡ false) × (isHandBackOf 0 (own d D) ≡ false)
+range-not-zero H d D r = go (own-cases d D)
+  where
+    plain : (E : Deed) → Range H E → (isRetirementOf 0 E ≡ false) × (isHandBackOf 0 E ≡ false)
+    plain (takes by c p v) r = (refl, refl)
+    plain (drops by c) r = (refl, refl)
+    plain (swaps by p) r = (refl, refl)
+    plain (retires by v) r = (ne-eqb 0 v (λ z. r .2 (sym z)), refl)
+    plain (lacksRoom by) r = (refl, refl)
+    plain (collects by) r = (refl, refl)
+    plain (handsBack by v) r = (refl, ne-eqb 0 v (λ z. r .2 (sym z)))
+    plain nothing r = (refl, refl)
+
+    go : Own d D → (isRetirementOf 0 (own d D) ≡ false) × (isHandBackOf 0 (own d D) ≡ false)
+    go (othersDeed e) = (ap (isRetirementOf 0) e, ap (isHandBackOf 0) e)
+    go (ownDeed e) = (ap (isRetirementOf 0) e ∙ plain D r .0, ap (isHandBackOf 0) e ∙ plain D r .1)
+
+pub no-session-zero : (H : Hall) (cs : List Call) (st : State) → Formed H st → (d : ℕ) → (retirementsOf d 0 (run H st cs) ≡ 0) × (handBacksOf d 0 (run H st cs) ≡ 0)
+no-session-zero H [] st formed d = (refl, refl)
+no-session-zero H (c ∷ cs) st formed d =
+    let n = range-not-zero H d (deedAt (run H st (c ∷ cs)) 0) (range-step H st formed c) in
+    let ih = no-session-zero H cs (step H st c .after) (formed-step H st 1 formed (omega arith) c) d in
+    (omega (arith, ap oneIf (n .0), ih .0), omega (arith, ap oneIf (n .1), ih .1))

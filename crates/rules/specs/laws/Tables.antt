@@ -52,13 +52,13 @@ clear-sound : (S : ℕ) → Sound S emptyDesk
 clear-sound S = record { total = omega arith; real = refl; pass = refl }
 
 module _ (H : Hall) (opens : Opens H) where
-  some : 1 ≤ allScreens H
-  some = mul-pos (opens .desks .0) (opens .screens .0)
+  pub some-screens : 1 ≤ allScreens H
+  some-screens = mul-pos (opens .desks .0) (opens .screens .0)
 
   most : allScreens H ≤ 64
   most = mul-le-mul (opens .desks .1) (opens .screens .1)
 
-  valid-step : (st : State) (c : Call) → Valid H st → Valid H (step H st c .after)
+  pub valid-step : (st : State) (c : Call) → Valid H st → Valid H (step H st c .after)
   valid-step st c v = record { formed = formed-step H st 1 (v .formed) (omega arith) c; held = lh (firstNo (questions H st c)) c; desks = go (firstNo (questions H st c)) c refl }
     where
       P : Desk → Type 0
@@ -82,10 +82,10 @@ module _ (H : Hall) (opens : Opens H) where
       go zero (Retire x) e =
           let y = yes3 (inRange x (H .desks)) (not (eqb (deskOf st x .owed) 0)) (ltb (usedPlaces (deskOf st x)) (2 * allScreens H)) e in
           all-set (Sound (allScreens H)) (st .desks) (x - 1) (retire (deskOf st x)) (retire-sound (allScreens H) (deskOf st x) (eqb-false (deskOf st x .owed) 0 (not-true (eqb (deskOf st x .owed) 0) (y .1))) (ltb-true (usedPlaces (deskOf st x)) (2 * allScreens H) (y .2)) (at x)) (v .desks)
-      go zero (Collect x) e = all-set (Sound (allScreens H)) (st .desks) (x - 1) (collect (allScreens H) (st .shown) (deskOf st x) .after) (collect-sound (allScreens H) (st .shown) (deskOf st x) some (v .formed .screens) (at x)) (v .desks)
+      go zero (Collect x) e = all-set (Sound (allScreens H)) (st .desks) (x - 1) (collect (allScreens H) (st .shown) (deskOf st x) .after) (collect-sound (allScreens H) (st .shown) (deskOf st x) some-screens (v .formed .screens) (at x)) (v .desks)
       go (suc n) c e = v .desks
 
-  length-encoded : (D : Desk) → Sound (allScreens H) D → length (encodeDesk (allScreens H) D) ≡ recordWidth H
+  pub length-encoded : (D : Desk) → Sound (allScreens H) D → length (encodeDesk (allScreens H) D) ≡ recordWidth H
   unfolding encodeDesk
   length-encoded D s = omega (arith, s .total, length-list D, length-append (listOf D) (replicate (2 * allScreens H - length (listOf D)) 0), length-replicate {A = ℕ} (2 * allScreens H - length (listOf D)) 0)
 
@@ -149,7 +149,7 @@ module _ (H : Hall) (opens : Opens H) where
     pub is-state : decode H (encode H st ++ rest) ≡ st
     is-state = λ i. record { held = is-held i; shown = (ap (take (allScreens H)) past-held ∙ take-at (st .shown) (joined (map (encodeDesk (allScreens H)) (st .desks)) ++ rest) (allScreens H) (v .formed .screens)) i; desks = (ap (map decodeDesk) is-records ∙ desks-code (st .desks) (v .desks)) i }
 
-    length-table : length (encode H st) ≡ need H
+    pub length-table : length (encode H st) ≡ need H
     length-table = omega (arith, length-append (st .held) (st .shown ++ joined (map (encodeDesk (allScreens H)) (st .desks))), length-append (st .shown) (joined (map (encodeDesk (allScreens H)) (st .desks))), length-flat (st .desks) (v .desks), v .held, v .formed .screens, ap (λ (n : ℕ). n * recordWidth H) (v .formed .desks))
 
     range-true : (n m : ℕ) → 1 ≤ n → n ≤ m → inRange n m ≡ true
@@ -188,14 +188,20 @@ module _ (H : Hall) (opens : Opens H) where
         ∙ sym (as-record (st .held) (st .shown) (c .front) (encodeDesk (allScreens H) x) (c .back) (joined (map (encodeDesk (allScreens H)) (set (st .desks) (d - 1) x))) (c .put x))
 
     -- one record read
-    got-is : (d : ℕ) → Cut (st .desks) (d - 1) → decodeDesk (recordOf H (encode H st ++ rest) d) ≡ deskOf st d
-    got-is d c =
+    record-is : (d : ℕ) → Cut (st .desks) (d - 1) → recordOf H (encode H st ++ rest) d ≡ encodeDesk (allScreens H) (deskOf st d)
+    record-is d c =
         let a : List ℕ = H .desks ∷ H .screens ∷ H .positions ∷ (st .held ++ (st .shown ++ c .front)) in
         let n : length a ≡ recordStart H d = omega (arith, length-append (st .held) (st .shown ++ c .front), length-append (st .shown) (c .front), v .held, v .formed .screens, c .starts) in
         let q = as-record (st .held) (st .shown) (c .front) (encodeDesk (allScreens H) (deskOf st d)) (c .back) (joined (map (encodeDesk (allScreens H)) (st .desks))) (c .is) in
-        ap (λ (t : List ℕ). decodeDesk (recordOf H t d)) q
-        ∙ ap decodeDesk (take-mid a (encodeDesk (allScreens H) (deskOf st d)) (c .back ++ rest) (recordStart H d) n (recordWidth H) (c .wide))
-        ∙ desk-read-back (allScreens H) (deskOf st d) (omega (arith, c .total, most))
+        ap (λ (t : List ℕ). recordOf H t d) q
+        ∙ take-mid a (encodeDesk (allScreens H) (deskOf st d)) (c .back ++ rest) (recordStart H d) n (recordWidth H) (c .wide)
+
+    got-is : (d : ℕ) → Cut (st .desks) (d - 1) → decodeDesk (recordOf H (encode H st ++ rest) d) ≡ deskOf st d
+    got-is d c = ap decodeDesk (record-is d c) ∙ desk-read-back (allScreens H) (deskOf st d) (omega (arith, c .total, most))
+
+    -- the record of a desk of the hall
+    pub desk-record : (d : ℕ) → 1 ≤ d → d ≤ H .desks → recordOf H (encode H st ++ rest) d ≡ encodeDesk (allScreens H) (deskOf st d)
+    desk-record d h h′ = record-is d (cut (st .desks) (d - 1) (v .desks) (omega (arith, v .formed .desks)))
 
     -- a position read, and written; a screen written
     held-is : (p : ℕ) → 1 ≤ p → p ≤ H .positions → getD (encode H st ++ rest) (positionWord p) 0 ≡ getD (st .held) (p - 1) 0

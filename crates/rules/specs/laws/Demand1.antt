@@ -1,0 +1,356 @@
+-- Demand 1 of one call on a table: a refused call writes nothing, an accepted one only the words that its step names,
+-- and a sound table stays sound.
+use Prim.Native.Nat.{ℕ, _+_, _-_, _≤_, zero, suc, _*_, _<_}
+use native.Mathlib.Omega.{arith}
+use native.Mathlib.Nat.{mul-le-mul-right}
+use native.Mathlib.Decide.{decLt}
+use mathlib.Core.Path.{_≡_, refl, sym, ap, _∙_, subst}
+use mathlib.Core.Bool.{cond, Bool, true, false, not, _&&_}
+use mathlib.Core.List.{List, [], _∷_, _++_, append-assoc}
+use lib.ListN.{length, take, getD, drop, set, length-append, replicate, length-replicate, length-drop, length-set, List·getD-append}
+use lib.Seq.{getD-set-same, getD-set-other, length-take-le, getD-append-add, getD-drop, getD-take}
+use lib.Dec.{eqb, ltb}
+use borrow.Author.Tests.{eqb-true, eqb-false, lt-ltb, ltb-false}
+use Rattle.rules.specs.Demands.{Demand1, OpeningDemand1, names, or, refusals}
+use Rattle.rules.specs.Hall.{Desk, Hall, State, allScreens, deskOf, usedPlaces}
+use Rattle.rules.specs.History.{copies, numberAt}
+use Rattle.rules.specs.Steps.{Call, Collect, Done, Drop, Question, Retire, Swap, Take, collect, decide, firstNo, isSession, perform, questions, retire}
+use Rattle.rules.specs.Table.{TableDone, decode, decodeDesk, encode, encodeDesk, endTable, hallIn, listOf, listPlace, markWords, marksOf, need, openQuestions, openTable, openedTable, positionWord, putRecord, recordOf, recordSound, recordStart, recordWidth, runTable, screenWord, sessionsOf, sound, stepTable, usedIn, waitingPlace, wordsOfBits, written}
+use Rattle.rules.specs.laws.Decoding.{recode-any, small-drop, small-take}
+use Rattle.rules.specs.laws.Links.{desk-fact, owed-collect, retire-facts, retire-room-fact, swap-facts}
+use Rattle.rules.specs.laws.Lists.{matches, matches-same}
+use Rattle.rules.specs.laws.Parts.{get-mid}
+use Rattle.rules.specs.laws.Sound.{Sound, collect-sound, length-list, retire-sound}
+use Rattle.rules.specs.laws.SoundTables.{desk-sound, encoded, valid}
+use Rattle.rules.specs.laws.TableHistories.{hall-opens}
+use Rattle.rules.specs.laws.TableSteps.{Known, accepted-open, accepted-step, asked, desk-word, known, owed-word, record-sound, refused-open, refused-step, unsound-step}
+use Rattle.rules.specs.laws.Tables.{Opens, Valid, is-sound, length-encoded, length-table, some-screens, sound-table, valid-step}
+
+-- ---- A refusal's number is one of the questions'.
+numbersOf : List Question → List ℕ
+numbersOf [] = []
+numbersOf (q ∷ qs) = q .number ∷ numbersOf qs
+
+first-no-among : (qs : List Question) (n : ℕ) → firstNo qs ≡ suc n → 1 ≤ copies (suc n) (numbersOf qs)
+unfolding numbersOf
+first-no-among [] n e = absurd (omega arith)
+first-no-among (q ∷ qs) n e = go (q .yes?) refl e (first-no-among qs n)
+  where
+    go : (b : Bool) → q .yes? ≡ b → cond b (firstNo qs) (q .number) ≡ suc n → (firstNo qs ≡ suc n → 1 ≤ copies (suc n) (numbersOf qs)) → 1 ≤ matches (suc n) (q .number) + copies (suc n) (numbersOf qs)
+    go true y e ih = omega (arith, ih e)
+    go false y e ih = omega (arith, ap (matches (suc n)) e, matches-same (suc n))
+
+step-refusal : (H : Hall) (st : State) (c : Call) (n : ℕ) → firstNo (questions H st c) ≡ suc n → 1 ≤ copies (suc n) (refusals c)
+unfolding numbersOf
+step-refusal H st (Take d c p) n e = omega (arith, first-no-among (questions H st (Take d c p)) n e)
+step-refusal H st (Drop d c) n e = omega (arith, first-no-among (questions H st (Drop d c)) n e)
+step-refusal H st (Swap d p v) n e = omega (arith, first-no-among (questions H st (Swap d p v)) n e)
+step-refusal H st (Retire d) n e = omega (arith, first-no-among (questions H st (Retire d)) n e)
+step-refusal H st (Collect d) n e = omega (arith, first-no-among (questions H st (Collect d)) n e)
+
+-- and 5 is none of them
+not-five : (H : Hall) (st : State) (c : Call) → firstNo (questions H st c) ≡ 5 → ⊥
+unfolding numbersOf
+not-five H st (Take d c p) e = omega (arith, first-no-among (questions H st (Take d c p)) 4 e)
+not-five H st (Drop d c) e = omega (arith, first-no-among (questions H st (Drop d c)) 4 e)
+not-five H st (Swap d p v) e = omega (arith, first-no-among (questions H st (Swap d p v)) 4 e)
+not-five H st (Retire d) e = omega (arith, first-no-among (questions H st (Retire d)) 4 e)
+not-five H st (Collect d) e = omega (arith, first-no-among (questions H st (Collect d)) 4 e)
+
+unsound-refusal : (c : Call) → 1 ≤ copies 5 (refusals c)
+unsound-refusal (Take d c p) = omega arith
+unsound-refusal (Drop d c) = omega arith
+unsound-refusal (Swap d p v) = omega arith
+unsound-refusal (Retire d) = omega arith
+unsound-refusal (Collect d) = omega arith
+
+opening-refusal : (H : Hall) (t : List ℕ) (n : ℕ) → firstNo (openQuestions H t) ≡ suc n → 1 ≤ copies (suc n) (1 ∷ 2 ∷ 3 ∷ 4 ∷ [])
+unfolding numbersOf
+opening-refusal H t n e = omega (arith, first-no-among (openQuestions H t) n e)
+
+-- ---- One record replaced: the words outside it, and those inside.
+get-past : (a b : List ℕ) (i : ℕ) → length a ≤ i → getD (a ++ b) i 0 ≡ getD b (i - length a) 0
+get-past a b i h = let e : length a + (i - length a) ≡ i = omega arith in ap (λ (k : ℕ). getD (a ++ b) k 0) (sym e) ∙ getD-append-add a b (i - length a) 0
+
+module _ (t w : List ℕ) (a n : ℕ) (fits : a + n ≤ length t) (wide : length w ≡ n) where
+  abbrev put : List ℕ
+  put = take a t ++ (w ++ drop n (drop a t))
+
+  la : length (take a t) ≡ a
+  la = length-take-le a t (omega arith)
+
+  put-before : (i : ℕ) → i < a → getD put i 0 ≡ getD t i 0
+  put-before i h = List·getD-append (take a t) (w ++ drop n (drop a t)) 0 i (omega (arith, la)) ∙ getD-take a t i 0 h
+
+  put-inside : (j : ℕ) → j < n → getD put (a + j) 0 ≡ getD w j 0
+  put-inside j h = get-mid (take a t) w (drop n (drop a t)) a la j (omega arith)
+
+  put-after : (i : ℕ) → a + n ≤ i → getD put i 0 ≡ getD t i 0
+  put-after i h =
+      get-past (take a t) (w ++ drop n (drop a t)) i (omega (arith, la))
+      ∙ get-past w (drop n (drop a t)) (i - length (take a t)) (omega (arith, la))
+      ∙ getD-drop n (drop a t) (i - length (take a t) - length w) 0
+      ∙ getD-drop a t (n + (i - length (take a t) - length w)) 0
+      ∙ (let e : a + (n + (i - length (take a t) - length w)) ≡ i = omega (arith, la) in ap (λ (k : ℕ). getD t k 0) e)
+
+  -- the same everywhere, where the words inside are
+  put-same : (i : ℕ) → ((j : ℕ) → j < n → a + j ≡ i → getD w j 0 ≡ getD t i 0) → getD put i 0 ≡ getD t i 0
+  put-same i h = go (decLt i a) (decLt i (a + n))
+    where
+      go : Dec (i < a) → Dec (i < a + n) → getD put i 0 ≡ getD t i 0
+      go (yes l) m = put-before i l
+      go (no l) (yes m) =
+          let e : a + (i - a) ≡ i = omega arith in
+          ap (λ (k : ℕ). getD put k 0) (sym e) ∙ put-inside (i - a) (omega arith) ∙ h (i - a) (omega arith) e
+      go (no l) (no m) = put-after i (omega arith)
+
+-- ---- What a retire leaves of its record.
+get-behind : (a x y : List ℕ) (i : ℕ) → ((j : ℕ) → length a + j ≡ i → getD x j 0 ≡ getD y j 0) → getD (a ++ x) i 0 ≡ getD (a ++ y) i 0
+get-behind [] x y i h = h i (omega arith)
+get-behind (v ∷ a) x y zero h = refl
+get-behind (v ∷ a) x y (suc i) h = get-behind a x y i (λ j e. h j (omega arith))
+
+zero-anywhere : (n i : ℕ) → getD (replicate {A = ℕ} n 0) i 0 ≡ 0
+zero-anywhere zero i = refl
+zero-anywhere (suc n) zero = refl
+zero-anywhere (suc n) (suc i) = zero-anywhere n i
+
+-- one more session on the list, in the place of a zero
+list-longer : (l : List ℕ) (v n m i : ℕ) → (i ≡ length l → ⊥) → getD ((l ++ (v ∷ [])) ++ replicate n 0) i 0 ≡ getD (l ++ replicate m 0) i 0
+list-longer l v n m i ne = ap (λ (x : List ℕ). getD x i 0) (append-assoc l (v ∷ []) (replicate n 0)) ∙ get-behind l (v ∷ replicate n 0) (replicate m 0) i after
+  where
+    after : (j : ℕ) → length l + j ≡ i → getD (v ∷ replicate n 0) j 0 ≡ getD (replicate m 0) j 0
+    after zero e = absurd (ne (omega arith))
+    after (suc j) e = zero-anywhere n j ∙ sym (zero-anywhere m (suc j))
+
+-- the words of a record, with the owed word, the count of waiting and the list changed
+words-kept : (o o′ k r t w w′ : ℕ) (m x y : List ℕ) (j : ℕ) → (j ≡ 0 → ⊥) → (j ≡ 4 → ⊥) → ((i : ℕ) → 5 + (length m + i) ≡ j → getD x i 0 ≡ getD y i 0)
+    → getD (o ∷ k ∷ r ∷ t ∷ w ∷ (m ++ x)) j 0 ≡ getD (o′ ∷ k ∷ r ∷ t ∷ w′ ∷ (m ++ y)) j 0
+words-kept o o′ k r t w w′ m x y zero n0 n4 h = absurd (n0 refl)
+words-kept o o′ k r t w w′ m x y (suc zero) n0 n4 h = refl
+words-kept o o′ k r t w w′ m x y (suc (suc zero)) n0 n4 h = refl
+words-kept o o′ k r t w w′ m x y (suc (suc (suc zero))) n0 n4 h = refl
+words-kept o o′ k r t w w′ m x y (suc (suc (suc (suc zero)))) n0 n4 h = absurd (n4 refl)
+words-kept o o′ k r t w w′ m x y (suc (suc (suc (suc (suc j))))) n0 n4 h = get-behind m x y j (λ i e. h i (omega arith))
+
+retire-list : (D : Desk) → listOf (retire D) ≡ listOf D ++ (D .owed ∷ [])
+retire-list D =
+    sym (append-assoc (D .ready) (sessionsOf (D .tested) ++ D .waiting) (D .owed ∷ []) ∙ ap (λ (l : List ℕ). D .ready ++ l) (append-assoc (sessionsOf (D .tested)) (D .waiting) (D .owed ∷ [])))
+
+retire-keeps : (S : ℕ) (D : Desk) (j : ℕ) → (j ≡ 0 → ⊥) → (j ≡ 4 → ⊥) → (j ≡ 13 + usedPlaces D → ⊥) → getD (encodeDesk S (retire D)) j 0 ≡ getD (encodeDesk S D) j 0
+unfolding encodeDesk
+retire-keeps S D j n0 n4 nl =
+    words-kept 0 (D .owed) (D .scanned) (length (D .ready)) (length (D .tested)) (length (D .waiting ++ (D .owed ∷ []))) (length (D .waiting))
+    (wordsOfBits markWords (marksOf (D .tested) ++ replicate (128 - length (D .tested)) false))
+    (listOf (retire D) ++ replicate (2 * S - length (listOf (retire D))) 0) (listOf D ++ replicate (2 * S - length (listOf D)) 0) j n0 n4
+    (λ i e. ap (λ (l : List ℕ). getD (l ++ replicate (2 * S - length (listOf (retire D))) 0) i 0) (retire-list D)
+    ∙ list-longer (listOf D) (D .owed) (2 * S - length (listOf (retire D))) (2 * S - length (listOf D)) i (λ q. nl (omega (arith, length-list D))))
+
+owed-first : (S : ℕ) (D : Desk) → getD (encodeDesk S D) 0 0 ≡ D .owed
+unfolding encodeDesk
+owed-first S D = refl
+
+counts-first : (S : ℕ) (D : Desk) → usedIn (encodeDesk S D) ≡ usedPlaces D
+unfolding encodeDesk
+counts-first S D = refl
+
+or-no : (a b : Bool) → or a b ≡ false → (a ≡ false) × (b ≡ false)
+or-no true b e = let z : _≡_ {A = ℕ} 0 1 = cc in absurd (omega arith)
+or-no false b e = (refl, e)
+
+-- ---- An accepted step on a sound table of 16-bit words.
+module _ (t : List ℕ) (small : (i : ℕ) → getD t i 0 < 65536) (s : sound t ≡ true) where
+  abbrev H : Hall
+  H = hallIn t
+
+  abbrev st : State
+  st = decode (hallIn t) t
+
+  abbrev S : ℕ
+  S = allScreens (hallIn t)
+
+  k : Known t
+  k = known t s
+
+  v : Valid (hallIn t) (decode (hallIn t) t)
+  v = valid t (known t s)
+
+  ok : Opens (hallIn t)
+  ok = record { desks = k .desks; screens = k .screens; positions = k .positions }
+
+  module _ (d : ℕ) (r : (1 ≤ d) × (d ≤ hallIn t .desks)) where
+    a : ℕ
+    a = recordStart (hallIn t) d
+
+    fits : recordStart (hallIn t) d + recordWidth (hallIn t) ≤ length t
+    fits = let m : suc (d - 1) * recordWidth (hallIn t) ≤ hallIn t .desks * recordWidth (hallIn t) = mul-le-mul-right (recordWidth (hallIn t)) (omega arith) in omega (arith, k .long)
+
+    words : List ℕ
+    words = recordOf (hallIn t) t d
+
+    D : Desk
+    D = decodeDesk (recordOf (hallIn t) t d)
+
+    wide : length (recordOf (hallIn t) t d) ≡ 13 + 2 * allScreens (hallIn t)
+    wide = length-take-le (recordWidth (hallIn t)) (drop (recordStart (hallIn t) d) t) (omega (arith, fits, length-drop (recordStart (hallIn t) d) t))
+
+    passes : recordSound (allScreens (hallIn t)) (recordOf (hallIn t) t d) ≡ true
+    passes = record-sound t d k (r .0) (r .1)
+
+    desk-is-sound : Sound (allScreens (hallIn t)) (decodeDesk (recordOf (hallIn t) t d))
+    desk-is-sound = desk-sound (allScreens (hallIn t)) (recordOf (hallIn t) t d) wide (k .most) passes
+
+    again : encodeDesk (allScreens (hallIn t)) (decodeDesk (recordOf (hallIn t) t d)) ≡ recordOf (hallIn t) t d
+    again = recode-any (allScreens (hallIn t)) (recordOf (hallIn t) t d) wide (k .most) (small-take (recordWidth (hallIn t)) (drop (recordStart (hallIn t) d) t) (small-drop (recordStart (hallIn t) d) t small)) passes
+
+    word-inside : (j : ℕ) → j < recordWidth (hallIn t) → getD (encodeDesk (allScreens (hallIn t)) (decodeDesk (recordOf (hallIn t) t d))) j 0 ≡ getD t (recordStart (hallIn t) d + j) 0
+    word-inside j h = ap (λ (l : List ℕ). getD l j 0) again ∙ getD-take (recordWidth (hallIn t)) (drop (recordStart (hallIn t) d) t) j 0 h ∙ getD-drop (recordStart (hallIn t) d) t j 0
+
+    -- the record is written anew
+    record-kept : (E : Desk) → Sound (allScreens (hallIn t)) E → (i : ℕ)
+        → ((j : ℕ) → j < recordWidth (hallIn t) → recordStart (hallIn t) d + j ≡ i → getD (encodeDesk (allScreens (hallIn t)) E) j 0 ≡ getD (encodeDesk (allScreens (hallIn t)) (decodeDesk (recordOf (hallIn t) t d))) j 0)
+        → getD (putRecord (hallIn t) t d (encodeDesk (allScreens (hallIn t)) E)) i 0 ≡ getD t i 0
+    record-kept E sE i h =
+        put-same t (encodeDesk (allScreens (hallIn t)) E) (recordStart (hallIn t) d) (recordWidth (hallIn t)) fits (length-encoded (hallIn t) ok E sE) i
+        (λ j l e. h j l e ∙ word-inside j l ∙ ap (λ (n : ℕ). getD t n 0) e)
+
+  written-keeps : (c : Call) → asked t c ≡ 0 → (i : ℕ) → names t c i ≡ false → getD (written t c) i 0 ≡ getD t i 0
+  written-keeps (Take d c p) e i q = getD-set-other t (screenWord (hallIn t) d c) i (getD t (positionWord p) 0) 0 (λ z. eqb-false i (screenWord (hallIn t) d c) q z)
+  written-keeps (Drop d c) e i q = getD-set-other t (screenWord (hallIn t) d c) i 0 0 (λ z. eqb-false i (screenWord (hallIn t) d c) q z)
+  written-keeps (Swap d p new) e i q = go (eqb i (recordStart (hallIn t) d)) refl
+    where
+      facts : (1 ≤ d) × (d ≤ hallIn t .desks) × (1 ≤ p) × (deskOf (decode (hallIn t) t) d .owed ≡ 0)
+      facts = swap-facts (hallIn t) (decode (hallIn t) t) (v .formed) d p new e
+
+      parts : (eqb i (positionWord p) ≡ false) × (eqb i (recordStart (hallIn t) d) && isSession (getD t (positionWord p) 0) ≡ false)
+      parts = or-no (eqb i (positionWord p)) (eqb i (recordStart (hallIn t) d) && isSession (getD t (positionWord p) 0)) q
+
+      elsewhere : getD (set t (positionWord p) new) i 0 ≡ getD t i 0
+      elsewhere = getD-set-other t (positionWord p) i new 0 (λ z. eqb-false i (positionWord p) (parts .0) z)
+
+      none : (b : Bool) → eqb (getD t (positionWord p) 0) 0 ≡ b → not b ≡ false → getD t (positionWord p) 0 ≡ 0
+      none true t0 z = eqb-true (getD t (positionWord p) 0) 0 t0
+      none false t0 z = let o : _≡_ {A = ℕ} 0 1 = cc in absurd (omega arith)
+
+      go : (b : Bool) → eqb i (recordStart (hallIn t) d) ≡ b → getD (set (set t (positionWord p) new) (recordStart (hallIn t) d) (getD t (positionWord p) 0)) i 0 ≡ getD t i 0
+      go true z =
+          let is : i ≡ recordStart (hallIn t) d = eqb-true i (recordStart (hallIn t) d) z in
+          let old : getD t (positionWord p) 0 ≡ 0 = none (eqb (getD t (positionWord p) 0) 0) refl (ap (λ (b : Bool). b && isSession (getD t (positionWord p) 0)) (sym z) ∙ parts .1) in
+          let owed : getD t (recordStart (hallIn t) d) 0 ≡ 0 = sym (owed-word t d (facts .0) (facts .1)) ∙ facts .3 in
+          ap (λ (n : ℕ). getD (set (set t (positionWord p) new) (recordStart (hallIn t) d) (getD t (positionWord p) 0)) n 0) is
+          ∙ getD-set-same (set t (positionWord p) new) (recordStart (hallIn t) d) (getD t (positionWord p) 0) 0 (omega (arith, fits d (facts .0, facts .1), length-set t (positionWord p) new))
+          ∙ old ∙ sym owed ∙ ap (λ (n : ℕ). getD t n 0) (sym is)
+      go false z = getD-set-other (set t (positionWord p) new) (recordStart (hallIn t) d) i (getD t (positionWord p) 0) 0 (λ y. eqb-false i (recordStart (hallIn t) d) z y) ∙ elsewhere
+  written-keeps (Retire d) e i q =
+      let f = retire-facts (hallIn t) (decode (hallIn t) t) (v .formed) d e in
+      let r : (1 ≤ d) × (d ≤ hallIn t .desks) = (f .0, f .1) in
+      let same = desk-word t d (f .0) (f .1) in
+      let room : usedPlaces (decodeDesk (recordOf (hallIn t) t d)) < 2 * allScreens (hallIn t) = subst (λ (X : Desk). usedPlaces X < 2 * allScreens (hallIn t)) same (retire-room-fact (hallIn t) (decode (hallIn t) t) (v .formed) d e) in
+      let owes : decodeDesk (recordOf (hallIn t) t d) .owed ≡ 0 → ⊥ = (λ z. f .2 (ap (λ (X : Desk). X .owed) same ∙ z)) in
+      let n1 = or-no (eqb i (recordStart (hallIn t) d)) (or (eqb i (recordStart (hallIn t) d + waitingPlace)) (eqb i (recordStart (hallIn t) d + (listPlace + usedIn (recordOf (hallIn t) t d))))) q in
+      let n2 = or-no (eqb i (recordStart (hallIn t) d + waitingPlace)) (eqb i (recordStart (hallIn t) d + (listPlace + usedIn (recordOf (hallIn t) t d)))) (n1 .1) in
+      let u : usedIn (recordOf (hallIn t) t d) ≡ usedPlaces (decodeDesk (recordOf (hallIn t) t d)) = ap usedIn (sym (again d r)) ∙ counts-first (allScreens (hallIn t)) (decodeDesk (recordOf (hallIn t) t d)) in
+      let x0 = eqb-false i (recordStart (hallIn t) d) (n1 .0) in
+      let x4 = eqb-false i (recordStart (hallIn t) d + waitingPlace) (n2 .0) in
+      let xl = eqb-false i (recordStart (hallIn t) d + (listPlace + usedIn (recordOf (hallIn t) t d))) (n2 .1) in
+      record-kept d r (retire (decodeDesk (recordOf (hallIn t) t d))) (retire-sound (allScreens (hallIn t)) (decodeDesk (recordOf (hallIn t) t d)) owes room (desk-is-sound d r)) i
+      (λ j l a. retire-keeps (allScreens (hallIn t)) (decodeDesk (recordOf (hallIn t) t d)) j (λ z. x0 (omega arith)) (λ z. x4 (omega arith)) (λ z. xl (omega arith)))
+  written-keeps (Collect d) e i q =
+      let r = desk-fact (hallIn t) (decode (hallIn t) t) (v .formed) d _ e in
+      let shown = decode (hallIn t) t .shown in
+      record-kept d r (collect (allScreens (hallIn t)) shown (decodeDesk (recordOf (hallIn t) t d)) .after)
+      (collect-sound (allScreens (hallIn t)) shown (decodeDesk (recordOf (hallIn t) t d)) (some-screens (hallIn t) ok) (v .formed .screens) (desk-is-sound d r)) i
+      (λ j l a. first j (omega (arith, ltb-false (recordStart (hallIn t) d) i (left-no (ltb (recordStart (hallIn t) d) i) (ltb i (recordStart (hallIn t) d + recordWidth (hallIn t))) q (lt-ltb i (recordStart (hallIn t) d + recordWidth (hallIn t)) (omega arith))))))
+    where
+      left-no : (a b : Bool) → a && b ≡ false → b ≡ true → a ≡ false
+      left-no true b z w = let o : _≡_ {A = ℕ} 0 1 = cc in absurd (omega arith)
+      left-no false b z w = refl
+
+      -- of the record only its first word, the owed session, is not named, and a collect keeps it
+      first : (j : ℕ) → j ≡ 0
+          → getD (encodeDesk (allScreens (hallIn t)) (collect (allScreens (hallIn t)) (decode (hallIn t) t .shown) (decodeDesk (recordOf (hallIn t) t d)) .after)) j 0 ≡ getD (encodeDesk (allScreens (hallIn t)) (decodeDesk (recordOf (hallIn t) t d))) j 0
+      first j z =
+          let S : ℕ = allScreens (hallIn t) in
+          let D : Desk = decodeDesk (recordOf (hallIn t) t d) in
+          let E : Desk = collect (allScreens (hallIn t)) (decode (hallIn t) t .shown) (decodeDesk (recordOf (hallIn t) t d)) .after in
+          rw z (owed-first S E ∙ owed-collect S (decode (hallIn t) t .shown) D ∙ sym (owed-first S D))
+
+  -- what an accepted call writes is the table of a valid state
+  after-valid : (c : Call) → asked t c ≡ 0 → Valid (hallIn t) (perform (hallIn t) (decode (hallIn t) t) c .after)
+  after-valid c e = subst (λ (r : Done). Valid (hallIn t) (r .after)) (ap (λ (n : ℕ). decide n (decode (hallIn t) t) (perform (hallIn t) (decode (hallIn t) t) c)) e) (valid-step (hallIn t) ok (decode (hallIn t) t) c v)
+
+  written-length : (c : Call) → asked t c ≡ 0 → length (written t c) ≡ length t
+  written-length c e =
+      let st : State = perform (hallIn t) (decode (hallIn t) t) c .after in
+      omega (arith, ap length (encoded t c small s e), length-append (encode (hallIn t) st) (drop (need (hallIn t)) t), length-table (hallIn t) ok st (after-valid c e) (drop (need (hallIn t)) t), length-drop (need (hallIn t)) t, k .long)
+
+  written-sound : (c : Call) → asked t c ≡ 0 → sound (written t c) ≡ true
+  written-sound c e = rw (encoded t c small s e) (is-sound (hallIn t) ok (perform (hallIn t) (decode (hallIn t) t) c .after) (after-valid c e) (drop (need (hallIn t)) t))
+
+-- ---- Every step.
+pub demand1 : (t : List ℕ) → ((i : ℕ) → getD t i 0 < 65536) → (c : Call) → Demand1 t c
+demand1 t small c = at (sound t) refl
+  where
+    -- the step on an unsound table, a refused one and an accepted one
+    Holds : TableDone → Type 0
+    Holds done =
+        ((n : ℕ) → done .answer .number ≡ suc n → (1 ≤ copies (suc n) (refusals c)) × (done .answer .session ≡ 0) × (done .after ≡ t))
+        × (done .answer .number ≡ 0 → (i : ℕ) → names t c i ≡ false → getD (done .after) i 0 ≡ getD t i 0)
+        × (length (done .after) ≡ length t)
+        × (sound t ≡ true → sound (done .after) ≡ true)
+
+    whole : Holds (stepTable t c) → Demand1 t c
+    whole h = record { refused = h .0; accepted = h .1; sameLength = h .2; staysSound = h .3 }
+
+    at : (b : Bool) → sound t ≡ b → Demand1 t c
+    at false e =
+        whole (subst Holds (sym (unsound-step t c e))
+        ((λ n q. (omega (arith, unsound-refusal c, ap (λ (m : ℕ). copies m (refusals c)) q), refl, refl)), (λ q. absurd (omega arith)), refl, (λ q. q)))
+    at true e = by (asked t c) refl
+      where
+        by : (m : ℕ) → asked t c ≡ m → Demand1 t c
+        by zero a =
+            whole (subst Holds (sym (accepted-step t c e a))
+            ((λ n q. absurd (omega arith)), (λ q. written-keeps t small e c a), written-length t small e c a, (λ q. written-sound t small e c a)))
+        by (suc m) a =
+            whole (subst Holds (sym (refused-step t c m e a))
+            ((λ n q. (omega (arith, step-refusal (hallIn t) (decode (hallIn t) t) c m a, ap (λ (x : ℕ). copies x (refusals c)) q), refl, refl)), (λ q. absurd (omega arith)), refl, (λ q. q)))
+
+-- ---- A list of steps on tables that are sound.
+never-five-step : (t : List ℕ) (c : Call) → sound t ≡ true → stepTable t c .answer .number ≡ 5 → ⊥
+never-five-step t c s e = go (asked t c) refl
+  where
+    go : (m : ℕ) → asked t c ≡ m → ⊥
+    go zero a = omega (arith, ap (λ (r : TableDone). r .answer .number) (accepted-step t c s a))
+    go (suc m) a = not-five (hallIn t) (decode (hallIn t) t) c (omega (arith, ap (λ (r : TableDone). r .answer .number) (refused-step t c m s a)))
+
+pub never-five : (cs : List Call) (t : List ℕ) → ((i : ℕ) → sound (endTable t (take i cs)) ≡ true) → (i : ℕ) → numberAt (runTable t cs) i ≡ 5 → ⊥
+never-five [] t s i e = omega arith
+never-five (c ∷ cs) t s zero e = never-five-step t c (s 0) e
+never-five (c ∷ cs) t s (suc i) e = never-five cs (stepTable t c .after) (λ j. s (suc j)) i e
+
+-- ---- Every opening.
+pub opening-demand1 : (H : Hall) (t : List ℕ) → OpeningDemand1 H t
+opening-demand1 H t = by (firstNo (openQuestions H t)) refl
+  where
+    Holds : TableDone → Type 0
+    Holds done =
+        ((n : ℕ) → done .answer .number ≡ suc n → (1 ≤ copies (suc n) (1 ∷ 2 ∷ 3 ∷ 4 ∷ [])) × (done .answer .session ≡ 0) × (done .after ≡ t))
+        × (done .answer .number ≡ 0 → (i : ℕ) → need H ≤ i → getD (done .after) i 0 ≡ getD t i 0)
+        × (length (done .after) ≡ length t)
+        × (done .answer .number ≡ 0 → sound (done .after) ≡ true)
+
+    whole : Holds (openTable H t) → OpeningDemand1 H t
+    whole h = record { refused = h .0; accepted = h .1; sameLength = h .2; staysSound = h .3 }
+
+    by : (m : ℕ) → firstNo (openQuestions H t) ≡ m → OpeningDemand1 H t
+    by zero a =
+        let o = hall-opens H t a in
+        let front : List ℕ = H .desks ∷ H .screens ∷ H .positions ∷ replicate (need H - 3) 0 in
+        let lf : length front ≡ need H = omega (arith, length-replicate {A = ℕ} (need H - 3) 0) in
+        let past : (i : ℕ) → need H ≤ i → getD (openedTable H t) i 0 ≡ getD t i 0 = (λ i h. get-past front (drop (need H) t) i (omega (arith, lf)) ∙ getD-drop (need H) t (i - length front) 0 ∙ (let e : need H + (i - length front) ≡ i = omega (arith, lf) in ap (λ (n : ℕ). getD t n 0) e)) in
+        whole (subst Holds (sym (accepted-open H t a))
+        ((λ n q. absurd (omega arith)), (λ q. past), omega (arith, length-append front (drop (need H) t), length-drop (need H) t, lf, o .1), (λ q. sound-table H (o .0) t [])))
+    by (suc m) a =
+        whole (subst Holds (sym (refused-open H t m a))
+        ((λ n q. (omega (arith, opening-refusal H t m a, ap (λ (x : ℕ). copies x (1 ∷ 2 ∷ 3 ∷ 4 ∷ [])) q), refl, refl)), (λ q. absurd (omega arith)), refl, (λ q. absurd (omega arith))))

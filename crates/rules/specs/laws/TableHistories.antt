@@ -1,0 +1,126 @@
+-- Demands 2 and 3 of every list of calls on a table from an accepted opening on.
+use Prim.Native.Nat.{ℕ, _+_, _-_, _≤_, zero, suc, _*_}
+use native.Mathlib.Omega.{arith}
+use native.Mathlib.Decide.{ℕ-discrete}
+use mathlib.Core.Path.{_≡_, refl, sym, ap, _∙_, subst}
+use mathlib.Core.Bool.{cond, Bool, true, false}
+use mathlib.Core.List.{List, [], _++_}
+use lib.ListN.{length, take, drop, replicate}
+use lib.Seq.{take-at}
+use lib.Dec.{leb}
+use borrow.Author.Tests.{leb-true}
+use Rattle.rules.specs.Demands.{BackWithin, Demand2, Demand3, countsOfDesk, exactBound, listOfDesk}
+use Rattle.rules.specs.Hall.{Desk, Hall, allScreens, deskOf, fresh, mostDesks, mostPositions, mostScreens, usedPlaces}
+use Rattle.rules.specs.History.{copies, handBacks, handBacksOf, isHandBack, isHandBackOf, isRetirement, isRetirementOf, retirements, retirementsOf}
+use Rattle.rules.specs.Steps.{Call, Event, end, firstNo, inRange, run}
+use Rattle.rules.specs.Table.{encode, encodeDesk, endTable, listIn, listOf, need, openIf, openQuestions, openTable, openedTable, recordOf, runTable, usedIn}
+use Rattle.rules.specs.laws.Collect.{copiesOn}
+use Rattle.rules.specs.laws.Demand3.{back-in-time, list-bound, never-lacks-room, on-list, three-is-enough}
+use Rattle.rules.specs.laws.Effect.{in-range, out-of-range}
+use Rattle.rules.specs.laws.Fresh.{fresh-copies, fresh-formed, fresh-sound}
+use Rattle.rules.specs.laws.Guarantee.{guaranteed}
+use Rattle.rules.specs.laws.Links.{holds}
+use Rattle.rules.specs.laws.Runs.{copies-run, sound-run}
+use Rattle.rules.specs.laws.Session.{same-session}
+use Rattle.rules.specs.laws.Sound.{copies-list, length-list}
+use Rattle.rules.specs.laws.Splits.{no-session-zero, outsider-counts, run-take}
+use Rattle.rules.specs.laws.Tables.{Opens, Valid, desk-record, fresh-valid, is-end, is-open, is-run, some-screens, valid-end}
+
+-- ---- What an accepted opening says of its hall.
+pub opening-asks : (H : Hall) (t : List ℕ) → openTable H t .answer .number ≡ 0 → (firstNo (openQuestions H t) ≡ 0) × (openTable H t .after ≡ openedTable H t)
+unfolding openTable
+opening-asks H t ok = go (firstNo (openQuestions H t)) refl ok
+  where
+    go : (n : ℕ) → firstNo (openQuestions H t) ≡ n → openIf n H t .answer .number ≡ 0 → (firstNo (openQuestions H t) ≡ 0) × (openIf n H t .after ≡ openedTable H t)
+    go zero e z = (e, refl)
+    go (suc n) e z = absurd (omega arith)
+
+pub hall-opens : (H : Hall) (t : List ℕ) → firstNo (openQuestions H t) ≡ 0 → Opens H × (need H ≤ length t)
+hall-opens H t e =
+    let y1 = holds (inRange (H .desks) mostDesks) _ 0 e in
+    let y2 = holds (inRange (H .screens) mostScreens) _ 1 (y1 .1) in
+    let y3 = holds (inRange (H .positions) mostPositions) _ 2 (y2 .1) in
+    let y4 = holds (leb (need H) (length t)) _ 3 (y3 .1) in
+    (record { desks = in-range (H .desks) mostDesks (y1 .0); screens = in-range (H .screens) mostScreens (y2 .0); positions = in-range (H .positions) mostPositions (y3 .0) },
+    leb-true (need H) (length t) (y4 .0))
+
+-- ---- A desk's list and counts, as they stand in its record.
+counts-encoded : (S : ℕ) (D : Desk) → usedIn (encodeDesk S D) ≡ usedPlaces D
+unfolding encodeDesk
+counts-encoded S D = refl
+
+list-encoded : (S : ℕ) (D : Desk) → take (usedIn (encodeDesk S D)) (listIn (encodeDesk S D)) ≡ listOf D
+unfolding encodeDesk
+list-encoded S D = take-at (listOf D) (replicate (2 * S - length (listOf D)) 0) (usedPlaces D) (length-list D)
+
+module _ (H : Hall) (ok : Opens H) (t : List ℕ) (cs : List Call) where
+  some : 1 ≤ allScreens H
+  some = some-screens H ok
+
+  run-is : runTable (openedTable H t) cs ≡ run H (fresh H) cs
+  run-is = rw (is-open H ok t) (is-run H ok cs (fresh H) (fresh-valid H ok) (drop (need H) t))
+
+  end-is : (i : ℕ) → endTable (openedTable H t) (take i cs) ≡ encode H (end H (fresh H) (take i cs)) ++ drop (need H) t
+  end-is i = rw (is-open H ok t) (is-end H ok (take i cs) (fresh H) (fresh-valid H ok) (drop (need H) t))
+
+  valid : (i : ℕ) → Valid H (end H (fresh H) (take i cs))
+  valid i = valid-end H ok (take i cs) (fresh H) (fresh-valid H ok)
+
+  -- the record of desk d after the first i calls
+  record-after : (i d : ℕ) → (1 ≤ d) × (d ≤ H .desks) → recordOf H (endTable (openedTable H t) (take i cs)) d ≡ encodeDesk (allScreens H) (deskOf (end H (fresh H) (take i cs)) d)
+  record-after i d r = ap (λ (l : List ℕ). recordOf H l d) (end-is i) ∙ desk-record H ok (end H (fresh H) (take i cs)) (valid i) (drop (need H) t) d (r .0) (r .1)
+
+  counts-after : (d i : ℕ) → retirements d (take i (run H (fresh H) cs)) ≡ handBacks d (take i (run H (fresh H) cs)) + countsOfDesk H (endTable (openedTable H t) (take i cs)) d
+  counts-after d i = rw (run-take H i cs (fresh H)) (go (inRange d (H .desks)) refl)
+    where
+      go : (b : Bool) → inRange d (H .desks) ≡ b
+          → retirements d (run H (fresh H) (take i cs)) ≡ handBacks d (run H (fresh H) (take i cs)) + cond b (usedIn (recordOf H (endTable (openedTable H t) (take i cs)) d)) 0
+      go true q =
+          let r = in-range d (H .desks) q in
+          on-list H some (take i cs) d (r .0)
+          ∙ ap (λ (n : ℕ). handBacks d (run H (fresh H) (take i cs)) + n) (sym (ap usedIn (record-after i d r) ∙ counts-encoded (allScreens H) (deskOf (end H (fresh H) (take i cs)) d)))
+      go false q = omega (arith, outsider-counts H d (out-of-range d (H .desks) q) isRetirement refl (take i cs) (fresh H) (fresh-formed H), outsider-counts H d (out-of-range d (H .desks) q) isHandBack refl (take i cs) (fresh H) (fresh-formed H))
+
+  list-after : (d i : ℕ) → retirements d (take i (run H (fresh H) cs)) ≤ handBacks d (take i (run H (fresh H) cs)) + 2 * allScreens H
+  list-after d i = rw (run-take H i cs (fresh H)) (go (inRange d (H .desks)) refl)
+    where
+      go : (b : Bool) → inRange d (H .desks) ≡ b → retirements d (run H (fresh H) (take i cs)) ≤ handBacks d (run H (fresh H) (take i cs)) + 2 * allScreens H
+      go true q = list-bound H some (take i cs) d (in-range d (H .desks) q .0)
+      go false q = omega (arith, outsider-counts H d (out-of-range d (H .desks) q) isRetirement refl (take i cs) (fresh H) (fresh-formed H))
+
+  copies-after : (d s i : ℕ) → retirementsOf d s (take i (run H (fresh H) cs)) ≡ handBacksOf d s (take i (run H (fresh H) cs)) + copies s (listOfDesk H (endTable (openedTable H t) (take i cs)) d)
+  copies-after d s i = rw (run-take H i cs (fresh H)) (go (inRange d (H .desks)) refl (ℕ-discrete s 0))
+    where
+      listed : (1 ≤ d) × (d ≤ H .desks)
+          → copies s (let words = recordOf H (endTable (openedTable H t) (take i cs)) d in take (usedIn words) (listIn words)) ≡ copiesOn s (deskOf (end H (fresh H) (take i cs)) d)
+      listed r =
+          ap (λ (words : List ℕ). copies s (take (usedIn words) (listIn words))) (record-after i d r)
+          ∙ ap (copies s) (list-encoded (allScreens H) (deskOf (end H (fresh H) (take i cs)) d))
+          ∙ copies-list s (deskOf (end H (fresh H) (take i cs)) d)
+
+      go : (b : Bool) → inRange d (H .desks) ≡ b → Dec (s ≡ 0)
+          → retirementsOf d s (run H (fresh H) (take i cs)) ≡ handBacksOf d s (run H (fresh H) (take i cs)) + copies s (cond b (let words = recordOf H (endTable (openedTable H t) (take i cs)) d in take (usedIn words) (listIn words)) [])
+      go true q (yes z) =
+          let r = in-range d (H .desks) q in
+          let real = sound-run H d some (r .0) (take i cs) (fresh H) (fresh-formed H) (fresh-sound H d) .real in
+          let none = no-session-zero H (take i cs) (fresh H) (fresh-formed H) d in
+          let l = listed r in
+          rw z (omega (arith, none .0, none .1, rw z at l, real))
+      go true q (no z) =
+          let r = in-range d (H .desks) q in
+          let c = copies-run H d some (r .0) s z (take i cs) (fresh H) (fresh-formed H) (fresh-sound H d) in
+          omega (arith, listed r, fresh-copies H d s)
+      go false q z = omega (arith, outsider-counts H d (out-of-range d (H .desks) q) (isRetirementOf s) refl (take i cs) (fresh H) (fresh-formed H), outsider-counts H d (out-of-range d (H .desks) q) (isHandBackOf s) refl (take i cs) (fresh H) (fresh-formed H))
+
+  pub demand2-opened : Demand2 H (runTable (openedTable H t) cs) (λ i. endTable (openedTable H t) (take i cs))
+  demand2-opened =
+      subst (λ (history : List Event). Demand2 H history (λ i. endTable (openedTable H t) (take i cs))) (sym run-is)
+      (record { guarantee = guaranteed H some cs; sessions = same-session H cs (fresh H) (fresh-formed H); counts = copies-after })
+
+  pub demand3-opened : Demand3 H (runTable (openedTable H t) cs) (λ i. endTable (openedTable H t) (take i cs))
+  demand3-opened =
+      subst (λ (history : List Event). Demand3 H history (λ i. endTable (openedTable H t) (take i cs))) (sym run-is)
+      (record { room = never-lacks-room H some cs; list = list-after; counts = counts-after; back = back-in-time H some cs (3 * allScreens H) (three-is-enough (allScreens H) some) })
+
+  pub back-opened : BackWithin (exactBound (allScreens H)) (runTable (openedTable H t) cs)
+  back-opened = subst (BackWithin (exactBound (allScreens H))) (sym run-is) (back-in-time H some cs (exactBound (allScreens H)) (omega arith))
