@@ -10,4 +10,5 @@ pub mod Demands
 pub mod Theorems
 pub mod Cases
 pub mod SheetCases
+pub mod Examples
 pub mod laws

@@ -28,3 +28,4 @@ pub mod Sheet
 pub mod Tally
 pub mod TableHistories
 pub mod Demand1
+pub mod Checks

@@ -10,6 +10,7 @@ use Rattle.rules.specs.Demands.{BackWithin, exactBound}
 use Rattle.rules.specs.Hall.{Hall, State, allScreens, deskOf, fresh, usedPlaces}
 use Rattle.rules.specs.History.{Deed, Disciplined, Shows, collectsOf, deedAt, handBacks, handBacksOf, isCollect, isHandBackOf, lacksRoom, nothing, retirements, retirementsOf, retires}
 use Rattle.rules.specs.Steps.{Call, end, run}
+use Rattle.rules.specs.laws.Checks.{disciplined}
 use Rattle.rules.specs.laws.Fresh.{fresh-copies, fresh-formed, fresh-places, fresh-room, fresh-shown, fresh-sound}
 use Rattle.rules.specs.laws.HandBack.{due-start}
 use Rattle.rules.specs.laws.Links.{Range}
