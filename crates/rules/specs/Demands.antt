@@ -5,6 +5,7 @@ use mathlib.Core.Bool.{Bool, true, false, cond, _&&_}
 use mathlib.Core.List.{List, [], _∷_}
 use lib.ListN.{length, getD, take}
 use lib.Dec.{ltb, eqb}
+use Rattle.rules.specs.Bytes.{stepBytes, wordsOfBytes}
 use Rattle.rules.specs.Hall.{Hall, allScreens}
 use Rattle.rules.specs.History.{Deed, Disciplined, DroppedBefore, Linked, Unshown, collectsOf, copies, deedAt, handBacks, handBacksOf, handsBack, lacksRoom, retirements, retirementsOf, retires}
 use Rattle.rules.specs.Steps.{Call, Collect, Drop, Event, Retire, Swap, Take, inRange, isSession}
@@ -54,6 +55,17 @@ pub record OpeningDemand1 (hall : Hall) (table : List ℕ) : Type 0 where
   pub accepted : openTable hall table .answer .number ≡ 0 → (i : ℕ) → need hall ≤ i → getD (openTable hall table .after) i 0 ≡ getD table i 0
   pub sameLength : length (openTable hall table .after) ≡ length table
   pub staysSound : openTable hall table .answer .number ≡ 0 → sound (openTable hall table .after) ≡ true
+
+-- What a step may do to a table that was sent as bytes; the reply number is its answer's high half.
+pub record BytesDemand1 (bytes : List ℕ) (call : Call) : Type 0 where
+  -- "A refused call gives its number from document 01 and session 0, and every lent word .. keeps its content."
+  pub refused : (n : ℕ) → stepBytes bytes call .reply / 65536 ≡ suc n
+      → (1 ≤ copies (suc n) (refusals call)) × (stepBytes bytes call .reply ≡ suc n * 65536) × (stepBytes bytes call .after ≡ bytes)
+  -- "an accepted call writes only the words its step names": byte j is of word j / 2
+  pub accepted : stepBytes bytes call .reply / 65536 ≡ 0 → (j : ℕ) → names (wordsOfBytes bytes) call (j / 2) ≡ false → getD (stepBytes bytes call .after) j 0 ≡ getD bytes j 0
+  -- "an odd last byte is not part of the table"
+  pub lastByte : (j : ℕ) → 2 * length (wordsOfBytes bytes) ≤ j → getD (stepBytes bytes call .after) j 0 ≡ getD bytes j 0
+  pub sameLength : length (stepBytes bytes call .after) ≡ length bytes
 
 -- ---- Demands 2 and 3 speak of a history, a list of calls with their answers, and of the words of the table after its first i calls.
 

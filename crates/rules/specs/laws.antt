@@ -27,5 +27,8 @@ pub mod SoundTables
 pub mod Sheet
 pub mod Tally
 pub mod TableHistories
+pub mod Words16
+pub mod Bytes
 pub mod Demand1
 pub mod Checks
+pub mod ByteHistories

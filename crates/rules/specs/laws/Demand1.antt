@@ -5,68 +5,26 @@ use native.Mathlib.Omega.{arith}
 use native.Mathlib.Nat.{mul-le-mul-right}
 use native.Mathlib.Decide.{decLt}
 use mathlib.Core.Path.{_≡_, refl, sym, ap, _∙_, subst}
-use mathlib.Core.Bool.{cond, Bool, true, false, not, _&&_}
+use mathlib.Core.Bool.{Bool, true, false, not, _&&_}
 use mathlib.Core.List.{List, [], _∷_, _++_, append-assoc}
-use lib.ListN.{length, take, getD, drop, set, length-append, replicate, length-replicate, length-drop, length-set, List·getD-append}
+use lib.ListN.{length, take, getD, drop, set, replicate, length-replicate, length-drop, length-set, List·getD-append}
 use lib.Seq.{getD-set-same, getD-set-other, length-take-le, getD-append-add, getD-drop, getD-take}
 use lib.Dec.{eqb, ltb}
 use borrow.Author.Tests.{eqb-true, eqb-false, lt-ltb, ltb-false}
-use Rattle.rules.specs.Demands.{Demand1, OpeningDemand1, names, or, refusals}
+use Rattle.rules.specs.Bytes.{Words16}
+use Rattle.rules.specs.Demands.{Demand1, OpeningDemand1, names, or}
 use Rattle.rules.specs.Hall.{Desk, Hall, State, allScreens, deskOf, usedPlaces}
 use Rattle.rules.specs.History.{copies, numberAt}
-use Rattle.rules.specs.Steps.{Call, Collect, Done, Drop, Question, Retire, Swap, Take, collect, decide, firstNo, isSession, perform, questions, retire}
-use Rattle.rules.specs.Table.{TableDone, decode, decodeDesk, encode, encodeDesk, endTable, hallIn, listOf, listPlace, markWords, marksOf, need, openQuestions, openTable, openedTable, positionWord, putRecord, recordOf, recordSound, recordStart, recordWidth, runTable, screenWord, sessionsOf, sound, stepTable, usedIn, waitingPlace, wordsOfBits, written}
+use Rattle.rules.specs.Steps.{Call, Collect, Done, Drop, Retire, Swap, Take, collect, decide, firstNo, isSession, perform, questions, retire}
+use Rattle.rules.specs.Table.{TableDone, decode, decodeDesk, encodeDesk, endTable, hallIn, listOf, listPlace, markWords, marksOf, need, openQuestions, openedTable, positionWord, putRecord, recordOf, recordSound, recordStart, recordWidth, runTable, screenWord, sessionsOf, sound, stepTable, usedIn, waitingPlace, wordsOfBits, written}
 use Rattle.rules.specs.laws.Decoding.{recode-any, small-drop, small-take}
 use Rattle.rules.specs.laws.Links.{desk-fact, owed-collect, retire-facts, retire-room-fact, swap-facts}
-use Rattle.rules.specs.laws.Lists.{matches, matches-same}
 use Rattle.rules.specs.laws.Parts.{get-mid}
 use Rattle.rules.specs.laws.Sound.{Sound, collect-sound, length-list, retire-sound}
-use Rattle.rules.specs.laws.SoundTables.{desk-sound, encoded, valid}
-use Rattle.rules.specs.laws.TableHistories.{hall-opens}
-use Rattle.rules.specs.laws.TableSteps.{Known, accepted-open, accepted-step, asked, desk-word, known, owed-word, record-sound, refused-open, refused-step, unsound-step}
-use Rattle.rules.specs.laws.Tables.{Opens, Valid, is-sound, length-encoded, length-table, some-screens, sound-table, valid-step}
-
--- ---- A refusal's number is one of the questions'.
-numbersOf : List Question → List ℕ
-numbersOf [] = []
-numbersOf (q ∷ qs) = q .number ∷ numbersOf qs
-
-first-no-among : (qs : List Question) (n : ℕ) → firstNo qs ≡ suc n → 1 ≤ copies (suc n) (numbersOf qs)
-unfolding numbersOf
-first-no-among [] n e = absurd (omega arith)
-first-no-among (q ∷ qs) n e = go (q .yes?) refl e (first-no-among qs n)
-  where
-    go : (b : Bool) → q .yes? ≡ b → cond b (firstNo qs) (q .number) ≡ suc n → (firstNo qs ≡ suc n → 1 ≤ copies (suc n) (numbersOf qs)) → 1 ≤ matches (suc n) (q .number) + copies (suc n) (numbersOf qs)
-    go true y e ih = omega (arith, ih e)
-    go false y e ih = omega (arith, ap (matches (suc n)) e, matches-same (suc n))
-
-step-refusal : (H : Hall) (st : State) (c : Call) (n : ℕ) → firstNo (questions H st c) ≡ suc n → 1 ≤ copies (suc n) (refusals c)
-unfolding numbersOf
-step-refusal H st (Take d c p) n e = omega (arith, first-no-among (questions H st (Take d c p)) n e)
-step-refusal H st (Drop d c) n e = omega (arith, first-no-among (questions H st (Drop d c)) n e)
-step-refusal H st (Swap d p v) n e = omega (arith, first-no-among (questions H st (Swap d p v)) n e)
-step-refusal H st (Retire d) n e = omega (arith, first-no-among (questions H st (Retire d)) n e)
-step-refusal H st (Collect d) n e = omega (arith, first-no-among (questions H st (Collect d)) n e)
-
--- and 5 is none of them
-not-five : (H : Hall) (st : State) (c : Call) → firstNo (questions H st c) ≡ 5 → ⊥
-unfolding numbersOf
-not-five H st (Take d c p) e = omega (arith, first-no-among (questions H st (Take d c p)) 4 e)
-not-five H st (Drop d c) e = omega (arith, first-no-among (questions H st (Drop d c)) 4 e)
-not-five H st (Swap d p v) e = omega (arith, first-no-among (questions H st (Swap d p v)) 4 e)
-not-five H st (Retire d) e = omega (arith, first-no-among (questions H st (Retire d)) 4 e)
-not-five H st (Collect d) e = omega (arith, first-no-among (questions H st (Collect d)) 4 e)
-
-unsound-refusal : (c : Call) → 1 ≤ copies 5 (refusals c)
-unsound-refusal (Take d c p) = omega arith
-unsound-refusal (Drop d c) = omega arith
-unsound-refusal (Swap d p v) = omega arith
-unsound-refusal (Retire d) = omega arith
-unsound-refusal (Collect d) = omega arith
-
-opening-refusal : (H : Hall) (t : List ℕ) (n : ℕ) → firstNo (openQuestions H t) ≡ suc n → 1 ≤ copies (suc n) (1 ∷ 2 ∷ 3 ∷ 4 ∷ [])
-unfolding numbersOf
-opening-refusal H t n e = omega (arith, first-no-among (openQuestions H t) n e)
+use Rattle.rules.specs.laws.SoundTables.{desk-sound, encoded, known-opens, valid}
+use Rattle.rules.specs.laws.TableSteps.{Known, accepted-step, asked, desk-word, known, owed-word, record-sound, refused-step}
+use Rattle.rules.specs.laws.Tables.{Opens, Valid, hall-opens, is-sound, length-encoded, some-screens, sound-table, valid-step}
+use Rattle.rules.specs.laws.Words16.{by-open, by-step, first-no-is-asked, open-length, step-length, step-refused}
 
 -- ---- One record replaced: the words outside it, and those inside.
 get-past : (a b : List ℕ) (i : ℕ) → length a ≤ i → getD (a ++ b) i 0 ≡ getD b (i - length a) 0
@@ -159,16 +117,7 @@ or-no true b e = let z : _≡_ {A = ℕ} 0 1 = cc in absurd (omega arith)
 or-no false b e = (refl, e)
 
 -- ---- An accepted step on a sound table of 16-bit words.
-module _ (t : List ℕ) (small : (i : ℕ) → getD t i 0 < 65536) (s : sound t ≡ true) where
-  abbrev H : Hall
-  H = hallIn t
-
-  abbrev st : State
-  st = decode (hallIn t) t
-
-  abbrev S : ℕ
-  S = allScreens (hallIn t)
-
+module _ (t : List ℕ) (small : Words16 t) (s : sound t ≡ true) where
   k : Known t
   k = known t s
 
@@ -176,20 +125,11 @@ module _ (t : List ℕ) (small : (i : ℕ) → getD t i 0 < 65536) (s : sound t 
   v = valid t (known t s)
 
   ok : Opens (hallIn t)
-  ok = record { desks = k .desks; screens = k .screens; positions = k .positions }
+  ok = known-opens t k
 
   module _ (d : ℕ) (r : (1 ≤ d) × (d ≤ hallIn t .desks)) where
-    a : ℕ
-    a = recordStart (hallIn t) d
-
     fits : recordStart (hallIn t) d + recordWidth (hallIn t) ≤ length t
     fits = let m : suc (d - 1) * recordWidth (hallIn t) ≤ hallIn t .desks * recordWidth (hallIn t) = mul-le-mul-right (recordWidth (hallIn t)) (omega arith) in omega (arith, k .long)
-
-    words : List ℕ
-    words = recordOf (hallIn t) t d
-
-    D : Desk
-    D = decodeDesk (recordOf (hallIn t) t d)
 
     wide : length (recordOf (hallIn t) t d) ≡ 13 + 2 * allScreens (hallIn t)
     wide = length-take-le (recordWidth (hallIn t)) (drop (recordStart (hallIn t) d) t) (omega (arith, fits, length-drop (recordStart (hallIn t) d) t))
@@ -279,44 +219,29 @@ module _ (t : List ℕ) (small : (i : ℕ) → getD t i 0 < 65536) (s : sound t 
   after-valid : (c : Call) → asked t c ≡ 0 → Valid (hallIn t) (perform (hallIn t) (decode (hallIn t) t) c .after)
   after-valid c e = subst (λ (r : Done). Valid (hallIn t) (r .after)) (ap (λ (n : ℕ). decide n (decode (hallIn t) t) (perform (hallIn t) (decode (hallIn t) t) c)) e) (valid-step (hallIn t) ok (decode (hallIn t) t) c v)
 
-  written-length : (c : Call) → asked t c ≡ 0 → length (written t c) ≡ length t
-  written-length c e =
-      let st : State = perform (hallIn t) (decode (hallIn t) t) c .after in
-      omega (arith, ap length (encoded t c small s e), length-append (encode (hallIn t) st) (drop (need (hallIn t)) t), length-table (hallIn t) ok st (after-valid c e) (drop (need (hallIn t)) t), length-drop (need (hallIn t)) t, k .long)
-
   written-sound : (c : Call) → asked t c ≡ 0 → sound (written t c) ≡ true
   written-sound c e = rw (encoded t c small s e) (is-sound (hallIn t) ok (perform (hallIn t) (decode (hallIn t) t) c .after) (after-valid c e) (drop (need (hallIn t)) t))
 
 -- ---- Every step.
-pub demand1 : (t : List ℕ) → ((i : ℕ) → getD t i 0 < 65536) → (c : Call) → Demand1 t c
-demand1 t small c = at (sound t) refl
-  where
-    -- the step on an unsound table, a refused one and an accepted one
-    Holds : TableDone → Type 0
-    Holds done =
-        ((n : ℕ) → done .answer .number ≡ suc n → (1 ≤ copies (suc n) (refusals c)) × (done .answer .session ≡ 0) × (done .after ≡ t))
-        × (done .answer .number ≡ 0 → (i : ℕ) → names t c i ≡ false → getD (done .after) i 0 ≡ getD t i 0)
-        × (length (done .after) ≡ length t)
-        × (sound t ≡ true → sound (done .after) ≡ true)
+pub demand1 : (t : List ℕ) → Words16 t → (c : Call) → Demand1 t c
+demand1 t small c =
+    record {
+      refused = step-refused t c;
+      accepted =
+          by-step (λ r. r .answer .number ≡ 0 → (i : ℕ) → names t c i ≡ false → getD (r .after) i 0 ≡ getD t i 0) t c
+          (λ q. absurd (omega arith)) (λ n a q. absurd (omega arith)) (λ s a q. written-keeps t small s c a);
+      sameLength = step-length t c small;
+      staysSound = by-step (λ r. sound t ≡ true → sound (r .after) ≡ true) t c (λ q. q) (λ n a q. q) (λ s a q. written-sound t small s c a);
+    }
 
-    whole : Holds (stepTable t c) → Demand1 t c
-    whole h = record { refused = h .0; accepted = h .1; sameLength = h .2; staysSound = h .3 }
+-- ---- A list of steps on tables that are sound: 5 is no question's number.
+not-five : (H : Hall) (st : State) (c : Call) → firstNo (questions H st c) ≡ 5 → ⊥
+not-five H st (Take d c p) e = omega (arith, first-no-is-asked (questions H st (Take d c p)) 4 e)
+not-five H st (Drop d c) e = omega (arith, first-no-is-asked (questions H st (Drop d c)) 4 e)
+not-five H st (Swap d p v) e = omega (arith, first-no-is-asked (questions H st (Swap d p v)) 4 e)
+not-five H st (Retire d) e = omega (arith, first-no-is-asked (questions H st (Retire d)) 4 e)
+not-five H st (Collect d) e = omega (arith, first-no-is-asked (questions H st (Collect d)) 4 e)
 
-    at : (b : Bool) → sound t ≡ b → Demand1 t c
-    at false e =
-        whole (subst Holds (sym (unsound-step t c e))
-        ((λ n q. (omega (arith, unsound-refusal c, ap (λ (m : ℕ). copies m (refusals c)) q), refl, refl)), (λ q. absurd (omega arith)), refl, (λ q. q)))
-    at true e = by (asked t c) refl
-      where
-        by : (m : ℕ) → asked t c ≡ m → Demand1 t c
-        by zero a =
-            whole (subst Holds (sym (accepted-step t c e a))
-            ((λ n q. absurd (omega arith)), (λ q. written-keeps t small e c a), written-length t small e c a, (λ q. written-sound t small e c a)))
-        by (suc m) a =
-            whole (subst Holds (sym (refused-step t c m e a))
-            ((λ n q. (omega (arith, step-refusal (hallIn t) (decode (hallIn t) t) c m a, ap (λ (x : ℕ). copies x (refusals c)) q), refl, refl)), (λ q. absurd (omega arith)), refl, (λ q. q)))
-
--- ---- A list of steps on tables that are sound.
 never-five-step : (t : List ℕ) (c : Call) → sound t ≡ true → stepTable t c .answer .number ≡ 5 → ⊥
 never-five-step t c s e = go (asked t c) refl
   where
@@ -330,27 +255,22 @@ never-five (c ∷ cs) t s zero e = never-five-step t c (s 0) e
 never-five (c ∷ cs) t s (suc i) e = never-five cs (stepTable t c .after) (λ j. s (suc j)) i e
 
 -- ---- Every opening.
+opened-past : (H : Hall) (t : List ℕ) (i : ℕ) → need H ≤ i → getD (openedTable H t) i 0 ≡ getD t i 0
+opened-past H t i h =
+    let front : List ℕ = H .desks ∷ H .screens ∷ H .positions ∷ replicate (need H - 3) 0 in
+    let lf : length front ≡ need H = omega (arith, length-replicate {A = ℕ} (need H - 3) 0) in
+    let e : need H + (i - length front) ≡ i = omega (arith, lf) in
+    get-past front (drop (need H) t) i (omega (arith, lf)) ∙ getD-drop (need H) t (i - length front) 0 ∙ ap (λ (n : ℕ). getD t n 0) e
+
 pub opening-demand1 : (H : Hall) (t : List ℕ) → OpeningDemand1 H t
-opening-demand1 H t = by (firstNo (openQuestions H t)) refl
-  where
-    Holds : TableDone → Type 0
-    Holds done =
-        ((n : ℕ) → done .answer .number ≡ suc n → (1 ≤ copies (suc n) (1 ∷ 2 ∷ 3 ∷ 4 ∷ [])) × (done .answer .session ≡ 0) × (done .after ≡ t))
-        × (done .answer .number ≡ 0 → (i : ℕ) → need H ≤ i → getD (done .after) i 0 ≡ getD t i 0)
-        × (length (done .after) ≡ length t)
-        × (done .answer .number ≡ 0 → sound (done .after) ≡ true)
-
-    whole : Holds (openTable H t) → OpeningDemand1 H t
-    whole h = record { refused = h .0; accepted = h .1; sameLength = h .2; staysSound = h .3 }
-
-    by : (m : ℕ) → firstNo (openQuestions H t) ≡ m → OpeningDemand1 H t
-    by zero a =
-        let o = hall-opens H t a in
-        let front : List ℕ = H .desks ∷ H .screens ∷ H .positions ∷ replicate (need H - 3) 0 in
-        let lf : length front ≡ need H = omega (arith, length-replicate {A = ℕ} (need H - 3) 0) in
-        let past : (i : ℕ) → need H ≤ i → getD (openedTable H t) i 0 ≡ getD t i 0 = (λ i h. get-past front (drop (need H) t) i (omega (arith, lf)) ∙ getD-drop (need H) t (i - length front) 0 ∙ (let e : need H + (i - length front) ≡ i = omega (arith, lf) in ap (λ (n : ℕ). getD t n 0) e)) in
-        whole (subst Holds (sym (accepted-open H t a))
-        ((λ n q. absurd (omega arith)), (λ q. past), omega (arith, length-append front (drop (need H) t), length-drop (need H) t, lf, o .1), (λ q. sound-table H (o .0) t [])))
-    by (suc m) a =
-        whole (subst Holds (sym (refused-open H t m a))
-        ((λ n q. (omega (arith, opening-refusal H t m a, ap (λ (x : ℕ). copies x (1 ∷ 2 ∷ 3 ∷ 4 ∷ [])) q), refl, refl)), (λ q. absurd (omega arith)), refl, (λ q. absurd (omega arith))))
+opening-demand1 H t =
+    record {
+      refused =
+          by-open (λ r. (n : ℕ) → r .answer .number ≡ suc n → (1 ≤ copies (suc n) (1 ∷ 2 ∷ 3 ∷ 4 ∷ [])) × (r .answer .session ≡ 0) × (r .after ≡ t)) H t
+          (λ m a n q. (first-no-is-asked (openQuestions H t) n (a ∙ q), refl, refl)) (λ a n q. absurd (omega arith));
+      accepted =
+          by-open (λ r. r .answer .number ≡ 0 → (i : ℕ) → need H ≤ i → getD (r .after) i 0 ≡ getD t i 0) H t
+          (λ m a q. absurd (omega arith)) (λ a q. opened-past H t);
+      sameLength = open-length H t;
+      staysSound = by-open (λ r. r .answer .number ≡ 0 → sound (r .after) ≡ true) H t (λ m a q. absurd (omega arith)) (λ a q. sound-table H (hall-opens H t a .0) t []);
+    }

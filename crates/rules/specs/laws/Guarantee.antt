@@ -10,7 +10,7 @@ use Rattle.rules.specs.Hall.{Hall, State, allScreens, deskOf, fresh, scr
 use Rattle.rules.specs.History.{Deed, collects, deedAt, drops, handsBack, lacksRoom, nothing, retires, swaps, takes}
 use Rattle.rules.specs.Steps.{Call, end, run, step}
 use Rattle.rules.specs.laws.Fresh.{fresh-copies, fresh-formed, fresh-sound}
-use Rattle.rules.specs.laws.Links.{Agrees, Range, link, unlinked}
+use Rattle.rules.specs.laws.Links.{Range, ScreensAgree, link, unlinked}
 use Rattle.rules.specs.laws.Pairing.{Good, Guard, calm-run, guard-run, sane-run}
 
 -- past the end nothing is done
@@ -28,7 +28,7 @@ module _ (H : Hall) (some : 1 ≤ allScreens H) (cs : List Call) where
   abbrev f : ℕ → Deed
   f = deedAt (run H (fresh H) cs)
 
-  agree0 : Agrees H f 0 (fresh H)
+  agree0 : ScreensAgree H f 0 (fresh H)
   agree0 x h = getD-replicate (allScreens H) x 0 0 h
 
   start : (i : ℕ) → f (0 + i) ≡ f i

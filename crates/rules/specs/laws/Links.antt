@@ -160,8 +160,8 @@ Range H (collects d) = (1 ≤ d) × (d ≤ H .desks)
 Range H (handsBack d s) = (1 ≤ d) × (d ≤ H .desks) × (s ≡ 0 → ⊥)
 Range H nothing = Unit {0}
 
-abbrev pub Agrees : Hall → (ℕ → Deed) → ℕ → State → Type 0
-Agrees H f n st = (x : ℕ) → x < allScreens H → Agree f (st .held) (st .desks) (getD (st .shown) x 0) (link H f x n)
+abbrev pub ScreensAgree : Hall → (ℕ → Deed) → ℕ → State → Type 0
+ScreensAgree H f n st = (x : ℕ) → x < allScreens H → Agree f (st .held) (st .desks) (getD (st .shown) x 0) (link H f x n)
 
 module _ (H : Hall) (st : State) (formed : Formed H st) where
   pub take-facts : (d c p : ℕ) → firstNo (questions H st (Take d c p)) ≡ 0 → (1 ≤ d) × (d ≤ H .desks) × (1 ≤ c) × (c ≤ H .screens) × (1 ≤ p) × (getD (st .shown) (screenIndex H d c) 0 ≡ 0) × (getD (st .held) (p - 1) 0 ≡ 0 → ⊥)
@@ -235,13 +235,13 @@ module _ (H : Hall) (st : State) (formed : Formed H st) where
       go (suc m) (Retire d) e = full d (suc m) (eqb (suc m) 14) e refl
       go (suc m) (Collect d) e = tt
 
-  module _ (f : ℕ → Deed) (n : ℕ) (ag : Agrees H f n st) where
+  module _ (f : ℕ → Deed) (n : ℕ) (ag : ScreensAgree H f n st) where
     back-agree : (x : ℕ) → x < allScreens H → (d s : ℕ) (b : Bool) → (1 ≤ d) × (d ≤ H .desks) → f n ≡ cond b (collects d) (handsBack d s)
         → Agree f (st .held) (set (st .desks) (d - 1) (collect (allScreens H) (st .shown) (deskOf st d) .after)) (getD (st .shown) x 0) (link H f x (suc n))
     back-agree x hx d s true a q = rw q (collect-agree f (st .held) (st .desks) (getD (st .shown) x 0) d (allScreens H) (st .shown) (link H f x n) (a .0) (omega (arith, formed .desks, a .1)) (ag x hx))
     back-agree x hx d s false a q = rw q (collect-agree f (st .held) (st .desks) (getD (st .shown) x 0) d (allScreens H) (st .shown) (link H f x n) (a .0) (omega (arith, formed .desks, a .1)) (ag x hx))
 
-    pub agree-step : (c : Call) → f n ≡ deed c (step H st c .answer .number) (step H st c .answer .session) → Agrees H f (suc n) (step H st c .after)
+    pub agree-step : (c : Call) → f n ≡ deed c (step H st c .answer .number) (step H st c .answer .session) → ScreensAgree H f (suc n) (step H st c .after)
     agree-step c q x hx = go (firstNo (questions H st c)) c refl q
       where
         full : (d : ℕ) (b : Bool) → f n ≡ cond b (lacksRoom d) nothing → Agree f (st .held) (st .desks) (getD (st .shown) x 0) (link H f x (suc n))

@@ -13,7 +13,7 @@ use Rattle.rules.specs.History.{Deed, DroppedBefore, Linked, collects, c
 use Rattle.rules.specs.Steps.{Call, begin, collect, end, owe, retire, run, step}
 use Rattle.rules.specs.laws.Collect.{Orderly, beforeHandBack, begin-keeps}
 use Rattle.rules.specs.laws.Effect.{Effect, Formed, effect, formed-step}
-use Rattle.rules.specs.laws.Links.{Agrees, Link, Range, agree-step, beforeRetire, beforeSwap, calm-step, link, linkedTo, range-step, unlinked}
+use Rattle.rules.specs.laws.Links.{Link, Range, ScreensAgree, agree-step, beforeRetire, beforeSwap, calm-step, link, linkedTo, range-step, unlinked}
 use Rattle.rules.specs.laws.Lists.{copies-append, matches, matches-at-most-one, matches-other, matches-same}
 use Rattle.rules.specs.laws.OwnDeeds.{own-handed, own-hands-back, own-retires}
 use Rattle.rules.specs.laws.Runs.{sound-step}
@@ -195,7 +195,7 @@ shift f a b e = ap f e
 
 -- One call.
 module _ (H : Hall) (f : ℕ → Deed) (sane : (m : ℕ) → Range H (f m)) (calm : (i x c p v : ℕ) → f i ≡ takes x c p v → link H f (screenIndex H x c) i ≡ unlinked) (hS : 1 ≤ allScreens H) (d s : ℕ) (hd : 1 ≤ d) (hs : s ≡ 0 → ⊥) where
-  guard-step : (n : ℕ) (st : State) (c : Call) → Formed H st → Orderly (allScreens H) (deskOf st d) → Agrees H f n st → f n ≡ deed c (step H st c .answer .number) (step H st c .answer .session)
+  guard-step : (n : ℕ) (st : State) (c : Call) → Formed H st → Orderly (allScreens H) (deskOf st d) → ScreensAgree H f n st → f n ≡ deed c (step H st c .answer .number) (step H st c .answer .session)
       → Guard H f d s n (deskOf st d) → Guard H f d s (suc n) (deskOf (step H st c .after) d)
   guard-step n st c formed ok ag q g = go (own d (f n)) refl (subst (λ (D : Deed). Effect (allScreens H) (st .shown) (deskOf st d) (deskOf (step H st c .after) d) (own d D)) (sym q) (effect H st d formed hd c))
     where
@@ -251,7 +251,7 @@ module _ (H : Hall) (f : ℕ → Deed) (sane : (m : ℕ) → Range H (f m)) (cal
       go nothing o e = same-list nothing o (λ t. let z : _≡_ {A = ℕ} 0 1 = cc in omega arith) (e .owed) (e .after)
 
   -- A list of calls: the list of events stands in f from place n on.
-  pub guard-run : (cs : List Call) (st : State) (n : ℕ) → ((i : ℕ) → f (n + i) ≡ deedAt (run H st cs) i) → Formed H st → Sound (allScreens H) (deskOf st d) → Agrees H f n st
+  pub guard-run : (cs : List Call) (st : State) (n : ℕ) → ((i : ℕ) → f (n + i) ≡ deedAt (run H st cs) i) → Formed H st → Sound (allScreens H) (deskOf st d) → ScreensAgree H f n st
       → Guard H f d s n (deskOf st d) → Guard H f d s (n + length cs) (deskOf (end H st cs) d)
   guard-run [] st n sh formed ok ag g = subst (λ (m : ℕ). Guard H f d s m (deskOf st d)) (omega arith) g
   guard-run (c ∷ cs) st n sh formed ok ag g =
@@ -265,7 +265,7 @@ sane-run H [] st formed m = tt
 sane-run H (c ∷ cs) st formed zero = range-step H st formed c
 sane-run H (c ∷ cs) st formed (suc m) = sane-run H cs (step H st c .after) (formed-step H st 1 formed (omega arith) c) m
 
-pub calm-run : (H : Hall) (f : ℕ → Deed) (cs : List Call) (st : State) (n : ℕ) → ((i : ℕ) → f (n + i) ≡ deedAt (run H st cs) i) → Formed H st → Agrees H f n st → (m x c p v : ℕ) → f (n + m) ≡ takes x c p v → link H f (screenIndex H x c) (n + m) ≡ unlinked
+pub calm-run : (H : Hall) (f : ℕ → Deed) (cs : List Call) (st : State) (n : ℕ) → ((i : ℕ) → f (n + i) ≡ deedAt (run H st cs) i) → Formed H st → ScreensAgree H f n st → (m x c p v : ℕ) → f (n + m) ≡ takes x c p v → link H f (screenIndex H x c) (n + m) ≡ unlinked
 calm-run H f [] st n sh formed ag m x y p v t = let k : nothing ≡ takes x y p v = sym (sh m) ∙ t in let z : _≡_ {A = ℕ} 0 1 = cc in absurd (omega arith)
 calm-run H f (c ∷ cs) st n sh formed ag zero x y p v t =
     let e : n ≡ n + 0 = omega arith in

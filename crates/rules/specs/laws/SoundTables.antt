@@ -18,7 +18,7 @@ use Rattle.rules.specs.laws.Lists.{matches, matches-other}
 use Rattle.rules.specs.laws.Marks.{markCount}
 use Rattle.rules.specs.laws.Sound.{ScanFits, Sound, copies-list, ones-append}
 use Rattle.rules.specs.laws.TableSteps.{Known, asked, known}
-use Rattle.rules.specs.laws.Tables.{All, Valid, writes-is}
+use Rattle.rules.specs.laws.Tables.{All, Opens, Valid, writes-is}
 
 real-cnt : (l : List ℕ) → every (λ x. not (eqb x 0)) l ≡ true → copies 0 l ≡ 0
 real-cnt [] h = refl
@@ -80,6 +80,9 @@ length-records : (n w : ℕ) (x : List ℕ) → length (pieces n w x) ≡ n
 length-records zero w x = refl
 length-records (suc n) w x = ap suc (length-records n w (drop w x))
 
+pub known-opens : (t : List ℕ) → Known t → Opens (hallIn t)
+known-opens t k = record { desks = k .desks; screens = k .screens; positions = k .positions }
+
 pub valid : (t : List ℕ) → Known t → Valid (hallIn t) (decode (hallIn t) t)
 valid t k =
     let H : Hall = hallIn t in
@@ -97,4 +100,4 @@ valid t k =
 pub encoded : (t : List ℕ) (c : Call) → ((i : ℕ) → getD t i 0 < 65536) → sound t ≡ true → asked t c ≡ 0 → written t c ≡ encode (hallIn t) (perform (hallIn t) (decode (hallIn t) t) c .after) ++ drop (need (hallIn t)) t
 encoded t c sm h q =
     let k = known t h in
-    ap (λ (x : List ℕ). written x c) (sym (same-table t sm h)) ∙ writes-is (hallIn t) (record { desks = k .desks; screens = k .screens; positions = k .positions }) (decode (hallIn t) t) (valid t k) (drop (need (hallIn t)) t) c q
+    ap (λ (x : List ℕ). written x c) (sym (same-table t sm h)) ∙ writes-is (hallIn t) (known-opens t k) (decode (hallIn t) t) (valid t k) (drop (need (hallIn t)) t) c q

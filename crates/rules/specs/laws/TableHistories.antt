@@ -7,10 +7,8 @@ use mathlib.Core.Bool.{cond, Bool, true, false}
 use mathlib.Core.List.{List, [], _++_}
 use lib.ListN.{length, take, drop, replicate}
 use lib.Seq.{take-at}
-use lib.Dec.{leb}
-use borrow.Author.Tests.{leb-true}
 use Rattle.rules.specs.Demands.{BackWithin, Demand2, Demand3, countsOfDesk, exactBound, listOfDesk}
-use Rattle.rules.specs.Hall.{Desk, Hall, allScreens, deskOf, fresh, mostDesks, mostPositions, mostScreens, usedPlaces}
+use Rattle.rules.specs.Hall.{Desk, Hall, allScreens, deskOf, fresh, usedPlaces}
 use Rattle.rules.specs.History.{copies, handBacks, handBacksOf, isHandBack, isHandBackOf, isRetirement, isRetirementOf, retirements, retirementsOf}
 use Rattle.rules.specs.Steps.{Call, Event, end, firstNo, inRange, run}
 use Rattle.rules.specs.Table.{encode, encodeDesk, endTable, listIn, listOf, need, openIf, openQuestions, openTable, openedTable, recordOf, runTable, usedIn}
@@ -19,7 +17,6 @@ use Rattle.rules.specs.laws.Demand3.{back-in-time, list-bound, never-lac
 use Rattle.rules.specs.laws.Effect.{in-range, out-of-range}
 use Rattle.rules.specs.laws.Fresh.{fresh-copies, fresh-formed, fresh-sound}
 use Rattle.rules.specs.laws.Guarantee.{guaranteed}
-use Rattle.rules.specs.laws.Links.{holds}
 use Rattle.rules.specs.laws.Runs.{copies-run, sound-run}
 use Rattle.rules.specs.laws.Session.{same-session}
 use Rattle.rules.specs.laws.Sound.{copies-list, length-list}
@@ -34,15 +31,6 @@ opening-asks H t ok = go (firstNo (openQuestions H t)) refl ok
     go : (n : ℕ) → firstNo (openQuestions H t) ≡ n → openIf n H t .answer .number ≡ 0 → (firstNo (openQuestions H t) ≡ 0) × (openIf n H t .after ≡ openedTable H t)
     go zero e z = (e, refl)
     go (suc n) e z = absurd (omega arith)
-
-pub hall-opens : (H : Hall) (t : List ℕ) → firstNo (openQuestions H t) ≡ 0 → Opens H × (need H ≤ length t)
-hall-opens H t e =
-    let y1 = holds (inRange (H .desks) mostDesks) _ 0 e in
-    let y2 = holds (inRange (H .screens) mostScreens) _ 1 (y1 .1) in
-    let y3 = holds (inRange (H .positions) mostPositions) _ 2 (y2 .1) in
-    let y4 = holds (leb (need H) (length t)) _ 3 (y3 .1) in
-    (record { desks = in-range (H .desks) mostDesks (y1 .0); screens = in-range (H .screens) mostScreens (y2 .0); positions = in-range (H .positions) mostPositions (y3 .0) },
-    leb-true (need H) (length t) (y4 .0))
 
 -- ---- A desk's list and counts, as they stand in its record.
 counts-encoded : (S : ℕ) (D : Desk) → usedIn (encodeDesk S D) ≡ usedPlaces D

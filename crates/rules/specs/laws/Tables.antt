@@ -8,10 +8,10 @@ use mathlib.Core.List.{List, [], _∷_, _++_, map, append-assoc}
 use lib.ListN.{length, getD, take, drop, set, replicate, length-append, length-replicate, length-set, replicate-append-replicate}
 use lib.Seq.{take-at, drop-at}
 use lib.Dec.{leb, ltb, eqb, eqb·suc-zero}
-use borrow.Author.Tests.{le-leb, eqb-false, ltb-true, not-true}
+use borrow.Author.Tests.{le-leb, eqb-false, ltb-true, not-true, leb-true}
 use Rattle.rules.specs.Hall.{Desk, Hall, State, allScreens, deskOf, emptyDesk, fresh, mostDesks, mostPositions, mostScreens, screenIndex, usedPlaces, withDesk, withHeld, withShown}
 use Rattle.rules.specs.Steps.{Call, Collect, Drop, Event, Retire, Swap, Take, collect, decide, end, firstNo, inRange, owe, perform, questions, retire, run, step}
-use Rattle.rules.specs.Table.{TableDone, decode, decodeDesk, encode, encodeDesk, endTable, everyRecord, joined, listOf, need, openedTable, pieces, positionWord, putRecord, recordOf, recordSound, recordStart, recordWidth, recordsIn, runTable, screenWord, sound, stepIf, stepTable, written}
+use Rattle.rules.specs.Table.{TableDone, decode, decodeDesk, encode, encodeDesk, endTable, everyRecord, joined, listOf, need, openQuestions, openedTable, pieces, positionWord, putRecord, recordOf, recordSound, recordStart, recordWidth, recordsIn, runTable, screenWord, sound, stepIf, stepTable, written}
 use Rattle.rules.specs.laws.Effect.{Formed, formed-step, in-range, yes3}
 use Rattle.rules.specs.laws.Encoding.{desk-read-back}
 use Rattle.rules.specs.laws.Links.{holds}
@@ -29,7 +29,7 @@ abbrev pub All : (Desk → Type 0) → List Desk → Type 0
 All P [] = Unit {0}
 All P (x ∷ xs) = P x × All P xs
 
-all-get : (P : Desk → Type 0) (xs : List Desk) (i : ℕ) (z : Desk) → P z → All P xs → P (getD xs i z)
+pub all-get : (P : Desk → Type 0) (xs : List Desk) (i : ℕ) (z : Desk) → P z → All P xs → P (getD xs i z)
 all-get P [] i z pz h = pz
 all-get P (x ∷ xs) zero z pz h = h .0
 all-get P (x ∷ xs) (suc i) z pz h = all-get P xs i z pz (h .1)
@@ -48,7 +48,7 @@ pub record Valid (H : Hall) (st : State) : Type 0 where
   pub held : length (st .held) ≡ H .positions
   pub desks : All (Sound (allScreens H)) (st .desks)
 
-clear-sound : (S : ℕ) → Sound S emptyDesk
+pub clear-sound : (S : ℕ) → Sound S emptyDesk
 clear-sound S = record { total = omega arith; real = refl; pass = refl }
 
 module _ (H : Hall) (opens : Opens H) where
@@ -300,3 +300,13 @@ module _ (H : Hall) (opens : Opens H) where
   -- The table stays sound: no step from an opening on is answered 5.
   pub sound-table : (t : List ℕ) (cs : List Call) → sound (endTable (openedTable H t) cs) ≡ true
   sound-table t cs = rw (is-open t, is-end cs (fresh H) fresh-valid (drop (need H) t)) (is-sound (end H (fresh H) cs) (valid-end cs (fresh H) fresh-valid) (drop (need H) t))
+
+-- What an accepted opening asked of its hall and its table.
+pub hall-opens : (H : Hall) (t : List ℕ) → firstNo (openQuestions H t) ≡ 0 → Opens H × (need H ≤ length t)
+hall-opens H t e =
+    let y1 = holds (inRange (H .desks) mostDesks) _ 0 e in
+    let y2 = holds (inRange (H .screens) mostScreens) _ 1 (y1 .1) in
+    let y3 = holds (inRange (H .positions) mostPositions) _ 2 (y2 .1) in
+    let y4 = holds (leb (need H) (length t)) _ 3 (y3 .1) in
+    (record { desks = in-range (H .desks) mostDesks (y1 .0); screens = in-range (H .screens) mostScreens (y2 .0); positions = in-range (H .positions) mostPositions (y3 .0) },
+    leb-true (need H) (length t) (y4 .0))

@@ -14,7 +14,7 @@ use Rattle.rules.specs.Hall.{Desk, Hall, State, TestedPlace, allScreens,
 use Rattle.rules.specs.History.{Deed, collects, copies, drops, handsBack, lacksRoom, nothing, retires, swaps, takes}
 use Rattle.rules.specs.Steps.{begin, beginAt, handBack, mark, markEach, markedOf, nextScreens, readScreens, scan, settle, settleIf, unmarkedOf}
 use Rattle.rules.specs.laws.Collect.{Scanning, by-scan, copiesOn}
-use Rattle.rules.specs.laws.Links.{Agree, Agrees, Link, beforeRetire, beforeSwap, link, linkedTo, next, unlinked}
+use Rattle.rules.specs.laws.Links.{Agree, Link, ScreensAgree, beforeRetire, beforeSwap, link, linkedTo, next, unlinked}
 use Rattle.rules.specs.laws.Lists.{copies-append, matches, matches-at-most-one, matches-other, matches-same}
 use Rattle.rules.specs.laws.Marks.{tested-copies-begin, tested-copies-mark, tested-copies-mark-each, testedCopies}
 
@@ -116,7 +116,7 @@ module _ (H : Hall) (f : ℕ → Deed) (n : ℕ) where
   tally-start k us e = rw e (tally-none us)
 
   -- One screen more: no more than one retirement more, and none unless the screen shows s.
-  low-step : (d s : ℕ) (st : State) → Agrees H f n st → (us : List ℕ) → ((r : ℕ) → copies r us ≤ 1) → ((r : ℕ) → 1 ≤ copies r us → f r ≡ retires d s) → (k : ℕ) → k < allScreens H
+  low-step : (d s : ℕ) (st : State) → ScreensAgree H f n st → (us : List ℕ) → ((r : ℕ) → copies r us ≤ 1) → ((r : ℕ) → 1 ≤ copies r us → f r ≡ retires d s) → (k : ℕ) → k < allScreens H
       → tally (live H f n (suc k)) us ≤ tally (live H f n k) us + matches s (getD (st .shown) k 0)
   low-step d s st ag us one mine k h = omega (arith, tally-max (live H f n k) (λ r. ties r (link H f k n)) us, go (link H f k n) (ag k h))
     where
@@ -225,7 +225,7 @@ module _ (H : Hall) (f : ℕ → Deed) (d s n : ℕ) (count : ℕ → ℕ) where
       go (p ∷ ps) e g = t
 
   -- (b) and (c)
-  pub pass-tokens : (st : State) → Agrees H f n st → ((r : ℕ) → count r ≤ 1) → ((r : ℕ) → 1 ≤ count r → f r ≡ retires d s) → 1 ≤ allScreens H → length (st .shown) ≡ allScreens H → (A : Desk) → Scanning (allScreens H) (A .scanned) (A .tested) → Tokens H f s n A count → Tokens H f s n (settle (allScreens H) (scan (st .shown) A)) count
+  pub pass-tokens : (st : State) → ScreensAgree H f n st → ((r : ℕ) → count r ≤ 1) → ((r : ℕ) → 1 ≤ count r → f r ≡ retires d s) → 1 ≤ allScreens H → length (st .shown) ≡ allScreens H → (A : Desk) → Scanning (allScreens H) (A .scanned) (A .tested) → Tokens H f s n A count → Tokens H f s n (settle (allScreens H) (scan (st .shown) A)) count
   pass-tokens st ag one mine hS hl A g t = by-scan (λ (X : Desk). Tokens H f s n X count) (allScreens H) (st .shown) A hS hl g (λ e. t) on over
     where
       read : A .scanned ≤ allScreens H → tally (live H f n (A .scanned + length (nextScreens (st .shown) A))) (t .old) ≤ copies s (markedOf (markEach (nextScreens (st .shown) A) (A .tested)))

@@ -1,0 +1,185 @@
+-- The calls as the host makes them, on bytes: each agrees with the call on the words in them; demand 1 on bytes.
+use Prim.Native.Nat.{ℕ, zero, suc, _+_, _*_, _-_, _/_, _%_, _≤_, _<_}
+use native.Mathlib.Omega.{arith}
+use mathlib.Core.Path.{_≡_, refl, sym, ap, subst, _∙_}
+use mathlib.Core.Bool.{false}
+use mathlib.Core.List.{List, [], _∷_, _++_}
+use lib.ListN.{length, getD, drop, length-append, length-drop}
+use lib.Seq.{drop-at, getD-drop}
+use Rattle.rules.specs.Bytes.{Agrees, Call16, Calls16, IsBytes, Words16, answerOf, bytesOfWords, endBytes, laidOver, onBytes, openBytes, reply, runBytes, stepBytes, wordsOfBytes}
+use Rattle.rules.specs.Demands.{BytesDemand1, names}
+use Rattle.rules.specs.Hall.{Hall}
+use Rattle.rules.specs.Steps.{Answer, Call}
+use Rattle.rules.specs.Table.{TableDone, endTable, openTable, runTable, stepTable}
+use Rattle.rules.specs.laws.Words16.{below-append, open-length, open-session, open-words, step-length, step-refused, step-session, step-words}
+
+-- ---- Words and bytes.
+pub words-length : (bytes : List ℕ) → (2 * length (wordsOfBytes bytes) ≤ length bytes) × (length bytes ≤ 2 * length (wordsOfBytes bytes) + 1)
+words-length [] = (omega arith, omega arith)
+words-length (low ∷ []) = (omega arith, omega arith)
+words-length (low ∷ high ∷ bytes) = (omega (arith, words-length bytes), omega (arith, words-length bytes))
+
+pub bytes-length : (words : List ℕ) → length (bytesOfWords words) ≡ 2 * length words
+bytes-length [] = omega arith
+bytes-length (word ∷ words) = omega (arith, bytes-length words)
+
+pub words-are-16 : (bytes : List ℕ) → IsBytes bytes → Words16 (wordsOfBytes bytes)
+words-are-16 [] h i = omega arith
+words-are-16 (low ∷ []) h i = omega arith
+words-are-16 (low ∷ high ∷ bytes) h zero = omega (arith, h 0, h 1)
+words-are-16 (low ∷ high ∷ bytes) h (suc i) = words-are-16 bytes (λ j. h (suc (suc j))) i
+
+bytes-are-bytes : (words : List ℕ) → IsBytes (bytesOfWords words)
+bytes-are-bytes [] j = omega arith
+bytes-are-bytes (word ∷ words) zero = omega arith
+bytes-are-bytes (word ∷ words) (suc zero) = omega arith
+bytes-are-bytes (word ∷ words) (suc (suc j)) = bytes-are-bytes words j
+
+words-then : (words rest : List ℕ) → Words16 words → wordsOfBytes (bytesOfWords words ++ rest) ≡ words ++ wordsOfBytes rest
+words-then [] rest h = refl
+words-then (word ∷ words) rest h = let e : word % 256 + 256 * (word / 256 % 256) ≡ word = omega (arith, h 0) in λ i. e i ∷ words-then words rest (λ j. h (suc j)) i
+
+no-word : (bytes : List ℕ) → length bytes ≤ 1 → wordsOfBytes bytes ≡ []
+no-word [] h = refl
+no-word (low ∷ []) h = refl
+no-word (low ∷ high ∷ bytes) h = absurd (omega arith)
+
+append-nothing : (words : List ℕ) → words ++ [] ≡ words
+append-nothing [] = refl
+append-nothing (word ∷ words) = ap {B = List ℕ} (λ r. word ∷ r) (append-nothing words)
+
+pub words-back : (words : List ℕ) → Words16 words → wordsOfBytes (bytesOfWords words) ≡ words
+words-back words h = ap wordsOfBytes (sym (append-nothing (bytesOfWords words))) ∙ words-then words [] h ∙ append-nothing words
+
+-- ---- Words laid over bytes.
+low-and-high : (low high : ℕ) → low < 256 → high < 256 → ((low + 256 * high) % 256 ≡ low) × ((low + 256 * high) / 256 % 256 ≡ high)
+low-and-high low high l h = let d : (low + 256 * high) / 256 ≡ high = omega arith in (omega arith, omega arith)
+
+pub laid-back : (bytes : List ℕ) → IsBytes bytes → laidOver (wordsOfBytes bytes) bytes ≡ bytes
+unfolding laidOver
+laid-back [] h = refl
+laid-back (low ∷ []) h = refl
+laid-back (low ∷ high ∷ bytes) h =
+    let n : ℕ = length (wordsOfBytes bytes) in
+    let e : 2 * suc n ≡ suc (suc (2 * n)) = omega arith in
+    let b = low-and-high low high (h 0) (h 1) in
+    (λ i. b .0 i ∷ b .1 i ∷ (bytesOfWords (wordsOfBytes bytes) ++ drop (e i) (low ∷ high ∷ bytes))) ∙ ap {B = List ℕ} (λ r. low ∷ high ∷ r) (laid-back bytes (λ j. h (suc (suc j))))
+
+pub laid-length : (words bytes : List ℕ) → 2 * length words ≤ length bytes → length (laidOver words bytes) ≡ length bytes
+unfolding laidOver
+laid-length words bytes h = omega (arith, length-append (bytesOfWords words) (drop (2 * length words) bytes), bytes-length words, length-drop (2 * length words) bytes)
+
+pub laid-past : (words bytes : List ℕ) → drop (2 * length words) (laidOver words bytes) ≡ drop (2 * length words) bytes
+unfolding laidOver
+laid-past words bytes = drop-at (bytesOfWords words) (drop (2 * length words) bytes) (2 * length words) (bytes-length words)
+
+pub laid-are-bytes : (words bytes : List ℕ) → IsBytes bytes → IsBytes (laidOver words bytes)
+unfolding laidOver
+laid-are-bytes words bytes h = below-append 256 (bytesOfWords words) (drop (2 * length words) bytes) (bytes-are-bytes words) (λ j. rw (getD-drop (2 * length words) bytes j 0) (h (2 * length words + j)))
+
+pub laid-words : (words bytes : List ℕ) → Words16 words → length words ≡ length (wordsOfBytes bytes) → wordsOfBytes (laidOver words bytes) ≡ words
+unfolding laidOver
+laid-words words bytes h e =
+    words-then words (drop (2 * length words) bytes) h
+    ∙ ap (λ (r : List ℕ). words ++ r) (no-word (drop (2 * length words) bytes) (omega (arith, length-drop (2 * length words) bytes, words-length bytes)))
+    ∙ append-nothing words
+
+-- ---- The answer in one number.
+pub heard-back : (answer : Answer) → answer .session < 65536 → answerOf (reply answer) ≡ answer
+heard-back answer h =
+    let n : (answer .number * 65536 + answer .session) / 65536 ≡ answer .number = omega arith in
+    let s : (answer .number * 65536 + answer .session) % 65536 ≡ answer .session = omega arith in
+    λ i. record { number = n i; session = s i }
+
+-- ---- A call on bytes agrees with the call on the words in them.
+agrees : (bytes : List ℕ) (told : TableDone) → IsBytes bytes → told .answer .session < 65536 → Words16 (told .after) → length (told .after) ≡ length (wordsOfBytes bytes) → Agrees bytes (onBytes told bytes) told
+agrees bytes told h s w e =
+    let e2 : 2 * length (told .after) ≡ 2 * length (wordsOfBytes bytes) = omega arith in
+    record {
+      heard = heard-back (told .answer) s;
+      words = laid-words (told .after) bytes w e;
+      areBytes = laid-are-bytes (told .after) bytes h;
+      sameLength = laid-length (told .after) bytes (omega (arith, words-length bytes));
+      lastByte = subst (λ (n : ℕ). drop n (laidOver (told .after) bytes) ≡ drop n bytes) e2 (laid-past (told .after) bytes);
+    }
+
+pub bytes-step : (bytes : List ℕ) (call : Call) → IsBytes bytes → Call16 call → Agrees bytes (stepBytes bytes call) (stepTable (wordsOfBytes bytes) call)
+unfolding stepBytes
+bytes-step bytes call h w =
+    let words = wordsOfBytes bytes in
+    let g = words-are-16 bytes h in
+    agrees bytes (stepTable words call) h (step-session words call g) (step-words words call g w) (step-length words call g)
+
+pub bytes-open : (hall : Hall) (bytes : List ℕ) → IsBytes bytes → Agrees bytes (openBytes hall bytes) (openTable hall (wordsOfBytes bytes))
+unfolding openBytes
+bytes-open hall bytes h =
+    let words = wordsOfBytes bytes in
+    agrees bytes (openTable hall words) h (omega (arith, open-session hall words)) (open-words hall words (words-are-16 bytes h)) (open-length hall words)
+
+-- ---- A list of calls.
+pub bytes-run : (bytes : List ℕ) (calls : List Call) → IsBytes bytes → Calls16 calls → runBytes bytes calls ≡ runTable (wordsOfBytes bytes) calls
+bytes-run bytes [] h w = refl
+bytes-run bytes (call ∷ calls) h w =
+    let a = bytes-step bytes call h (w .0) in
+    let later = bytes-run (stepBytes bytes call .after) calls (a .areBytes) (w .1) in
+    λ i. record { call = call; answer = a .heard i } ∷ (later ∙ ap (λ (t : List ℕ). runTable t calls) (a .words)) i
+
+pub bytes-end : (bytes : List ℕ) (calls : List Call) → IsBytes bytes → Calls16 calls → wordsOfBytes (endBytes bytes calls) ≡ endTable (wordsOfBytes bytes) calls
+bytes-end bytes [] h w = refl
+bytes-end bytes (call ∷ calls) h w =
+    let a = bytes-step bytes call h (w .0) in
+    bytes-end (stepBytes bytes call .after) calls (a .areBytes) (w .1) ∙ ap (λ (t : List ℕ). endTable t calls) (a .words)
+
+-- the bytes at the end are bytes, as many, with the same odd last one
+pub end-are-bytes : (bytes : List ℕ) (calls : List Call) → IsBytes bytes → Calls16 calls → IsBytes (endBytes bytes calls)
+end-are-bytes bytes [] h w = h
+end-are-bytes bytes (call ∷ calls) h w = end-are-bytes (stepBytes bytes call .after) calls (bytes-step bytes call h (w .0) .areBytes) (w .1)
+
+pub end-length : (bytes : List ℕ) (calls : List Call) → IsBytes bytes → Calls16 calls → length (endBytes bytes calls) ≡ length bytes
+end-length bytes [] h w = refl
+end-length bytes (call ∷ calls) h w = let a = bytes-step bytes call h (w .0) in end-length (stepBytes bytes call .after) calls (a .areBytes) (w .1) ∙ a .sameLength
+
+pub end-last-byte : (bytes : List ℕ) (calls : List Call) → IsBytes bytes → Calls16 calls → drop (2 * length (wordsOfBytes bytes)) (endBytes bytes calls) ≡ drop (2 * length (wordsOfBytes bytes)) bytes
+end-last-byte bytes [] h w = refl
+end-last-byte bytes (call ∷ calls) h w =
+    let a = bytes-step bytes call h (w .0) in
+    let after : List ℕ = stepBytes bytes call .after in
+    let n : length (wordsOfBytes after) ≡ length (wordsOfBytes bytes) = ap length (a .words) ∙ step-length (wordsOfBytes bytes) call (words-are-16 bytes h) in
+    let e : 2 * length (wordsOfBytes after) ≡ 2 * length (wordsOfBytes bytes) = omega arith in
+    subst (λ (m : ℕ). drop m (endBytes after calls) ≡ drop m after) e (end-last-byte after calls (a .areBytes) (w .1)) ∙ a .lastByte
+
+-- ---- Demand 1.
+-- a byte stays where its word stays, and where it stands past the words
+pub laid-word : (words bytes : List ℕ) (j : ℕ) → IsBytes bytes → length words ≡ length (wordsOfBytes bytes) → getD words (j / 2) 0 ≡ getD (wordsOfBytes bytes) (j / 2) 0 → getD (laidOver words bytes) j 0 ≡ getD bytes j 0
+unfolding laidOver
+laid-word [] bytes j h e q = refl
+laid-word (word ∷ words) [] j h e q = absurd (omega arith)
+laid-word (word ∷ words) (low ∷ []) j h e q = absurd (omega arith)
+laid-word (word ∷ words) (low ∷ high ∷ bytes) zero h e q = ap (λ (x : ℕ). x % 256) q ∙ low-and-high low high (h 0) (h 1) .0
+laid-word (word ∷ words) (low ∷ high ∷ bytes) (suc zero) h e q = ap (λ (x : ℕ). x / 256 % 256) q ∙ low-and-high low high (h 0) (h 1) .1
+laid-word (word ∷ words) (low ∷ high ∷ bytes) (suc (suc j)) h e q =
+    let n : 2 * suc (length words) ≡ suc (suc (2 * length words)) = omega arith in
+    let i : suc (suc j) / 2 ≡ suc (j / 2) = omega arith in
+    ap (λ (m : ℕ). getD (bytesOfWords words ++ drop m (low ∷ high ∷ bytes)) j 0) n
+    ∙ laid-word words bytes j (λ k. h (suc (suc k))) (omega arith) (subst (λ (k : ℕ). getD (word ∷ words) k 0 ≡ getD (wordsOfBytes (low ∷ high ∷ bytes)) k 0) i q)
+
+same-past : (n : ℕ) (xs ys : List ℕ) → drop n xs ≡ drop n ys → (j : ℕ) → n ≤ j → getD xs j 0 ≡ getD ys j 0
+same-past n xs ys e j h =
+    let k : n + (j - n) ≡ j = omega arith in
+    subst (λ (m : ℕ). getD xs m 0 ≡ getD ys m 0) k (sym (getD-drop n xs (j - n) 0) ∙ ap (λ (l : List ℕ). getD l (j - n) 0) e ∙ getD-drop n ys (j - n) 0)
+
+-- demand 1 on bytes, from what an accepted step leaves of the words
+pub bytes-demand1 : (bytes : List ℕ) (call : Call) → IsBytes bytes → Call16 call
+    → (stepTable (wordsOfBytes bytes) call .answer .number ≡ 0 → (i : ℕ) → names (wordsOfBytes bytes) call i ≡ false → getD (stepTable (wordsOfBytes bytes) call .after) i 0 ≡ getD (wordsOfBytes bytes) i 0)
+    → BytesDemand1 bytes call
+unfolding stepBytes
+bytes-demand1 bytes call h w fact =
+    let words : List ℕ = wordsOfBytes bytes in
+    let a = bytes-step bytes call h w in
+    let number : reply (stepTable words call .answer) / 65536 ≡ stepTable words call .answer .number = ap (λ (x : Answer). x .number) (a .heard) in
+    record {
+      refused = λ n e. (let r = step-refused words call n (sym number ∙ e) in (r .0, omega (arith, r .1), ap (λ (t : List ℕ). laidOver t bytes) (r .2) ∙ laid-back bytes h));
+      accepted = λ e j q. laid-word (stepTable words call .after) bytes j h (step-length words call (words-are-16 bytes h)) (fact (sym number ∙ e) (j / 2) q);
+      lastByte = same-past (2 * length words) (stepBytes bytes call .after) bytes (a .lastByte);
+      sameLength = a .sameLength;
+    }
