@@ -9,7 +9,6 @@ use Rattle.rules.specs.Table.{need, mostWords, openTable, stepTable, run
 use Rattle.rules.specs.Sheet.{Got, got, refusal, number, mostNumber}
 
 infixr 68 _⇒_
-
 -- a call with its answer
 abbrev pub _⇒_ : Call → Answer → Event
 call ⇒ answer = record { call = call; answer = answer }
@@ -63,22 +62,22 @@ starred =
     ∷ board (hallOf 17 4 64) 2387 (refused 1) []
     -- C: three swaps each followed by retire, no collect: the third retire gives 14
     ∷ board (hallOf 1 1 1) 20 (ok 0)
-        ((Swap 1 1 3 ⇒ ok 0) ∷ (Swap 1 1 4 ⇒ ok 3) ∷ (Retire 1 ⇒ ok 3) ∷ (Swap 1 1 5 ⇒ ok 4) ∷ (Retire 1 ⇒ ok 4) ∷ (Swap 1 1 6 ⇒ ok 5) ∷ (Retire 1 ⇒ refused 14) ∷ [])
+    ((Swap 1 1 3 ⇒ ok 0) ∷ (Swap 1 1 4 ⇒ ok 3) ∷ (Retire 1 ⇒ ok 3) ∷ (Swap 1 1 5 ⇒ ok 4) ∷ (Retire 1 ⇒ ok 4) ∷ (Swap 1 1 6 ⇒ ok 5) ∷ (Retire 1 ⇒ refused 14) ∷ [])
     -- D: steps 1 to 8 of the sheet
     ∷ board (hallOf 1 1 1) 20 (ok 0)
-        ((Swap 1 1 300 ⇒ ok 0) ∷ (Take 1 1 1 ⇒ ok 300) ∷ (Swap 1 1 7 ⇒ ok 300) ∷ (Retire 1 ⇒ ok 300) ∷ (Collect 1 ⇒ ok 0) ∷ (Drop 1 1 ⇒ ok 300)
-        ∷ (Collect 1 ⇒ ok 300) ∷ (Retire 1 ⇒ refused 13) ∷ [])
+    ((Swap 1 1 300 ⇒ ok 0) ∷ (Take 1 1 1 ⇒ ok 300) ∷ (Swap 1 1 7 ⇒ ok 300) ∷ (Retire 1 ⇒ ok 300) ∷ (Collect 1 ⇒ ok 0) ∷ (Drop 1 1 ⇒ ok 300)
+    ∷ (Collect 1 ⇒ ok 300) ∷ (Retire 1 ⇒ refused 13) ∷ [])
     -- E: desk 1 has 5, 5 waiting, desk 2 shows 5. Collect replies 5; one 5 waits
     ∷ waits (hallOf 2 1 1) 50 (retiring 1 5 ++ (retiring 1 5 ++ ((Swap 2 1 5 ⇒ ok 0) ∷ (Take 2 1 1 ⇒ ok 5) ∷ (Collect 1 ⇒ ok 5) ∷ []))) (5 ∷ [])
     -- F: desk 1 has 5 waiting and shows 5. Collect replies 0; drop; then collects reply 0, 0, 5
     ∷ board (hallOf 3 1 1) 70 (ok 0)
-        ((Swap 1 1 5 ⇒ ok 0) ∷ (Take 1 1 1 ⇒ ok 5) ∷ (Swap 1 1 0 ⇒ ok 5) ∷ (Retire 1 ⇒ ok 5) ∷ (Collect 1 ⇒ ok 0) ∷ (Drop 1 1 ⇒ ok 5)
-        ∷ (Collect 1 ⇒ ok 0) ∷ (Collect 1 ⇒ ok 0) ∷ (Collect 1 ⇒ ok 5) ∷ [])
+    ((Swap 1 1 5 ⇒ ok 0) ∷ (Take 1 1 1 ⇒ ok 5) ∷ (Swap 1 1 0 ⇒ ok 5) ∷ (Retire 1 ⇒ ok 5) ∷ (Collect 1 ⇒ ok 0) ∷ (Drop 1 1 ⇒ ok 5)
+    ∷ (Collect 1 ⇒ ok 0) ∷ (Collect 1 ⇒ ok 0) ∷ (Collect 1 ⇒ ok 5) ∷ [])
     -- G: as F with no screen showing: collect replies 0; 6 is retired; then collects reply 5, 0, 6
     ∷ board (hallOf 3 1 1) 70 (ok 0) (retiring 1 5 ++ ((Collect 1 ⇒ ok 0) ∷ retiring 1 6 ++ ((Collect 1 ⇒ ok 5) ∷ (Collect 1 ⇒ ok 0) ∷ (Collect 1 ⇒ ok 6) ∷ [])))
     -- M: desk 1 has 5 waiting, only desk 3 shows 5. Collect replies 0; desk 3 drops; collect replies 5
     ∷ board (hallOf 3 1 1) 70 (ok 0)
-        (retiring 1 5 ++ ((Swap 3 1 5 ⇒ ok 0) ∷ (Take 3 1 1 ⇒ ok 5) ∷ (Collect 1 ⇒ ok 0) ∷ (Drop 3 1 ⇒ ok 5) ∷ (Collect 1 ⇒ ok 5) ∷ []))
+    (retiring 1 5 ++ ((Swap 3 1 5 ⇒ ok 0) ∷ (Take 3 1 1 ⇒ ok 5) ∷ (Collect 1 ⇒ ok 0) ∷ (Drop 3 1 ⇒ ok 5) ∷ (Collect 1 ⇒ ok 5) ∷ []))
     -- H: a full screen and an empty position: take gives 9
     ∷ board (hallOf 1 1 2) 21 (ok 0) ((Swap 1 1 5 ⇒ ok 0) ∷ (Take 1 1 1 ⇒ ok 5) ∷ (Take 1 1 2 ⇒ refused 9) ∷ [])
     -- I: empty list: collect is accepted with 0
@@ -150,29 +149,29 @@ abbrev ours : List Case
 ours =
     -- a tested place marked twice, for two screens that show the same session ("two retirements may both be guarded")
     board (hallOf 2 1 2) 51 (ok 0)
-        ((Swap 1 1 5 ⇒ ok 0) ∷ (Swap 1 2 5 ⇒ ok 0) ∷ (Take 1 1 1 ⇒ ok 5) ∷ (Swap 1 1 0 ⇒ ok 5) ∷ (Retire 1 ⇒ ok 5) ∷ (Take 2 1 2 ⇒ ok 5) ∷ (Swap 1 2 0 ⇒ ok 5)
-        ∷ (Retire 1 ⇒ ok 5) ∷ (Collect 1 ⇒ ok 0) ∷ [])
+    ((Swap 1 1 5 ⇒ ok 0) ∷ (Swap 1 2 5 ⇒ ok 0) ∷ (Take 1 1 1 ⇒ ok 5) ∷ (Swap 1 1 0 ⇒ ok 5) ∷ (Retire 1 ⇒ ok 5) ∷ (Take 2 1 2 ⇒ ok 5) ∷ (Swap 1 2 0 ⇒ ok 5)
+    ∷ (Retire 1 ⇒ ok 5) ∷ (Collect 1 ⇒ ok 0) ∷ [])
     -- marked sessions placed behind those already waiting
     ∷ board (hallOf 3 1 1) 70 (ok 0)
-        ((Swap 1 1 5 ⇒ ok 0) ∷ (Take 2 1 1 ⇒ ok 5) ∷ (Swap 1 1 0 ⇒ ok 5) ∷ (Retire 1 ⇒ ok 5) ∷ (Collect 1 ⇒ ok 0) ∷ retiring 1 6
-        ++ ((Collect 1 ⇒ ok 0) ∷ (Drop 2 1 ⇒ ok 5) ∷ (Collect 1 ⇒ ok 0) ∷ (Collect 1 ⇒ ok 5) ∷ (Collect 1 ⇒ ok 6) ∷ []))
+    ((Swap 1 1 5 ⇒ ok 0) ∷ (Take 2 1 1 ⇒ ok 5) ∷ (Swap 1 1 0 ⇒ ok 5) ∷ (Retire 1 ⇒ ok 5) ∷ (Collect 1 ⇒ ok 0) ∷ retiring 1 6
+    ++ ((Collect 1 ⇒ ok 0) ∷ (Drop 2 1 ⇒ ok 5) ∷ (Collect 1 ⇒ ok 0) ∷ (Collect 1 ⇒ ok 5) ∷ (Collect 1 ⇒ ok 6) ∷ []))
     -- the last copy marked, and not the first
     ∷ board (hallOf 2 1 1) 50 (ok 0)
-        (retiring 1 5 ++ (retiring 1 6 ++ (retiring 1 5 ++ ((Swap 2 1 5 ⇒ ok 0) ∷ (Take 2 1 1 ⇒ ok 5) ∷ (Collect 1 ⇒ ok 6) ∷ (Collect 1 ⇒ ok 5) ∷ (Collect 1 ⇒ ok 0) ∷ []))))
+    (retiring 1 5 ++ (retiring 1 6 ++ (retiring 1 5 ++ ((Swap 2 1 5 ⇒ ok 0) ∷ (Take 2 1 1 ⇒ ok 5) ∷ (Collect 1 ⇒ ok 6) ∷ (Collect 1 ⇒ ok 5) ∷ (Collect 1 ⇒ ok 0) ∷ []))))
     -- the newest ready session handed back first
     ∷ board (hallOf 2 1 1) 50 (ok 0) (retiring 1 5 ++ (retiring 1 6 ++ (retiring 1 7 ++ ((Collect 1 ⇒ ok 5) ∷ (Collect 1 ⇒ ok 6) ∷ (Collect 1 ⇒ ok 7) ∷ []))))
     -- unmarked sessions joined to the front of ready
     ∷ board (hallOf 1 1 1) 20 (ok 0) (retiring 1 5 ++ (retiring 1 6 ++ ((Collect 1 ⇒ ok 5) ∷ retiring 1 7 ++ ((Collect 1 ⇒ ok 6) ∷ (Collect 1 ⇒ ok 7) ∷ []))))
     -- a new reading begun in the collect that settles: what is retired next would miss it
     ∷ board (hallOf 3 1 1) 70 (ok 0)
-        ((Swap 1 1 5 ⇒ ok 0) ∷ (Take 1 1 1 ⇒ ok 5) ∷ (Swap 1 1 0 ⇒ ok 5) ∷ (Retire 1 ⇒ ok 5) ∷ (Collect 1 ⇒ ok 0) ∷ (Collect 1 ⇒ ok 0) ∷ (Drop 1 1 ⇒ ok 5) ∷ retiring 1 6
-        ++ ((Collect 1 ⇒ ok 0) ∷ (Collect 1 ⇒ ok 5) ∷ (Collect 1 ⇒ ok 6) ∷ []))
+    ((Swap 1 1 5 ⇒ ok 0) ∷ (Take 1 1 1 ⇒ ok 5) ∷ (Swap 1 1 0 ⇒ ok 5) ∷ (Retire 1 ⇒ ok 5) ∷ (Collect 1 ⇒ ok 0) ∷ (Collect 1 ⇒ ok 0) ∷ (Drop 1 1 ⇒ ok 5) ∷ retiring 1 6
+    ++ ((Collect 1 ⇒ ok 0) ∷ (Collect 1 ⇒ ok 5) ∷ (Collect 1 ⇒ ok 6) ∷ []))
     -- any session marking any place
     ∷ board (hallOf 1 1 1) 20 (ok 0) (retiring 1 6 ++ ((Swap 1 1 5 ⇒ ok 0) ∷ (Take 1 1 1 ⇒ ok 5) ∷ (Collect 1 ⇒ ok 6) ∷ []))
     -- the order of the questions: 5 is the table's alone; then 6, 7, 8, and the step's own
     ∷ board (hallOf 2 1 2) 51 (ok 0)
-        ((Take 3 9 9 ⇒ refused 6) ∷ (Take 0 1 1 ⇒ refused 6) ∷ (Take 1 2 9 ⇒ refused 7) ∷ (Take 1 1 3 ⇒ refused 8) ∷ (Take 1 1 1 ⇒ refused 10) ∷ (Drop 3 9 ⇒ refused 6) ∷ (Drop 1 0 ⇒ refused 7)
-        ∷ (Drop 1 1 ⇒ refused 11) ∷ (Swap 3 9 5 ⇒ refused 6) ∷ (Swap 1 0 5 ⇒ refused 8) ∷ (Retire 0 ⇒ refused 6) ∷ (Retire 1 ⇒ refused 13) ∷ (Collect 3 ⇒ refused 6) ∷ [])
+    ((Take 3 9 9 ⇒ refused 6) ∷ (Take 0 1 1 ⇒ refused 6) ∷ (Take 1 2 9 ⇒ refused 7) ∷ (Take 1 1 3 ⇒ refused 8) ∷ (Take 1 1 1 ⇒ refused 10) ∷ (Drop 3 9 ⇒ refused 6) ∷ (Drop 1 0 ⇒ refused 7)
+    ∷ (Drop 1 1 ⇒ refused 11) ∷ (Swap 3 9 5 ⇒ refused 6) ∷ (Swap 1 0 5 ⇒ refused 8) ∷ (Retire 0 ⇒ refused 6) ∷ (Retire 1 ⇒ refused 13) ∷ (Collect 3 ⇒ refused 6) ∷ [])
     ∷ board (hallOf 1 5 65) 19 (refused 2) []
     ∷ board (hallOf 1 4 65) 19 (refused 3) []
     -- opened with garbage past the need: the steps do not see it

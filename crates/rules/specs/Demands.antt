@@ -115,7 +115,7 @@ pub record Demand3 (hall : Hall) (history : List Event) (tableAfter : ℕ → Li
   -- "three more times for each screen of the hall"
   pub back : BackWithin (3 * allScreens hall) history
 
--- The collects in one reading of all S screens, two at a time; and the bound that is exact: no fewer collects are enough.
+-- The collects in one reading of all S screens, two at a time; and a sharper bound than 3S. (Examples has a history of S = 3 that reaches it.)
 abbrev pub readings : ℕ → ℕ
 readings S = (S + 1) / 2
 

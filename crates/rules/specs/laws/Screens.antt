@@ -130,10 +130,11 @@ module _ (H : Hall) (f : ℕ → Deed) (s : ℕ) (hs : s ≡ 0 → ⊥) where
       → ((m d c : ℕ) → n ≤ m → m < n + k → Shows f m d c s → ⊥) → Hidden H s st (take k cs)
   hidden-run zero cs st n at formed shown hid = tt
   hidden-run (suc k) [] st n at formed shown hid = tt
-  hidden-run (suc k) (c ∷ cs) st n at formed shown hid =
-      (copies-none s (st .shown) nowhere,
-      hidden-run k cs (step H st c .after) (suc n) (λ i. shift (suc n + i) (n + suc i) (omega arith) ∙ at (suc i)) (formed-step H st 1 formed (omega arith) c)
-      (all-shown-step H f n st formed shown c (shift n (n + 0) (omega arith) ∙ at 0)) (λ m d c a b. hid m d c (omega arith) (omega arith)))
+  hidden-run (suc k) (c ∷ cs) st n at formed shown hid = (
+    copies-none s (st .shown) nowhere,
+    hidden-run k cs (step H st c .after) (suc n) (λ i. shift (suc n + i) (n + suc i) (omega arith) ∙ at (suc i)) (formed-step H st 1 formed (omega arith) c)
+        (all-shown-step H f n st formed shown c (shift n (n + 0) (omega arith) ∙ at 0)) (λ m d c a b. hid m d c (omega arith) (omega arith)),
+  )
     where
       shift : (a b : ℕ) → a ≡ b → f a ≡ f b
       shift a b e = ap f e

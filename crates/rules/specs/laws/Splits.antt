@@ -81,8 +81,12 @@ module _ (H : Hall) (d : ℕ) (outside : (1 ≤ d) × (d ≤ H .desks) → ⊥) 
   pub outsider-counts : (test : Deed → Bool) → test nothing ≡ false → (cs : List Call) (st : State) → Formed H st → howMany test (deedsOf d (run H st cs)) ≡ 0
   outsider-counts test none [] st formed = refl
   outsider-counts test none (c ∷ cs) st formed =
-      omega (arith, ap (λ (D : Deed). oneIf (test D)) (outsider (deedAt (run H st (c ∷ cs)) 0) (range-step H st formed c)), ap oneIf none,
-      outsider-counts test none cs (step H st c .after) (formed-step H st 1 formed (omega arith) c))
+      omega (
+        arith,
+        ap (λ (D : Deed). oneIf (test D)) (outsider (deedAt (run H st (c ∷ cs)) 0) (range-step H st formed c)),
+        ap oneIf none,
+        outsider-counts test none cs (step H st c .after) (formed-step H st 1 formed (omega arith) c),
+      )
 
 -- Session 0 is neither retired nor handed back.
 range-not-zero : (H : Hall) (d : ℕ) (D : Deed) → Range H D → (isRetirementOf 0 (own d D) ≡ false) × (isHandBackOf 0 (own d D) ≡ false)

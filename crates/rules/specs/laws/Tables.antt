@@ -307,6 +307,7 @@ hall-opens H t e =
     let y1 = holds (inRange (H .desks) mostDesks) _ 0 e in
     let y2 = holds (inRange (H .screens) mostScreens) _ 1 (y1 .1) in
     let y3 = holds (inRange (H .positions) mostPositions) _ 2 (y2 .1) in
-    let y4 = holds (leb (need H) (length t)) _ 3 (y3 .1) in
-    (record { desks = in-range (H .desks) mostDesks (y1 .0); screens = in-range (H .screens) mostScreens (y2 .0); positions = in-range (H .positions) mostPositions (y3 .0) },
-    leb-true (need H) (length t) (y4 .0))
+    let y4 = holds (leb (need H) (length t)) _ 3 (y3 .1) in (
+      record { desks = in-range (H .desks) mostDesks (y1 .0); screens = in-range (H .screens) mostScreens (y2 .0); positions = in-range (H .positions) mostPositions (y3 .0) },
+      leb-true (need H) (length t) (y4 .0),
+    )
