@@ -7,9 +7,11 @@ use lib.ListN.{length, getD, take}
 use lib.Dec.{ltb, eqb}
 use Rattle.rules.specs.Bytes.{stepBytes, wordsOfBytes}
 use Rattle.rules.specs.Hall.{Hall, allScreens}
-use Rattle.rules.specs.History.{Deed, Disciplined, DroppedBefore, Linked, Unshown, collectsOf, copies, deedAt, handBacks, handBacksOf, handsBack, lacksRoom, retirements, retirementsOf, retires}
+use Rattle.rules.specs.History.{Deed, Disciplined, DroppedBefore, Linked, Unshown, collectsOf, copies, deedAt, handBacks, handBacksOf}
+use Rattle.rules.specs.History.{handsBack, lacksRoom, retirements, retirementsOf, retires}
 use Rattle.rules.specs.Steps.{Call, Collect, Drop, Event, Retire, Swap, Take, inRange, isSession}
-use Rattle.rules.specs.Table.{hallIn, listIn, listPlace, need, openTable, positionWord, recordOf, recordStart, recordWidth, screenWord, sound, stepTable, usedIn, waitingPlace}
+use Rattle.rules.specs.Table.{hallIn, listIn, listPlace, need, openTable, positionWord, recordOf, recordStart, recordWidth, screenWord, sound}
+use Rattle.rules.specs.Table.{stepTable, usedIn, waitingPlace}
 use Rattle.rules.specs.laws.Links.{link}
 
 -- ---- Demand 1. "an accepted call writes only the words its step names"
@@ -43,7 +45,8 @@ pub record Demand1 (table : List ℕ) (call : Call) : Type 0 where
   pub refused : (n : ℕ) → stepTable table call .answer .number ≡ suc n
       → (1 ≤ copies (suc n) (refusals call)) × (stepTable table call .answer .session ≡ 0) × (stepTable table call .after ≡ table)
   -- "an accepted call writes only the words its step names"
-  pub accepted : stepTable table call .answer .number ≡ 0 → (i : ℕ) → names table call i ≡ false → getD (stepTable table call .after) i 0 ≡ getD table i 0
+  pub accepted : stepTable table call .answer .number ≡ 0 → (i : ℕ) → names table call i ≡ false
+      → getD (stepTable table call .after) i 0 ≡ getD table i 0
   pub sameLength : length (stepTable table call .after) ≡ length table
   -- a sound table stays sound
   pub staysSound : sound table ≡ true → sound (stepTable table call .after) ≡ true
@@ -62,7 +65,8 @@ pub record BytesDemand1 (bytes : List ℕ) (call : Call) : Type 0 where
   pub refused : (n : ℕ) → stepBytes bytes call .reply / 65536 ≡ suc n
       → (1 ≤ copies (suc n) (refusals call)) × (stepBytes bytes call .reply ≡ suc n * 65536) × (stepBytes bytes call .after ≡ bytes)
   -- "an accepted call writes only the words its step names": byte j is of word j / 2
-  pub accepted : stepBytes bytes call .reply / 65536 ≡ 0 → (j : ℕ) → names (wordsOfBytes bytes) call (j / 2) ≡ false → getD (stepBytes bytes call .after) j 0 ≡ getD bytes j 0
+  pub accepted : stepBytes bytes call .reply / 65536 ≡ 0 → (j : ℕ) → names (wordsOfBytes bytes) call (j / 2) ≡ false
+      → getD (stepBytes bytes call .after) j 0 ≡ getD bytes j 0
   -- "an odd last byte is not part of the table"
   pub lastByte : (j : ℕ) → 2 * length (wordsOfBytes bytes) ≤ j → getD (stepBytes bytes call .after) j 0 ≡ getD bytes j 0
   pub sameLength : length (stepBytes bytes call .after) ≡ length bytes

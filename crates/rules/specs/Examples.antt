@@ -42,7 +42,8 @@ back = retiring 5 ++ (Collect 1 ∷ Collect 1 ∷ Collect 1 ∷ [])
 
 pub back-by-demand : 1 ≤ handBacksOf 1 5 (historyOf (hallOf 1 1 1) 20 back)
 unfolding openTable stepTable sound recordSound encodeDesk decodeDesk
-back-by-demand = demand-3 (hallOf 1 1 1) (replicate 20 9) refl back .back 1 5 2 5 refl refl (never-shown 5 (historyOf (hallOf 1 1 1) 20 back) refl 2 5)
+back-by-demand =
+    demand-3 (hallOf 1 1 1) (replicate 20 9) refl back .back 1 5 2 5 refl refl (never-shown 5 (historyOf (hallOf 1 1 1) 20 back) refl 2 5)
 
 -- ---- The exact bound, 8 collects for S = 3, is reached: all three screens show what is tested, so nothing is ready when 5 is
 -- retired in mid-reading, and five sessions stand before it in the next reading. After 7 collects it is not back.
@@ -65,14 +66,16 @@ seven-are-too-few claim =
 
 pub eight-are-enough : 1 ≤ handBacksOf 1 5 (historyOf (hallOf 3 1 1) 70 slowest)
 unfolding openTable stepTable sound recordSound encodeDesk decodeDesk
-eight-are-enough = back-sooner (hallOf 3 1 1) (replicate 70 9) refl slowest 1 5 21 32 refl refl (never-shown 5 (historyOf (hallOf 3 1 1) 70 slowest) refl 21 32)
+eight-are-enough =
+    back-sooner (hallOf 3 1 1) (replicate 70 9) refl slowest 1 5 21 32 refl refl (never-shown 5 (historyOf (hallOf 3 1 1) 70 slowest) refl 21 32)
 
 -- ---- Demand 2. Case D: the take at place 1 is linked to the retirement at place 3, and the hand-back at place 6 is paired with it.
 abbrev caseD : List Call
 caseD = Swap 1 1 300 ∷ Take 1 1 1 ∷ Swap 1 1 7 ∷ Retire 1 ∷ Collect 1 ∷ Drop 1 1 ∷ Collect 1 ∷ Retire 1 ∷ []
 
 -- a take, its swap at the next place, its retirement at the one after that
-linked-at-once : (f : ℕ → Deed) (i d c p v e s : ℕ) → f i ≡ takes d c p v → f (suc i) ≡ swaps e p → f (suc (suc i)) ≡ retires e s → Linked f i (suc (suc i))
+linked-at-once : (f : ℕ → Deed) (i d c p v e s : ℕ) → f i ≡ takes d c p v → f (suc i) ≡ swaps e p → f (suc (suc i)) ≡ retires e s
+    → Linked f i (suc (suc i))
 linked-at-once f i d c p v e s t w r = record {
   desk = d;
   screen = c;
@@ -87,8 +90,10 @@ linked-at-once f i d c p v e s t w r = record {
 }
 
 -- the only retirement of a session is the one that its hand-back is paired with
-paired-with : (es : List Event) (r h d s : ℕ) → placesWhere (isRetirementOf s) 0 es ≡ r ∷ [] → deedAt es h ≡ handsBack d s → (g : Guarantee (deedAt es)) → g .pair h ≡ r
-paired-with es r h d s only back g = only-at (isRetirementOf s) refl es r only (g .pair h) (ap (isRetirementOf s) (g .same h d s back) ∙ eq-eqb s s refl)
+paired-with : (es : List Event) (r h d s : ℕ) → placesWhere (isRetirementOf s) 0 es ≡ r ∷ [] → deedAt es h ≡ handsBack d s
+    → (g : Guarantee (deedAt es)) → g .pair h ≡ r
+paired-with es r h d s only back g =
+    only-at (isRetirementOf s) refl es r only (g .pair h) (ap (isRetirementOf s) (g .same h d s back) ∙ eq-eqb s s refl)
 
 pub linked-in-D : Linked (deedAt (historyOf (hallOf 1 1 1) 20 caseD)) 1 3
 unfolding openTable stepTable sound recordSound encodeDesk decodeDesk
@@ -146,7 +151,8 @@ refuses-joined-late = refuses joinedLate 8 1 5 refl refl linked
 -- error 3, one place marked for two screens that show 5, each linked to a retirement of its own
 abbrev markedTwice : List Event
 markedTwice =
-    (Swap 1 1 5 ⇒ ok 0) ∷ (Swap 1 2 5 ⇒ ok 0) ∷ (Take 1 1 1 ⇒ ok 5) ∷ (Swap 1 1 0 ⇒ ok 5) ∷ (Retire 1 ⇒ ok 5) ∷ (Take 2 1 2 ⇒ ok 5) ∷ (Swap 1 2 0 ⇒ ok 5)
+    (Swap 1 1 5 ⇒ ok 0) ∷ (Swap 1 2 5 ⇒ ok 0) ∷ (Take 1 1 1 ⇒ ok 5) ∷ (Swap 1 1 0 ⇒ ok 5) ∷ (Retire 1 ⇒ ok 5) ∷ (Take 2 1 2 ⇒ ok 5) ∷
+    (Swap 1 2 0 ⇒ ok 5)
     ∷ (Retire 1 ⇒ ok 5) ∷ (Collect 1 ⇒ ok 5) ∷ []
 
 pub refuses-marked-twice : Guarantee (deedAt markedTwice) → ⊥

@@ -4,7 +4,8 @@ use mathlib.Core.Bool.{Bool, true, false, cond, not, _&&_}
 use mathlib.Core.List.{List, [], _∷_, _++_, map}
 use lib.ListN.{length, getD, take, drop}
 use lib.Dec.{leb, ltb, eqb}
-use Rattle.rules.specs.Hall.{Desk, Hall, State, TestedPlace, allScreens, deskOf, marked, screenIndex, unmarked, usedPlaces, withDesk, withHeld, withShown}
+use Rattle.rules.specs.Hall.{Desk, Hall, State, TestedPlace, allScreens, deskOf, marked, screenIndex, unmarked, usedPlaces, withDesk, withHeld}
+use Rattle.rules.specs.Hall.{withShown}
 
 -- "take (desk, screen, position)", "drop (desk, screen)", "swap (desk, position, session or 0)", "retire (desk)", "collect (desk)":
 -- the acquire, release, update, retire and eject of Blelloch and Wei.

@@ -6,7 +6,8 @@ use mathlib.Core.List.{List, [], _∷_, _++_, map}
 use lib.ListN.{length, getD, take, drop, set, replicate}
 use lib.Dec.{leb, ltb, eqb}
 use Rattle.rules.specs.Hall.{Desk, Hall, State, TestedPlace, allScreens, marked, mostDesks, mostPositions, mostScreens, screenIndex, unmarked}
-use Rattle.rules.specs.Steps.{Answer, Call, Collect, Drop, Event, Question, Retire, Swap, Take, ask, collect, firstNo, inRange, isNone, isSession, retire, step}
+use Rattle.rules.specs.Steps.{Answer, Call, Collect, Drop, Event, Question, Retire, Swap, Take, ask, collect, firstNo, inRange, isNone}
+use Rattle.rules.specs.Steps.{isSession, retire, step}
 
 -- ---- Layout.
 -- "words 0, 1, 2: P, c, L; L words: the session at each position; S words: what each screen shows, desk by desk;

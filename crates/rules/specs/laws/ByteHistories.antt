@@ -15,7 +15,8 @@ take-calls16 zero calls w = tt
 take-calls16 (suc i) [] w = tt
 take-calls16 (suc i) (call ∷ calls) w = (w .0, take-calls16 i calls (w .1))
 
-module _ (hall : Hall) (bytes : List ℕ) (are : IsBytes bytes) (accepted : openBytes hall bytes .reply ≡ 0) (calls : List Call) (wide : Calls16 calls) where
+module _ (hall : Hall) (bytes : List ℕ) (are : IsBytes bytes) (accepted : openBytes hall bytes .reply ≡ 0) (calls : List Call)
+    (wide : Calls16 calls) where
   opened : Agrees bytes (openBytes hall bytes) (openTable hall (wordsOfBytes bytes))
   opened = bytes-open hall bytes are
 
@@ -25,10 +26,14 @@ module _ (hall : Hall) (bytes : List ℕ) (are : IsBytes bytes) (accepted : open
   pub same-history : runTable (openTable hall (wordsOfBytes bytes) .after) calls ≡ runBytes (openBytes hall bytes .after) calls
   same-history = sym (bytes-run (openBytes hall bytes .after) calls (opened .areBytes) wide ∙ ap (λ (t : List ℕ). runTable t calls) (opened .words))
 
-  pub same-tables : (i : ℕ) → endTable (openTable hall (wordsOfBytes bytes) .after) (take i calls) ≡ wordsOfBytes (endBytes (openBytes hall bytes .after) (take i calls))
-  same-tables i = sym (bytes-end (openBytes hall bytes .after) (take i calls) (opened .areBytes) (take-calls16 i calls wide) ∙ ap (λ (t : List ℕ). endTable t (take i calls)) (opened .words))
+  pub same-tables : (i : ℕ)
+      → endTable (openTable hall (wordsOfBytes bytes) .after) (take i calls) ≡ wordsOfBytes (endBytes (openBytes hall bytes .after) (take i calls))
+  same-tables i =
+      sym
+      (bytes-end (openBytes hall bytes .after) (take i calls) (opened .areBytes) (take-calls16 i calls wide) ∙ ap (λ (t : List ℕ). endTable t (take i calls)) (opened .words))
 
   -- what holds of the words' history and tables holds of the bytes'
-  pub of-bytes : (P : List Event → (ℕ → List ℕ) → Type 0) → P (runTable (openTable hall (wordsOfBytes bytes) .after) calls) (λ i. endTable (openTable hall (wordsOfBytes bytes) .after) (take i calls))
+  pub of-bytes : (P : List Event → (ℕ → List ℕ) → Type 0)
+      → P (runTable (openTable hall (wordsOfBytes bytes) .after) calls) (λ i. endTable (openTable hall (wordsOfBytes bytes) .after) (take i calls))
       → P (runBytes (openBytes hall bytes .after) calls) (λ i. wordsOfBytes (endBytes (openBytes hall bytes .after) (take i calls)))
   of-bytes P p = subst₂ P same-history (λ j i. same-tables i j) p

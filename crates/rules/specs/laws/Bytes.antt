@@ -6,7 +6,8 @@ use mathlib.Core.Bool.{false}
 use mathlib.Core.List.{List, [], _∷_, _++_}
 use lib.ListN.{length, getD, drop, length-append, length-drop}
 use lib.Seq.{drop-at, getD-drop}
-use Rattle.rules.specs.Bytes.{Agrees, Call16, Calls16, IsBytes, Words16, answerOf, bytesOfWords, endBytes, laidOver, onBytes, openBytes, reply, runBytes, stepBytes, wordsOfBytes}
+use Rattle.rules.specs.Bytes.{Agrees, Call16, Calls16, IsBytes, Words16, answerOf, bytesOfWords, endBytes, laidOver, onBytes, openBytes, reply}
+use Rattle.rules.specs.Bytes.{runBytes, stepBytes, wordsOfBytes}
 use Rattle.rules.specs.Demands.{BytesDemand1, names}
 use Rattle.rules.specs.Hall.{Hall}
 use Rattle.rules.specs.Steps.{Answer, Call}
@@ -37,7 +38,8 @@ bytes-are-bytes (word ∷ words) (suc (suc j)) = bytes-are-bytes words j
 
 words-then : (words rest : List ℕ) → Words16 words → wordsOfBytes (bytesOfWords words ++ rest) ≡ words ++ wordsOfBytes rest
 words-then [] rest h = refl
-words-then (word ∷ words) rest h = let e : word % 256 + 256 * (word / 256 % 256) ≡ word = omega (arith, h 0) in λ i. e i ∷ words-then words rest (λ j. h (suc j)) i
+words-then (word ∷ words) rest h =
+    let e : word % 256 + 256 * (word / 256 % 256) ≡ word = omega (arith, h 0) in λ i. e i ∷ words-then words rest (λ j. h (suc j)) i
 
 no-word : (bytes : List ℕ) → length bytes ≤ 1 → wordsOfBytes bytes ≡ []
 no-word [] h = refl
@@ -63,11 +65,13 @@ laid-back (low ∷ high ∷ bytes) h =
     let n : ℕ = length (wordsOfBytes bytes) in
     let e : 2 * suc n ≡ suc (suc (2 * n)) = omega arith in
     let b = low-and-high low high (h 0) (h 1) in
-    (λ i. b .0 i ∷ b .1 i ∷ (bytesOfWords (wordsOfBytes bytes) ++ drop (e i) (low ∷ high ∷ bytes))) ∙ ap {B = List ℕ} (λ r. low ∷ high ∷ r) (laid-back bytes (λ j. h (suc (suc j))))
+    (λ i. b .0 i ∷ b .1 i ∷ (bytesOfWords (wordsOfBytes bytes) ++ drop (e i) (low ∷ high ∷ bytes)))
+    ∙ ap {B = List ℕ} (λ r. low ∷ high ∷ r) (laid-back bytes (λ j. h (suc (suc j))))
 
 pub laid-length : (words bytes : List ℕ) → 2 * length words ≤ length bytes → length (laidOver words bytes) ≡ length bytes
 unfolding laidOver
-laid-length words bytes h = omega (arith, length-append (bytesOfWords words) (drop (2 * length words) bytes), bytes-length words, length-drop (2 * length words) bytes)
+laid-length words bytes h =
+    omega (arith, length-append (bytesOfWords words) (drop (2 * length words) bytes), bytes-length words, length-drop (2 * length words) bytes)
 
 pub laid-past : (words bytes : List ℕ) → drop (2 * length words) (laidOver words bytes) ≡ drop (2 * length words) bytes
 unfolding laidOver
@@ -75,13 +79,16 @@ laid-past words bytes = drop-at (bytesOfWords words) (drop (2 * length words) by
 
 pub laid-are-bytes : (words bytes : List ℕ) → IsBytes bytes → IsBytes (laidOver words bytes)
 unfolding laidOver
-laid-are-bytes words bytes h = below-append 256 (bytesOfWords words) (drop (2 * length words) bytes) (bytes-are-bytes words) (λ j. rw (getD-drop (2 * length words) bytes j 0) (h (2 * length words + j)))
+laid-are-bytes words bytes h =
+    below-append 256 (bytesOfWords words) (drop (2 * length words) bytes) (bytes-are-bytes words)
+    (λ j. rw (getD-drop (2 * length words) bytes j 0) (h (2 * length words + j)))
 
 pub laid-words : (words bytes : List ℕ) → Words16 words → length words ≡ length (wordsOfBytes bytes) → wordsOfBytes (laidOver words bytes) ≡ words
 unfolding laidOver
 laid-words words bytes h e =
     words-then words (drop (2 * length words) bytes) h
-    ∙ ap (λ (r : List ℕ). words ++ r) (no-word (drop (2 * length words) bytes) (omega (arith, length-drop (2 * length words) bytes, words-length bytes)))
+    ∙ ap (λ (r : List ℕ). words ++ r)
+    (no-word (drop (2 * length words) bytes) (omega (arith, length-drop (2 * length words) bytes, words-length bytes)))
     ∙ append-nothing words
 
 -- ---- The answer in one number.
@@ -92,7 +99,8 @@ heard-back answer h =
     λ i. record { number = n i; session = s i }
 
 -- ---- A call on bytes agrees with the call on the words in them.
-agrees : (bytes : List ℕ) (told : TableDone) → IsBytes bytes → told .answer .session < 65536 → Words16 (told .after) → length (told .after) ≡ length (wordsOfBytes bytes) → Agrees bytes (onBytes told bytes) told
+agrees : (bytes : List ℕ) (told : TableDone) → IsBytes bytes → told .answer .session < 65536 → Words16 (told .after)
+    → length (told .after) ≡ length (wordsOfBytes bytes) → Agrees bytes (onBytes told bytes) told
 agrees bytes told h s w e =
     let e2 : 2 * length (told .after) ≡ 2 * length (wordsOfBytes bytes) = omega arith in
     record {
@@ -103,7 +111,8 @@ agrees bytes told h s w e =
       lastByte = subst (λ (n : ℕ). drop n (laidOver (told .after) bytes) ≡ drop n bytes) e2 (laid-past (told .after) bytes);
     }
 
-pub bytes-step : (bytes : List ℕ) (call : Call) → IsBytes bytes → Call16 call → Agrees bytes (stepBytes bytes call) (stepTable (wordsOfBytes bytes) call)
+pub bytes-step : (bytes : List ℕ) (call : Call) → IsBytes bytes → Call16 call
+    → Agrees bytes (stepBytes bytes call) (stepTable (wordsOfBytes bytes) call)
 unfolding stepBytes
 bytes-step bytes call h w =
     let words = wordsOfBytes bytes in
@@ -114,7 +123,8 @@ pub bytes-open : (hall : Hall) (bytes : List ℕ) → IsBytes bytes → Agrees b
 unfolding openBytes
 bytes-open hall bytes h =
     let words = wordsOfBytes bytes in
-    agrees bytes (openTable hall words) h (omega (arith, open-session hall words)) (open-words hall words (words-are-16 bytes h)) (open-length hall words)
+    agrees bytes (openTable hall words) h (omega (arith, open-session hall words)) (open-words hall words (words-are-16 bytes h))
+    (open-length hall words)
 
 -- ---- A list of calls.
 pub bytes-run : (bytes : List ℕ) (calls : List Call) → IsBytes bytes → Calls16 calls → runBytes bytes calls ≡ runTable (wordsOfBytes bytes) calls
@@ -124,7 +134,8 @@ bytes-run bytes (call ∷ calls) h w =
     let later = bytes-run (stepBytes bytes call .after) calls (a .areBytes) (w .1) in
     λ i. record { call = call; answer = a .heard i } ∷ (later ∙ ap (λ (t : List ℕ). runTable t calls) (a .words)) i
 
-pub bytes-end : (bytes : List ℕ) (calls : List Call) → IsBytes bytes → Calls16 calls → wordsOfBytes (endBytes bytes calls) ≡ endTable (wordsOfBytes bytes) calls
+pub bytes-end : (bytes : List ℕ) (calls : List Call) → IsBytes bytes → Calls16 calls
+    → wordsOfBytes (endBytes bytes calls) ≡ endTable (wordsOfBytes bytes) calls
 bytes-end bytes [] h w = refl
 bytes-end bytes (call ∷ calls) h w =
     let a = bytes-step bytes call h (w .0) in
@@ -137,20 +148,24 @@ end-are-bytes bytes (call ∷ calls) h w = end-are-bytes (stepBytes bytes call .
 
 pub end-length : (bytes : List ℕ) (calls : List Call) → IsBytes bytes → Calls16 calls → length (endBytes bytes calls) ≡ length bytes
 end-length bytes [] h w = refl
-end-length bytes (call ∷ calls) h w = let a = bytes-step bytes call h (w .0) in end-length (stepBytes bytes call .after) calls (a .areBytes) (w .1) ∙ a .sameLength
+end-length bytes (call ∷ calls) h w =
+    let a = bytes-step bytes call h (w .0) in end-length (stepBytes bytes call .after) calls (a .areBytes) (w .1) ∙ a .sameLength
 
-pub end-last-byte : (bytes : List ℕ) (calls : List Call) → IsBytes bytes → Calls16 calls → drop (2 * length (wordsOfBytes bytes)) (endBytes bytes calls) ≡ drop (2 * length (wordsOfBytes bytes)) bytes
+pub end-last-byte : (bytes : List ℕ) (calls : List Call) → IsBytes bytes → Calls16 calls
+    → drop (2 * length (wordsOfBytes bytes)) (endBytes bytes calls) ≡ drop (2 * length (wordsOfBytes bytes)) bytes
 end-last-byte bytes [] h w = refl
 end-last-byte bytes (call ∷ calls) h w =
     let a = bytes-step bytes call h (w .0) in
     let after : List ℕ = stepBytes bytes call .after in
-    let n : length (wordsOfBytes after) ≡ length (wordsOfBytes bytes) = ap length (a .words) ∙ step-length (wordsOfBytes bytes) call (words-are-16 bytes h) in
+    let n : length (wordsOfBytes after) ≡ length (wordsOfBytes bytes) =
+    ap length (a .words) ∙ step-length (wordsOfBytes bytes) call (words-are-16 bytes h) in
     let e : 2 * length (wordsOfBytes after) ≡ 2 * length (wordsOfBytes bytes) = omega arith in
     subst (λ (m : ℕ). drop m (endBytes after calls) ≡ drop m after) e (end-last-byte after calls (a .areBytes) (w .1)) ∙ a .lastByte
 
 -- ---- Demand 1.
 -- a byte stays where its word stays, and where it stands past the words
-pub laid-word : (words bytes : List ℕ) (j : ℕ) → IsBytes bytes → length words ≡ length (wordsOfBytes bytes) → getD words (j / 2) 0 ≡ getD (wordsOfBytes bytes) (j / 2) 0 → getD (laidOver words bytes) j 0 ≡ getD bytes j 0
+pub laid-word : (words bytes : List ℕ) (j : ℕ) → IsBytes bytes → length words ≡ length (wordsOfBytes bytes)
+    → getD words (j / 2) 0 ≡ getD (wordsOfBytes bytes) (j / 2) 0 → getD (laidOver words bytes) j 0 ≡ getD bytes j 0
 unfolding laidOver
 laid-word [] bytes j h e q = refl
 laid-word (word ∷ words) [] j h e q = absurd (omega arith)
@@ -161,12 +176,14 @@ laid-word (word ∷ words) (low ∷ high ∷ bytes) (suc (suc j)) h e q =
     let n : 2 * suc (length words) ≡ suc (suc (2 * length words)) = omega arith in
     let i : suc (suc j) / 2 ≡ suc (j / 2) = omega arith in
     ap (λ (m : ℕ). getD (bytesOfWords words ++ drop m (low ∷ high ∷ bytes)) j 0) n
-    ∙ laid-word words bytes j (λ k. h (suc (suc k))) (omega arith) (subst (λ (k : ℕ). getD (word ∷ words) k 0 ≡ getD (wordsOfBytes (low ∷ high ∷ bytes)) k 0) i q)
+    ∙ laid-word words bytes j (λ k. h (suc (suc k))) (omega arith)
+    (subst (λ (k : ℕ). getD (word ∷ words) k 0 ≡ getD (wordsOfBytes (low ∷ high ∷ bytes)) k 0) i q)
 
 same-past : (n : ℕ) (xs ys : List ℕ) → drop n xs ≡ drop n ys → (j : ℕ) → n ≤ j → getD xs j 0 ≡ getD ys j 0
 same-past n xs ys e j h =
     let k : n + (j - n) ≡ j = omega arith in
-    subst (λ (m : ℕ). getD xs m 0 ≡ getD ys m 0) k (sym (getD-drop n xs (j - n) 0) ∙ ap (λ (l : List ℕ). getD l (j - n) 0) e ∙ getD-drop n ys (j - n) 0)
+    subst (λ (m : ℕ). getD xs m 0 ≡ getD ys m 0) k
+    (sym (getD-drop n xs (j - n) 0) ∙ ap (λ (l : List ℕ). getD l (j - n) 0) e ∙ getD-drop n ys (j - n) 0)
 
 -- demand 1 on bytes, from what an accepted step leaves of the words
 pub bytes-demand1 : (bytes : List ℕ) (call : Call) → IsBytes bytes → Call16 call
@@ -178,8 +195,10 @@ bytes-demand1 bytes call h w fact =
     let a = bytes-step bytes call h w in
     let number : reply (stepTable words call .answer) / 65536 ≡ stepTable words call .answer .number = ap (λ (x : Answer). x .number) (a .heard) in
     record {
-      refused = λ n e. (let r = step-refused words call n (sym number ∙ e) in (r .0, omega (arith, r .1), ap (λ (t : List ℕ). laidOver t bytes) (r .2) ∙ laid-back bytes h));
-      accepted = λ e j q. laid-word (stepTable words call .after) bytes j h (step-length words call (words-are-16 bytes h)) (fact (sym number ∙ e) (j / 2) q);
+      refused =
+          λ n e. (let r = step-refused words call n (sym number ∙ e) in (r .0, omega (arith, r .1), ap (λ (t : List ℕ). laidOver t bytes) (r .2) ∙ laid-back bytes h));
+      accepted =
+          λ e j q. laid-word (stepTable words call .after) bytes j h (step-length words call (words-are-16 bytes h)) (fact (sym number ∙ e) (j / 2) q);
       lastByte = same-past (2 * length words) (stepBytes bytes call .after) bytes (a .lastByte);
       sameLength = a .sameLength;
     }

@@ -9,9 +9,11 @@ use lib.Dec.{eqb}
 use borrow.Author.Tests.{eqb-true, eqb-false}
 use Rattle.rules.specs.Hall.{Desk, TestedPlace, unmarked, usedPlaces}
 use Rattle.rules.specs.History.{copies, oneIf}
-use Rattle.rules.specs.Steps.{begin, beginAt, collect, isSession, markEach, markedOf, nextScreens, readScreens, retire, scan, scanAt, settle, settleIf, unmarkedOf}
+use Rattle.rules.specs.Steps.{begin, beginAt, collect, isSession, markEach, markedOf, nextScreens, readScreens, retire, scan, scanAt, settle}
+use Rattle.rules.specs.Steps.{settleIf, unmarkedOf}
 use Rattle.rules.specs.laws.Lists.{copies-append, copies-drop, matches, matches-other}
-use Rattle.rules.specs.laws.Marks.{length-mark-each, length-next-screens, tested-copies-begin, tested-copies-mark-each, testedCopies, unmarked-and-marked}
+use Rattle.rules.specs.laws.Marks.{length-mark-each, length-next-screens, tested-copies-begin, tested-copies-mark-each, testedCopies}
+use Rattle.rules.specs.laws.Marks.{unmarked-and-marked}
 
 abbrev pub copiesOn : ℕ → Desk → ℕ
 copiesOn s D = copies s (D .ready) + testedCopies s (D .tested) + copies s (D .waiting)
@@ -43,8 +45,16 @@ by-scan Q S shown A hS hl g rest on over = at (A .tested) refl g
     at (p ∷ ps) e h = at1 (eqb (A .scanned + length (nextScreens shown A)) S) refl
       where
         at1 : (b : Bool) → eqb (A .scanned + length (nextScreens shown A)) S ≡ b → Q (settleIf b (readScreens (nextScreens shown A) A))
-        at1 true q = let ls = length-next-screens (A .scanned) shown in let ks = eqb-true (A .scanned + length (nextScreens shown A)) S q in let le = ap length e in over (omega arith) h (omega arith) ks
-        at1 false q = let ls = length-next-screens (A .scanned) shown in let nk = eqb-false (A .scanned + length (nextScreens shown A)) S q in let le = ap length e in on (omega arith) (omega arith) (omega arith)
+        at1 true q =
+            let ls = length-next-screens (A .scanned) shown in
+            let ks = eqb-true (A .scanned + length (nextScreens shown A)) S q in
+            let le = ap length e in
+            over (omega arith) h (omega arith) ks
+        at1 false q =
+            let ls = length-next-screens (A .scanned) shown in
+            let nk = eqb-false (A .scanned + length (nextScreens shown A)) S q in
+            let le = ap length e in
+            on (omega arith) (omega arith) (omega arith)
 
 -- (a) moves the waiting ones, and changes no count.
 pub record BeginKeeps (S : ℕ) (D A : Desk) : Type 0 where
@@ -61,7 +71,12 @@ pub begin-keeps : (S : ℕ) (D : Desk) → 1 ≤ S → Orderly S D → BeginKeep
 begin-keeps S D hS ok = go (D .tested) refl (ok .going)
   where
     go : (t : List TestedPlace) → D .tested ≡ t → Scanning S (D .scanned) t → BeginKeeps S D (beginAt t D)
-    go [] e g = record { total = let le = ap length e in let lm = length-map (D .waiting) unmarked in omega arith; copy = λ s. (let be = ap (testedCopies s) e in let bf = tested-copies-begin s (D .waiting) in omega arith); ready = refl; going = going-free S (D .scanned) (D .waiting) hS g }
+    go [] e g = record {
+      total = let le = ap length e in let lm = length-map (D .waiting) unmarked in omega arith;
+      copy = λ s. (let be = ap (testedCopies s) e in let bf = tested-copies-begin s (D .waiting) in omega arith);
+      ready = refl;
+      going = going-free S (D .scanned) (D .waiting) hS g;
+    }
     go (p ∷ ps) e g = record { total = refl; copy = λ s. refl; ready = refl; going = ok .going }
 
 -- (b) and (c) change no count.
@@ -70,7 +85,8 @@ pub record ScanKeeps (S : ℕ) (A X : Desk) : Type 0 where
   pub copy : (s : ℕ) → copiesOn s X ≡ copiesOn s A
   pub going : Scanning S (X .scanned) (X .tested)
 
-pub scan-keeps : (S : ℕ) (shown : List ℕ) (A : Desk) → 1 ≤ S → length shown ≡ S → Scanning S (A .scanned) (A .tested) → ScanKeeps S A (settle S (scan shown A))
+pub scan-keeps : (S : ℕ) (shown : List ℕ) (A : Desk) → 1 ≤ S → length shown ≡ S → Scanning S (A .scanned) (A .tested)
+    → ScanKeeps S A (settle S (scan shown A))
 scan-keeps S shown A hS hl g = by-scan (ScanKeeps S A) S shown A hS hl g (λ e. record { total = refl; copy = λ s. refl; going = g }) on over
   where
     busy : (t : List TestedPlace) (k : ℕ) → 1 ≤ length t → k < S → Scanning S k t
@@ -80,16 +96,26 @@ scan-keeps S shown A hS hl g = by-scan (ScanKeeps S A) S shown A hS hl g (λ e. 
     on : 1 ≤ length (A .tested) → length (nextScreens shown A) ≡ 2 → A .scanned + 2 < S → ScanKeeps S A (readScreens (nextScreens shown A) A)
     on h1 h2 h3 =
         let lw = length-mark-each (nextScreens shown A) (A .tested) in
-        record { total = omega arith; copy = λ s. (let bs = tested-copies-mark-each s (nextScreens shown A) (A .tested) in omega arith); going = busy (markEach (nextScreens shown A) (A .tested)) (A .scanned + length (nextScreens shown A)) (omega arith) (omega arith) }
+        record {
+          total = omega arith;
+          copy = λ s. (let bs = tested-copies-mark-each s (nextScreens shown A) (A .tested) in omega arith);
+          going = busy (markEach (nextScreens shown A) (A .tested)) (A .scanned + length (nextScreens shown A)) (omega arith) (omega arith);
+        }
 
-    over : 1 ≤ length (A .tested) → A .scanned < S → S ≤ A .scanned + 2 → A .scanned + length (nextScreens shown A) ≡ S → ScanKeeps S A (settleIf true (readScreens (nextScreens shown A) A))
+    over : 1 ≤ length (A .tested) → A .scanned < S → S ≤ A .scanned + 2 → A .scanned + length (nextScreens shown A) ≡ S
+        → ScanKeeps S A (settleIf true (readScreens (nextScreens shown A) A))
     over h1 h2 h3 h4 =
         let t = markEach (nextScreens shown A) (A .tested) in
         let lw = length-mark-each (nextScreens shown A) (A .tested) in
         let fk = unmarked-and-marked t in
         let la = length-append (A .ready) (unmarkedOf t) in
         let lb = length-append (markedOf t) (A .waiting) in
-        record { total = omega arith; copy = λ s. (let bs = tested-copies-mark-each s (nextScreens shown A) (A .tested) in let ca = copies-append s (A .ready) (unmarkedOf t) in let cb = copies-append s (markedOf t) (A .waiting) in omega arith); going = refl }
+        record {
+          total = omega arith;
+          copy =
+              λ s. (let bs = tested-copies-mark-each s (nextScreens shown A) (A .tested) in let ca = copies-append s (A .ready) (unmarkedOf t) in let cb = copies-append s (markedOf t) (A .waiting) in omega arith);
+          going = refl;
+        }
 
 -- What a collect leaves: the counts before the hand-back.
 abbrev pub beforeHandBack : ℕ → List ℕ → Desk → Desk
@@ -122,14 +148,20 @@ pub collect-orderly : (S : ℕ) (shown : List ℕ) (D : Desk) → 1 ≤ S → le
 collect-orderly S shown D hS hl ok =
     let b = before-hand-back S shown D hS hl ok in
     let X = beforeHandBack S shown D in
-    record { total = omega (arith, b .total, ok .total, length-drop 1 (X .ready)); real = omega (arith, b .copy 0, ok .real, copies-drop 0 1 (X .ready)); going = b .going }
+    record {
+      total = omega (arith, b .total, ok .total, length-drop 1 (X .ready));
+      real = omega (arith, b .copy 0, ok .real, copies-drop 0 1 (X .ready));
+      going = b .going;
+    }
 
-pub collect-copies : (s S : ℕ) (shown : List ℕ) (D : Desk) → 1 ≤ S → length shown ≡ S → Orderly S D → (s ≡ 0 → ⊥) → copiesOn s (collect S shown D .after) + matches s (collect S shown D .session) ≡ copiesOn s D
+pub collect-copies : (s S : ℕ) (shown : List ℕ) (D : Desk) → 1 ≤ S → length shown ≡ S → Orderly S D → (s ≡ 0 → ⊥)
+    → copiesOn s (collect S shown D .after) + matches s (collect S shown D .session) ≡ copiesOn s D
 collect-copies s S shown D hS hl ok h =
     let b = before-hand-back S shown D hS hl ok in
     omega (arith, b .copy s, first-leaves-copies s (beforeHandBack S shown D .ready) h)
 
-pub collect-places : (S : ℕ) (shown : List ℕ) (D : Desk) → 1 ≤ S → length shown ≡ S → Orderly S D → usedPlaces (collect S shown D .after) + oneIf (isSession (collect S shown D .session)) ≡ usedPlaces D
+pub collect-places : (S : ℕ) (shown : List ℕ) (D : Desk) → 1 ≤ S → length shown ≡ S → Orderly S D
+    → usedPlaces (collect S shown D .after) + oneIf (isSession (collect S shown D .session)) ≡ usedPlaces D
 collect-places S shown D hS hl ok =
     let b = before-hand-back S shown D hS hl ok in
     let X = beforeHandBack S shown D in
@@ -137,7 +169,11 @@ collect-places S shown D hS hl ok =
     omega (arith, b .total, first-leaves-length (X .ready) hz)
 
 pub retire-orderly : (S : ℕ) (D : Desk) → (D .owed ≡ 0 → ⊥) → usedPlaces D < 2 * S → Orderly S D → Orderly S (retire D)
-retire-orderly S D h l ok = record { total = omega (arith, length-append (D .waiting) (D .owed ∷ [])); real = omega (arith, ok .real, copies-append 0 (D .waiting) (D .owed ∷ []), matches-other 0 (D .owed) (λ q. h (sym q))); going = ok .going }
+retire-orderly S D h l ok = record {
+  total = omega (arith, length-append (D .waiting) (D .owed ∷ []));
+  real = omega (arith, ok .real, copies-append 0 (D .waiting) (D .owed ∷ []), matches-other 0 (D .owed) (λ q. h (sym q)));
+  going = ok .going;
+}
 
 pub retire-copies : (s v : ℕ) (D : Desk) → D .owed ≡ v → copiesOn s (retire D) ≡ copiesOn s D + matches s v
 retire-copies s v D q = omega (arith, copies-append s (D .waiting) (D .owed ∷ []), ap (matches s) q)

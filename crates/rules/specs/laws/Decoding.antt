@@ -11,7 +11,9 @@ use lib.Dec.{leb, eqb}
 use borrow.Author.Tests.{eqb-true, eqb-false, leb-true}
 use Rattle.rules.specs.Hall.{Hall, TestedPlace, allScreens}
 use Rattle.rules.specs.Steps.{inRange}
-use Rattle.rules.specs.Table.{bitValue, bitsOfWord, bitsOfWords, decode, decodeDesk, encode, encodeDesk, every, everyRecord, hallIn, joined, marksOf, need, ones, pieces, placesOf, recordSound, recordWidth, recordsIn, scanSound, sessionsOf, sound, wordOfBits, wordsOfBits}
+use Rattle.rules.specs.Table.{bitValue, bitsOfWord, bitsOfWords, decode, decodeDesk, encode, encodeDesk, every, everyRecord, hallIn, joined}
+use Rattle.rules.specs.Table.{marksOf, need, ones, pieces, placesOf, recordSound, recordWidth, recordsIn, scanSound, sessionsOf, sound}
+use Rattle.rules.specs.Table.{wordOfBits, wordsOfBits}
 use Rattle.rules.specs.laws.Effect.{in-range}
 
 -- bits and words
@@ -42,7 +44,8 @@ Small (w ∷ ws) = (w < 65536) × Small ws
 
 words-unwords : (ws : List ℕ) → Small ws → wordsOfBits (length ws) (bitsOfWords ws) ≡ ws
 words-unwords [] h = refl
-words-unwords (w ∷ ws) h = λ i. (ap wordOfBits (take-at (bitsOfWord 16 w) (bitsOfWords ws) 16 (length-bits 16 w)) ∙ word-bits 16 w (h .0)) i ∷ (ap (wordsOfBits (length ws)) (drop-at (bitsOfWord 16 w) (bitsOfWords ws) 16 (length-bits 16 w)) ∙ words-unwords ws (h .1)) i
+words-unwords (w ∷ ws) h =
+    λ i. (ap wordOfBits (take-at (bitsOfWord 16 w) (bitsOfWords ws) 16 (length-bits 16 w)) ∙ word-bits 16 w (h .0)) i ∷ (ap (wordsOfBits (length ws)) (drop-at (bitsOfWord 16 w) (bitsOfWords ws) 16 (length-bits 16 w)) ∙ words-unwords ws (h .1)) i
 
 -- places
 sessions-join : (xs : List ℕ) (bs : List Bool) → sessionsOf (placesOf xs bs) ≡ xs
@@ -67,7 +70,8 @@ zeros : (xs : List ℕ) → every (λ x. eqb x 0) xs ≡ true → xs ≡ replica
 zeros [] h = refl
 zeros (x ∷ xs) h = go (eqb x 0) refl h (zeros xs)
   where
-    go : (b : Bool) → eqb x 0 ≡ b → b && every (λ x. eqb x 0) xs ≡ true → (every (λ x. eqb x 0) xs ≡ true → xs ≡ replicate (length xs) 0) → _≡_ {A = List ℕ} (x ∷ xs) (0 ∷ replicate (length xs) 0)
+    go : (b : Bool) → eqb x 0 ≡ b → b && every (λ x. eqb x 0) xs ≡ true → (every (λ x. eqb x 0) xs ≡ true → xs ≡ replicate (length xs) 0)
+        → _≡_ {A = List ℕ} (x ∷ xs) (0 ∷ replicate (length xs) 0)
     go true q e ih = λ i. eqb-true x 0 q i ∷ ih e i
     go false q e ih = let z : _≡_ {A = ℕ} 0 1 = cc in absurd (omega arith)
 
@@ -101,19 +105,27 @@ module _ (S a b c : ℕ) (l : List ℕ) (u : List Bool) (hl : length l ≡ 2 * S
 
   part-u : ones (drop b u) ≡ 0 → marksOf td ++ replicate (128 - length td) false ≡ u
   part-u e =
-      let f = flags-join (take b (drop a l)) (take b u) (omega (arith, length-take-le b (drop a l) (omega (arith, length-drop a l)), length-take-le b u (omega arith))) in
+      let f =
+      flags-join (take b (drop a l)) (take b u)
+      (omega (arith, length-take-le b (drop a l) (omega (arith, length-drop a l)), length-take-le b u (omega arith))) in
       let n : length (drop b u) ≡ 128 - length td = omega (arith, length-drop b u, part-b) in
       ap₂ {C = List Bool} (λ x y. x ++ y) f (ap (λ (m : ℕ). replicate m false) (sym n) ∙ sym (every-one (drop b u) e)) ∙ take-append-drop b u
 
   pub list-parts : rd ++ (sessionsOf td ++ wd) ≡ take (a + b + c) l
-  list-parts = ap (λ (x : List ℕ). rd ++ (x ++ wd)) (sessions-join (take b (drop a l)) (take b u)) ∙ sym (take-add (a + b) c l ∙ ap (λ (x : List ℕ). x ++ wd) (take-add a b l) ∙ append-assoc (take a l) (take b (drop a l)) wd)
+  list-parts =
+      ap (λ (x : List ℕ). rd ++ (x ++ wd)) (sessions-join (take b (drop a l)) (take b u))
+      ∙ sym (take-add (a + b) c l ∙ ap (λ (x : List ℕ). x ++ wd) (take-add a b l) ∙ append-assoc (take a l) (take b (drop a l)) wd)
 
-  part-l : every (λ x. eqb x 0) (drop (a + b + c) l) ≡ true → (rd ++ (sessionsOf td ++ wd)) ++ replicate (2 * S - length (rd ++ (sessionsOf td ++ wd))) 0 ≡ l
+  part-l : every (λ x. eqb x 0) (drop (a + b + c) l) ≡ true
+      → (rd ++ (sessionsOf td ++ wd)) ++ replicate (2 * S - length (rd ++ (sessionsOf td ++ wd))) 0 ≡ l
   part-l e =
-      let n : length (drop (a + b + c) l) ≡ 2 * S - length (rd ++ (sessionsOf td ++ wd)) = omega (arith, length-drop (a + b + c) l, ap length list-parts, length-take-le (a + b + c) l (omega arith)) in
-      ap₂ {C = List ℕ} (λ x y. x ++ y) list-parts (ap (λ (m : ℕ). replicate {A = ℕ} m 0) (sym n) ∙ sym (zeros (drop (a + b + c) l) e)) ∙ take-append-drop (a + b + c) l
+      let n : length (drop (a + b + c) l) ≡ 2 * S - length (rd ++ (sessionsOf td ++ wd)) =
+      omega (arith, length-drop (a + b + c) l, ap length list-parts, length-take-le (a + b + c) l (omega arith)) in
+      ap₂ {C = List ℕ} (λ x y. x ++ y) list-parts (ap (λ (m : ℕ). replicate {A = ℕ} m 0) (sym n) ∙ sym (zeros (drop (a + b + c) l) e))
+      ∙ take-append-drop (a + b + c) l
 
-pub recode : (S o k a b c m0 m1 m2 m3 m4 m5 m6 m7 : ℕ) (l : List ℕ) → length l ≡ 2 * S → S ≤ 64 → Small (m0 ∷ m1 ∷ m2 ∷ m3 ∷ m4 ∷ m5 ∷ m6 ∷ m7 ∷ []) → recordSound S (o ∷ k ∷ a ∷ b ∷ c ∷ m0 ∷ m1 ∷ m2 ∷ m3 ∷ m4 ∷ m5 ∷ m6 ∷ m7 ∷ l) ≡ true
+pub recode : (S o k a b c m0 m1 m2 m3 m4 m5 m6 m7 : ℕ) (l : List ℕ) → length l ≡ 2 * S → S ≤ 64 → Small (m0 ∷ m1 ∷ m2 ∷ m3 ∷ m4 ∷ m5 ∷ m6 ∷ m7 ∷ [])
+    → recordSound S (o ∷ k ∷ a ∷ b ∷ c ∷ m0 ∷ m1 ∷ m2 ∷ m3 ∷ m4 ∷ m5 ∷ m6 ∷ m7 ∷ l) ≡ true
     → encodeDesk S (decodeDesk (o ∷ k ∷ a ∷ b ∷ c ∷ m0 ∷ m1 ∷ m2 ∷ m3 ∷ m4 ∷ m5 ∷ m6 ∷ m7 ∷ l)) ≡ o ∷ k ∷ a ∷ b ∷ c ∷ m0 ∷ m1 ∷ m2 ∷ m3 ∷ m4 ∷ m5 ∷ m6 ∷ m7 ∷ l
 unfolding encodeDesk decodeDesk recordSound
 recode S o k a b c m0 m1 m2 m3 m4 m5 m6 m7 l hl hS sm h =
@@ -123,7 +135,8 @@ recode S o k a b c m0 m1 m2 m3 m4 m5 m6 m7 l hl hS sm h =
     let h2 : n2 ws ≡ true = and-2 (every (λ x. not (eqb x 0)) (take (a + b + c) l)) (n2 ws) h1 in
     let hz : every (λ x. eqb x 0) (drop (a + b + c) l) ≡ true = and-1 (every (λ x. eqb x 0) (drop (a + b + c) l)) (n3 ws) h2 in
     let h3 : n3 ws ≡ true = and-2 (every (λ x. eqb x 0) (drop (a + b + c) l)) (n3 ws) h2 in
-    let ho : ones (drop b (bitsOfWords ws)) ≡ 0 = eqb-true (ones (drop b (bitsOfWords ws))) 0 (and-1 (eqb (ones (drop b (bitsOfWords ws))) 0) (n4 ws) h3) in
+    let ho : ones (drop b (bitsOfWords ws)) ≡ 0 =
+    eqb-true (ones (drop b (bitsOfWords ws))) 0 (and-1 (eqb (ones (drop b (bitsOfWords ws))) 0) (n4 ws) h3) in
     let hu : length (bitsOfWords ws) ≡ 128 = length-unwords ws in
     let q : wordsOfBits 8 (bitsOfWords ws) ≡ ws = words-unwords ws sm in
     (λ i. o ∷ k ∷ part-a S a b c l (bitsOfWords ws) hl hu hS h0 i ∷ part-b S a b c l (bitsOfWords ws) hl hu hS h0 i ∷ part-c S a b c l (bitsOfWords ws) hl hu hS h0 i ∷ (wordsOfBits 8 (part-u S a b c l (bitsOfWords ws) hl hu hS h0 ho i) ++ part-l S a b c l (bitsOfWords ws) hl hu hS h0 hz i))
@@ -141,14 +154,20 @@ recode S o k a b c m0 m1 m2 m3 m4 m5 m6 m7 l hl hS sm h =
     n1 : List ℕ → Bool
     n1 v = every (λ x. not (eqb x 0)) (take (a + b + c) l) && n2 v
 
-parts : (r : List ℕ) → 13 ≤ length r → r ≡ getD r 0 0 ∷ getD r 1 0 ∷ getD r 2 0 ∷ getD r 3 0 ∷ getD r 4 0 ∷ getD r 5 0 ∷ getD r 6 0 ∷ getD r 7 0 ∷ getD r 8 0 ∷ getD r 9 0 ∷ getD r 10 0 ∷ getD r 11 0 ∷ getD r 12 0 ∷ drop 13 r
-parts r h = drop-cons r 0 0 (omega arith) ∙ ap {B = List ℕ} (λ x. getD r 0 0 ∷ x) (drop-cons r 1 0 (omega arith) ∙ ap {B = List ℕ} (λ x. getD r 1 0 ∷ x) (drop-cons r 2 0 (omega arith) ∙ ap {B = List ℕ} (λ x. getD r 2 0 ∷ x) (drop-cons r 3 0 (omega arith) ∙ ap {B = List ℕ} (λ x. getD r 3 0 ∷ x) (drop-cons r 4 0 (omega arith) ∙ ap {B = List ℕ} (λ x. getD r 4 0 ∷ x) (drop-cons r 5 0 (omega arith) ∙ ap {B = List ℕ} (λ x. getD r 5 0 ∷ x) (drop-cons r 6 0 (omega arith) ∙ ap {B = List ℕ} (λ x. getD r 6 0 ∷ x) (drop-cons r 7 0 (omega arith) ∙ ap {B = List ℕ} (λ x. getD r 7 0 ∷ x) (drop-cons r 8 0 (omega arith) ∙ ap {B = List ℕ} (λ x. getD r 8 0 ∷ x) (drop-cons r 9 0 (omega arith) ∙ ap {B = List ℕ} (λ x. getD r 9 0 ∷ x) (drop-cons r 10 0 (omega arith) ∙ ap {B = List ℕ} (λ x. getD r 10 0 ∷ x) (drop-cons r 11 0 (omega arith) ∙ ap {B = List ℕ} (λ x. getD r 11 0 ∷ x) (drop-cons r 12 0 (omega arith)))))))))))))
+parts : (r : List ℕ) → 13 ≤ length r
+    → r ≡ getD r 0 0 ∷ getD r 1 0 ∷ getD r 2 0 ∷ getD r 3 0 ∷ getD r 4 0 ∷ getD r 5 0 ∷ getD r 6 0 ∷ getD r 7 0 ∷ getD r 8 0 ∷ getD r 9 0 ∷ getD r 10 0 ∷ getD r 11 0 ∷ getD r 12 0 ∷ drop 13 r
+parts r h =
+    drop-cons r 0 0 (omega arith)
+    ∙ ap {B = List ℕ} (λ x. getD r 0 0 ∷ x)
+    (drop-cons r 1 0 (omega arith) ∙ ap {B = List ℕ} (λ x. getD r 1 0 ∷ x) (drop-cons r 2 0 (omega arith) ∙ ap {B = List ℕ} (λ x. getD r 2 0 ∷ x) (drop-cons r 3 0 (omega arith) ∙ ap {B = List ℕ} (λ x. getD r 3 0 ∷ x) (drop-cons r 4 0 (omega arith) ∙ ap {B = List ℕ} (λ x. getD r 4 0 ∷ x) (drop-cons r 5 0 (omega arith) ∙ ap {B = List ℕ} (λ x. getD r 5 0 ∷ x) (drop-cons r 6 0 (omega arith) ∙ ap {B = List ℕ} (λ x. getD r 6 0 ∷ x) (drop-cons r 7 0 (omega arith) ∙ ap {B = List ℕ} (λ x. getD r 7 0 ∷ x) (drop-cons r 8 0 (omega arith) ∙ ap {B = List ℕ} (λ x. getD r 8 0 ∷ x) (drop-cons r 9 0 (omega arith) ∙ ap {B = List ℕ} (λ x. getD r 9 0 ∷ x) (drop-cons r 10 0 (omega arith) ∙ ap {B = List ℕ} (λ x. getD r 10 0 ∷ x) (drop-cons r 11 0 (omega arith) ∙ ap {B = List ℕ} (λ x. getD r 11 0 ∷ x) (drop-cons r 12 0 (omega arith)))))))))))))
 
 -- Any record of 16-bit words that passes the test.
-pub recode-any : (S : ℕ) (r : List ℕ) → length r ≡ 13 + 2 * S → S ≤ 64 → ((i : ℕ) → getD r i 0 < 65536) → recordSound S r ≡ true → encodeDesk S (decodeDesk r) ≡ r
+pub recode-any : (S : ℕ) (r : List ℕ) → length r ≡ 13 + 2 * S → S ≤ 64 → ((i : ℕ) → getD r i 0 < 65536) → recordSound S r ≡ true
+    → encodeDesk S (decodeDesk r) ≡ r
 recode-any S r hl hS sm h =
     let p = parts r (omega arith) in
-    subst (λ (x : List ℕ). encodeDesk S (decodeDesk x) ≡ x) (sym p) (recode S (getD r 0 0) (getD r 1 0) (getD r 2 0) (getD r 3 0) (getD r 4 0) (getD r 5 0) (getD r 6 0) (getD r 7 0) (getD r 8 0) (getD r 9 0) (getD r 10 0) (getD r 11 0) (getD r 12 0) (drop 13 r) (omega (arith, length-drop 13 r)) hS (sm 5, (sm 6, (sm 7, (sm 8, (sm 9, (sm 10, (sm 11, (sm 12, tt)))))))) (subst (λ (x : List ℕ). recordSound S x ≡ true) p h))
+    subst (λ (x : List ℕ). encodeDesk S (decodeDesk x) ≡ x) (sym p)
+    (recode S (getD r 0 0) (getD r 1 0) (getD r 2 0) (getD r 3 0) (getD r 4 0) (getD r 5 0) (getD r 6 0) (getD r 7 0) (getD r 8 0) (getD r 9 0) (getD r 10 0) (getD r 11 0) (getD r 12 0) (drop 13 r) (omega (arith, length-drop 13 r)) hS (sm 5, (sm 6, (sm 7, (sm 8, (sm 9, (sm 10, (sm 11, (sm 12, tt)))))))) (subst (λ (x : List ℕ). recordSound S x ≡ true) p h))
 
 pub small-drop : (n : ℕ) (r : List ℕ) → ((i : ℕ) → getD r i 0 < 65536) → (i : ℕ) → getD (drop n r) i 0 < 65536
 small-drop n r h i = rw (getD-drop n r i 0) (h (n + i))
@@ -159,26 +178,34 @@ small-take (suc n) [] h i = omega arith
 small-take (suc n) (x ∷ r) h zero = h 0
 small-take (suc n) (x ∷ r) h (suc i) = small-take n r (λ j. h (suc j)) i
 
-records-back : (S n : ℕ) (x : List ℕ) → S ≤ 64 → n * (13 + 2 * S) ≤ length x → ((i : ℕ) → getD x i 0 < 65536) → everyRecord (recordSound S) (pieces n (13 + 2 * S) x) ≡ true → joined (map (encodeDesk S) (map decodeDesk (pieces n (13 + 2 * S) x))) ≡ take (n * (13 + 2 * S)) x
+records-back : (S n : ℕ) (x : List ℕ) → S ≤ 64 → n * (13 + 2 * S) ≤ length x → ((i : ℕ) → getD x i 0 < 65536)
+    → everyRecord (recordSound S) (pieces n (13 + 2 * S) x) ≡ true
+    → joined (map (encodeDesk S) (map decodeDesk (pieces n (13 + 2 * S) x))) ≡ take (n * (13 + 2 * S)) x
 records-back S zero x hS hl sm h = ap (λ (m : ℕ). take m x) (nought (13 + 2 * S))
   where
     nought : (m : ℕ) → 0 ≡ 0 * m
     nought m = omega arith
 records-back S (suc n) x hS hl sm h =
     let w : ℕ = 13 + 2 * S in
-    let a = recode-any S (take w x) (length-take-le w x (omega arith)) hS (small-take w x sm) (and-1 (recordSound S (take w x)) (everyRecord (recordSound S) (pieces n w (drop w x))) h) in
-    let b = records-back S n (drop w x) hS (omega (arith, length-drop w x)) (small-drop w x sm) (and-2 (recordSound S (take w x)) (everyRecord (recordSound S) (pieces n w (drop w x))) h) in
+    let a =
+    recode-any S (take w x) (length-take-le w x (omega arith)) hS (small-take w x sm)
+    (and-1 (recordSound S (take w x)) (everyRecord (recordSound S) (pieces n w (drop w x))) h) in
+    let b =
+    records-back S n (drop w x) hS (omega (arith, length-drop w x)) (small-drop w x sm)
+    (and-2 (recordSound S (take w x)) (everyRecord (recordSound S) (pieces n w (drop w x))) h) in
     let c : w + n * w ≡ suc n * w = omega arith in
     ap₂ {C = List ℕ} (λ y z. y ++ z) a b ∙ sym (take-add w (n * w) x) ∙ ap (λ (m : ℕ). take m x) c
 
 glue : (a b c : ℕ) (x : List ℕ) → (take a x ++ (take b (drop a x) ++ take c (drop b (drop a x)))) ++ drop c (drop b (drop a x)) ≡ x
 glue a b c x =
     append-assoc (take a x) (take b (drop a x) ++ take c (drop b (drop a x))) (drop c (drop b (drop a x)))
-    ∙ ap {B = List ℕ} (λ y. take a x ++ y) (append-assoc (take b (drop a x)) (take c (drop b (drop a x))) (drop c (drop b (drop a x))) ∙ ap {B = List ℕ} (λ y. take b (drop a x) ++ y) (take-append-drop c (drop b (drop a x))) ∙ take-append-drop b (drop a x))
+    ∙ ap {B = List ℕ} (λ y. take a x ++ y)
+    (append-assoc (take b (drop a x)) (take c (drop b (drop a x))) (drop c (drop b (drop a x))) ∙ ap {B = List ℕ} (λ y. take b (drop a x) ++ y) (take-append-drop c (drop b (drop a x))) ∙ take-append-drop b (drop a x))
     ∙ take-append-drop a x
 
 -- A sound table of 16-bit words is its state's, with what stands past the need.
-pub same-table : (t : List ℕ) → ((i : ℕ) → getD t i 0 < 65536) → sound t ≡ true → encode (hallIn t) (decode (hallIn t) t) ++ drop (need (hallIn t)) t ≡ t
+pub same-table : (t : List ℕ) → ((i : ℕ) → getD t i 0 < 65536) → sound t ≡ true
+    → encode (hallIn t) (decode (hallIn t) t) ++ drop (need (hallIn t)) t ≡ t
 unfolding sound
 same-table t sm h =
     let H : Hall = hallIn t in
@@ -190,12 +217,19 @@ same-table t sm h =
     let hn : need H ≤ length t = leb-true (need H) (length t) (and-1 (leb (need H) (length t)) (s4 H) h3) in
     let hS : allScreens H ≤ 64 = mul-le-mul (ra .1) (rb .1) in
     let x : List ℕ = drop (allScreens H) (drop (H .positions) (drop 3 t)) in
-    let lx : length x ≡ length t - 3 - H .positions - allScreens H = omega (arith, length-drop (allScreens H) (drop (H .positions) (drop 3 t)), length-drop (H .positions) (drop 3 t), length-drop 3 t) in
-    let fb = records-back (allScreens H) (H .desks) x hS (omega arith) (small-drop (allScreens H) (drop (H .positions) (drop 3 t)) (small-drop (H .positions) (drop 3 t) (small-drop 3 t sm))) (and-2 (leb (need H) (length t)) (s4 H) h3) in
-    let dn : drop (need H) t ≡ drop (H .desks * recordWidth H) x = sym (drop-drop (H .desks * recordWidth H) (allScreens H) (drop (H .positions) (drop 3 t)) ∙ drop-drop (allScreens H + H .desks * recordWidth H) (H .positions) (drop 3 t) ∙ drop-drop (H .positions + (allScreens H + H .desks * recordWidth H)) 3 t) in
+    let lx : length x ≡ length t - 3 - H .positions - allScreens H =
+    omega (arith, length-drop (allScreens H) (drop (H .positions) (drop 3 t)), length-drop (H .positions) (drop 3 t), length-drop 3 t) in
+    let fb =
+    records-back (allScreens H) (H .desks) x hS (omega arith)
+    (small-drop (allScreens H) (drop (H .positions) (drop 3 t)) (small-drop (H .positions) (drop 3 t) (small-drop 3 t sm)))
+    (and-2 (leb (need H) (length t)) (s4 H) h3) in
+    let dn : drop (need H) t ≡ drop (H .desks * recordWidth H) x =
+    sym
+    (drop-drop (H .desks * recordWidth H) (allScreens H) (drop (H .positions) (drop 3 t)) ∙ drop-drop (allScreens H + H .desks * recordWidth H) (H .positions) (drop 3 t) ∙ drop-drop (H .positions + (allScreens H + H .desks * recordWidth H)) 3 t) in
     (λ i. H .desks ∷ H .screens ∷ H .positions ∷ ((take (H .positions) (drop 3 t) ++ (take (allScreens H) (drop (H .positions) (drop 3 t)) ++ fb i)) ++ dn i))
     ∙ ap {B = List ℕ} (λ y. H .desks ∷ H .screens ∷ H .positions ∷ y) (glue (H .positions) (allScreens H) (H .desks * recordWidth H) (drop 3 t))
-    ∙ sym (drop-cons t 0 0 (omega arith) ∙ ap {B = List ℕ} (λ y. getD t 0 0 ∷ y) (drop-cons t 1 0 (omega arith) ∙ ap {B = List ℕ} (λ y. getD t 1 0 ∷ y) (drop-cons t 2 0 (omega arith))))
+    ∙ sym
+    (drop-cons t 0 0 (omega arith) ∙ ap {B = List ℕ} (λ y. getD t 0 0 ∷ y) (drop-cons t 1 0 (omega arith) ∙ ap {B = List ℕ} (λ y. getD t 1 0 ∷ y) (drop-cons t 2 0 (omega arith))))
   where
     s4 : Hall → Bool
     s4 H = everyRecord (recordSound (allScreens H)) (recordsIn H t)

@@ -16,7 +16,9 @@ use Rattle.rules.specs.Demands.{Demand1, OpeningDemand1, names, or}
 use Rattle.rules.specs.Hall.{Desk, Hall, State, allScreens, deskOf, usedPlaces}
 use Rattle.rules.specs.History.{copies, numberAt}
 use Rattle.rules.specs.Steps.{Call, Collect, Done, Drop, Retire, Swap, Take, collect, decide, firstNo, isSession, perform, questions, retire}
-use Rattle.rules.specs.Table.{TableDone, decode, decodeDesk, encodeDesk, endTable, hallIn, listOf, listPlace, markWords, marksOf, need, openQuestions, openedTable, positionWord, putRecord, recordOf, recordSound, recordStart, recordWidth, runTable, screenWord, sessionsOf, sound, stepTable, usedIn, waitingPlace, wordsOfBits, written}
+use Rattle.rules.specs.Table.{TableDone, decode, decodeDesk, encodeDesk, endTable, hallIn, listOf, listPlace, markWords, marksOf, need}
+use Rattle.rules.specs.Table.{openQuestions, openedTable, positionWord, putRecord, recordOf, recordSound, recordStart, recordWidth, runTable}
+use Rattle.rules.specs.Table.{screenWord, sessionsOf, sound, stepTable, usedIn, waitingPlace, wordsOfBits, written}
 use Rattle.rules.specs.laws.Decoding.{recode-any, small-drop, small-take}
 use Rattle.rules.specs.laws.Links.{desk-fact, owed-collect, retire-facts, retire-room-fact, swap-facts}
 use Rattle.rules.specs.laws.Parts.{get-mid}
@@ -28,7 +30,8 @@ use Rattle.rules.specs.laws.Words16.{by-open, by-step, first-no-is-asked
 
 -- ---- One record replaced: the words outside it, and those inside.
 get-past : (a b : List ℕ) (i : ℕ) → length a ≤ i → getD (a ++ b) i 0 ≡ getD b (i - length a) 0
-get-past a b i h = let e : length a + (i - length a) ≡ i = omega arith in ap (λ (k : ℕ). getD (a ++ b) k 0) (sym e) ∙ getD-append-add a b (i - length a) 0
+get-past a b i h =
+    let e : length a + (i - length a) ≡ i = omega arith in ap (λ (k : ℕ). getD (a ++ b) k 0) (sym e) ∙ getD-append-add a b (i - length a) 0
 
 module _ (t w : List ℕ) (a n : ℕ) (fits : a + n ≤ length t) (wide : length w ≡ n) where
   abbrev put : List ℕ
@@ -75,7 +78,8 @@ zero-anywhere (suc n) (suc i) = zero-anywhere n i
 
 -- one more session on the list, in the place of a zero
 list-longer : (l : List ℕ) (v n m i : ℕ) → (i ≡ length l → ⊥) → getD ((l ++ (v ∷ [])) ++ replicate n 0) i 0 ≡ getD (l ++ replicate m 0) i 0
-list-longer l v n m i ne = ap (λ (x : List ℕ). getD x i 0) (append-assoc l (v ∷ []) (replicate n 0)) ∙ get-behind l (v ∷ replicate n 0) (replicate m 0) i after
+list-longer l v n m i ne =
+    ap (λ (x : List ℕ). getD x i 0) (append-assoc l (v ∷ []) (replicate n 0)) ∙ get-behind l (v ∷ replicate n 0) (replicate m 0) i after
   where
     after : (j : ℕ) → length l + j ≡ i → getD (v ∷ replicate n 0) j 0 ≡ getD (replicate m 0) j 0
     after zero e = absurd (ne (omega arith))
@@ -93,9 +97,11 @@ words-kept o o′ k r t w w′ m x y (suc (suc (suc (suc (suc j))))) n0 n4 h = g
 
 retire-list : (D : Desk) → listOf (retire D) ≡ listOf D ++ (D .owed ∷ [])
 retire-list D =
-    sym (append-assoc (D .ready) (sessionsOf (D .tested) ++ D .waiting) (D .owed ∷ []) ∙ ap (λ (l : List ℕ). D .ready ++ l) (append-assoc (sessionsOf (D .tested)) (D .waiting) (D .owed ∷ [])))
+    sym
+    (append-assoc (D .ready) (sessionsOf (D .tested) ++ D .waiting) (D .owed ∷ []) ∙ ap (λ (l : List ℕ). D .ready ++ l) (append-assoc (sessionsOf (D .tested)) (D .waiting) (D .owed ∷ [])))
 
-retire-keeps : (S : ℕ) (D : Desk) (j : ℕ) → (j ≡ 0 → ⊥) → (j ≡ 4 → ⊥) → (j ≡ 13 + usedPlaces D → ⊥) → getD (encodeDesk S (retire D)) j 0 ≡ getD (encodeDesk S D) j 0
+retire-keeps : (S : ℕ) (D : Desk) (j : ℕ) → (j ≡ 0 → ⊥) → (j ≡ 4 → ⊥) → (j ≡ 13 + usedPlaces D → ⊥)
+    → getD (encodeDesk S (retire D)) j 0 ≡ getD (encodeDesk S D) j 0
 unfolding encodeDesk
 retire-keeps S D j n0 n4 nl =
     words-kept 0 (D .owed) (D .scanned) (length (D .ready)) (length (D .tested)) (length (D .waiting ++ (D .owed ∷ []))) (length (D .waiting))
@@ -129,7 +135,10 @@ module _ (t : List ℕ) (small : Words16 t) (s : sound t ≡ true) where
 
   module _ (d : ℕ) (r : (1 ≤ d) × (d ≤ hallIn t .desks)) where
     fits : recordStart (hallIn t) d + recordWidth (hallIn t) ≤ length t
-    fits = let m : suc (d - 1) * recordWidth (hallIn t) ≤ hallIn t .desks * recordWidth (hallIn t) = mul-le-mul-right (recordWidth (hallIn t)) (omega arith) in omega (arith, k .long)
+    fits =
+        let m : suc (d - 1) * recordWidth (hallIn t) ≤ hallIn t .desks * recordWidth (hallIn t) =
+        mul-le-mul-right (recordWidth (hallIn t)) (omega arith) in
+        omega (arith, k .long)
 
     wide : length (recordOf (hallIn t) t d) ≡ 13 + 2 * allScreens (hallIn t)
     wide = length-take-le (recordWidth (hallIn t)) (drop (recordStart (hallIn t) d) t) (omega (arith, fits, length-drop (recordStart (hallIn t) d) t))
@@ -141,21 +150,28 @@ module _ (t : List ℕ) (small : Words16 t) (s : sound t ≡ true) where
     desk-is-sound = desk-sound (allScreens (hallIn t)) (recordOf (hallIn t) t d) wide (k .most) passes
 
     again : encodeDesk (allScreens (hallIn t)) (decodeDesk (recordOf (hallIn t) t d)) ≡ recordOf (hallIn t) t d
-    again = recode-any (allScreens (hallIn t)) (recordOf (hallIn t) t d) wide (k .most) (small-take (recordWidth (hallIn t)) (drop (recordStart (hallIn t) d) t) (small-drop (recordStart (hallIn t) d) t small)) passes
+    again =
+        recode-any (allScreens (hallIn t)) (recordOf (hallIn t) t d) wide (k .most)
+        (small-take (recordWidth (hallIn t)) (drop (recordStart (hallIn t) d) t) (small-drop (recordStart (hallIn t) d) t small)) passes
 
-    word-inside : (j : ℕ) → j < recordWidth (hallIn t) → getD (encodeDesk (allScreens (hallIn t)) (decodeDesk (recordOf (hallIn t) t d))) j 0 ≡ getD t (recordStart (hallIn t) d + j) 0
-    word-inside j h = ap (λ (l : List ℕ). getD l j 0) again ∙ getD-take (recordWidth (hallIn t)) (drop (recordStart (hallIn t) d) t) j 0 h ∙ getD-drop (recordStart (hallIn t) d) t j 0
+    word-inside : (j : ℕ) → j < recordWidth (hallIn t)
+        → getD (encodeDesk (allScreens (hallIn t)) (decodeDesk (recordOf (hallIn t) t d))) j 0 ≡ getD t (recordStart (hallIn t) d + j) 0
+    word-inside j h =
+        ap (λ (l : List ℕ). getD l j 0) again ∙ getD-take (recordWidth (hallIn t)) (drop (recordStart (hallIn t) d) t) j 0 h
+        ∙ getD-drop (recordStart (hallIn t) d) t j 0
 
     -- the record is written anew
     record-kept : (E : Desk) → Sound (allScreens (hallIn t)) E → (i : ℕ)
         → ((j : ℕ) → j < recordWidth (hallIn t) → recordStart (hallIn t) d + j ≡ i → getD (encodeDesk (allScreens (hallIn t)) E) j 0 ≡ getD (encodeDesk (allScreens (hallIn t)) (decodeDesk (recordOf (hallIn t) t d))) j 0)
         → getD (putRecord (hallIn t) t d (encodeDesk (allScreens (hallIn t)) E)) i 0 ≡ getD t i 0
     record-kept E sE i h =
-        put-same t (encodeDesk (allScreens (hallIn t)) E) (recordStart (hallIn t) d) (recordWidth (hallIn t)) fits (length-encoded (hallIn t) ok E sE) i
+        put-same t (encodeDesk (allScreens (hallIn t)) E) (recordStart (hallIn t) d) (recordWidth (hallIn t)) fits
+        (length-encoded (hallIn t) ok E sE) i
         (λ j l e. h j l e ∙ word-inside j l ∙ ap (λ (n : ℕ). getD t n 0) e)
 
   written-keeps : (c : Call) → asked t c ≡ 0 → (i : ℕ) → names t c i ≡ false → getD (written t c) i 0 ≡ getD t i 0
-  written-keeps (Take d c p) e i q = getD-set-other t (screenWord (hallIn t) d c) i (getD t (positionWord p) 0) 0 (λ z. eqb-false i (screenWord (hallIn t) d c) q z)
+  written-keeps (Take d c p) e i q =
+      getD-set-other t (screenWord (hallIn t) d c) i (getD t (positionWord p) 0) 0 (λ z. eqb-false i (screenWord (hallIn t) d c) q z)
   written-keeps (Drop d c) e i q = getD-set-other t (screenWord (hallIn t) d c) i 0 0 (λ z. eqb-false i (screenWord (hallIn t) d c) q z)
   written-keeps (Swap d p new) e i q = go (eqb i (recordStart (hallIn t) d)) refl
     where
@@ -172,28 +188,41 @@ module _ (t : List ℕ) (small : Words16 t) (s : sound t ≡ true) where
       none true t0 z = eqb-true (getD t (positionWord p) 0) 0 t0
       none false t0 z = let o : _≡_ {A = ℕ} 0 1 = cc in absurd (omega arith)
 
-      go : (b : Bool) → eqb i (recordStart (hallIn t) d) ≡ b → getD (set (set t (positionWord p) new) (recordStart (hallIn t) d) (getD t (positionWord p) 0)) i 0 ≡ getD t i 0
+      go : (b : Bool) → eqb i (recordStart (hallIn t) d) ≡ b
+          → getD (set (set t (positionWord p) new) (recordStart (hallIn t) d) (getD t (positionWord p) 0)) i 0 ≡ getD t i 0
       go true z =
           let is : i ≡ recordStart (hallIn t) d = eqb-true i (recordStart (hallIn t) d) z in
-          let old : getD t (positionWord p) 0 ≡ 0 = none (eqb (getD t (positionWord p) 0) 0) refl (ap (λ (b : Bool). b && isSession (getD t (positionWord p) 0)) (sym z) ∙ parts .1) in
+          let old : getD t (positionWord p) 0 ≡ 0 =
+          none (eqb (getD t (positionWord p) 0) 0) refl (ap (λ (b : Bool). b && isSession (getD t (positionWord p) 0)) (sym z) ∙ parts .1) in
           let owed : getD t (recordStart (hallIn t) d) 0 ≡ 0 = sym (owed-word t d (facts .0) (facts .1)) ∙ facts .3 in
           ap (λ (n : ℕ). getD (set (set t (positionWord p) new) (recordStart (hallIn t) d) (getD t (positionWord p) 0)) n 0) is
-          ∙ getD-set-same (set t (positionWord p) new) (recordStart (hallIn t) d) (getD t (positionWord p) 0) 0 (omega (arith, fits d (facts .0, facts .1), length-set t (positionWord p) new))
+          ∙ getD-set-same (set t (positionWord p) new) (recordStart (hallIn t) d) (getD t (positionWord p) 0) 0
+          (omega (arith, fits d (facts .0, facts .1), length-set t (positionWord p) new))
           ∙ old ∙ sym owed ∙ ap (λ (n : ℕ). getD t n 0) (sym is)
-      go false z = getD-set-other (set t (positionWord p) new) (recordStart (hallIn t) d) i (getD t (positionWord p) 0) 0 (λ y. eqb-false i (recordStart (hallIn t) d) z y) ∙ elsewhere
+      go false z =
+          getD-set-other (set t (positionWord p) new) (recordStart (hallIn t) d) i (getD t (positionWord p) 0) 0
+          (λ y. eqb-false i (recordStart (hallIn t) d) z y)
+          ∙ elsewhere
   written-keeps (Retire d) e i q =
       let f = retire-facts (hallIn t) (decode (hallIn t) t) (v .formed) d e in
       let r : (1 ≤ d) × (d ≤ hallIn t .desks) = (f .0, f .1) in
       let same = desk-word t d (f .0) (f .1) in
-      let room : usedPlaces (decodeDesk (recordOf (hallIn t) t d)) < 2 * allScreens (hallIn t) = subst (λ (X : Desk). usedPlaces X < 2 * allScreens (hallIn t)) same (retire-room-fact (hallIn t) (decode (hallIn t) t) (v .formed) d e) in
+      let room : usedPlaces (decodeDesk (recordOf (hallIn t) t d)) < 2 * allScreens (hallIn t) =
+      subst (λ (X : Desk). usedPlaces X < 2 * allScreens (hallIn t)) same (retire-room-fact (hallIn t) (decode (hallIn t) t) (v .formed) d e) in
       let owes : decodeDesk (recordOf (hallIn t) t d) .owed ≡ 0 → ⊥ = (λ z. f .2 (ap (λ (X : Desk). X .owed) same ∙ z)) in
-      let n1 = or-no (eqb i (recordStart (hallIn t) d)) (or (eqb i (recordStart (hallIn t) d + waitingPlace)) (eqb i (recordStart (hallIn t) d + (listPlace + usedIn (recordOf (hallIn t) t d))))) q in
-      let n2 = or-no (eqb i (recordStart (hallIn t) d + waitingPlace)) (eqb i (recordStart (hallIn t) d + (listPlace + usedIn (recordOf (hallIn t) t d)))) (n1 .1) in
-      let u : usedIn (recordOf (hallIn t) t d) ≡ usedPlaces (decodeDesk (recordOf (hallIn t) t d)) = ap usedIn (sym (again d r)) ∙ counts-first (allScreens (hallIn t)) (decodeDesk (recordOf (hallIn t) t d)) in
+      let n1 =
+      or-no (eqb i (recordStart (hallIn t) d))
+      (or (eqb i (recordStart (hallIn t) d + waitingPlace)) (eqb i (recordStart (hallIn t) d + (listPlace + usedIn (recordOf (hallIn t) t d))))) q in
+      let n2 =
+      or-no (eqb i (recordStart (hallIn t) d + waitingPlace)) (eqb i (recordStart (hallIn t) d + (listPlace + usedIn (recordOf (hallIn t) t d))))
+      (n1 .1) in
+      let u : usedIn (recordOf (hallIn t) t d) ≡ usedPlaces (decodeDesk (recordOf (hallIn t) t d)) =
+      ap usedIn (sym (again d r)) ∙ counts-first (allScreens (hallIn t)) (decodeDesk (recordOf (hallIn t) t d)) in
       let x0 = eqb-false i (recordStart (hallIn t) d) (n1 .0) in
       let x4 = eqb-false i (recordStart (hallIn t) d + waitingPlace) (n2 .0) in
       let xl = eqb-false i (recordStart (hallIn t) d + (listPlace + usedIn (recordOf (hallIn t) t d))) (n2 .1) in
-      record-kept d r (retire (decodeDesk (recordOf (hallIn t) t d))) (retire-sound (allScreens (hallIn t)) (decodeDesk (recordOf (hallIn t) t d)) owes room (desk-is-sound d r)) i
+      record-kept d r (retire (decodeDesk (recordOf (hallIn t) t d)))
+      (retire-sound (allScreens (hallIn t)) (decodeDesk (recordOf (hallIn t) t d)) owes room (desk-is-sound d r)) i
       (λ j l a. retire-keeps (allScreens (hallIn t)) (decodeDesk (recordOf (hallIn t) t d)) j (λ z. x0 (omega arith)) (λ z. x4 (omega arith)) (λ z. xl (omega arith)))
   written-keeps (Collect d) e i q =
       let r = desk-fact (hallIn t) (decode (hallIn t) t) (v .formed) d _ e in
@@ -217,10 +246,15 @@ module _ (t : List ℕ) (small : Words16 t) (s : sound t ≡ true) where
 
   -- what an accepted call writes is the table of a valid state
   after-valid : (c : Call) → asked t c ≡ 0 → Valid (hallIn t) (perform (hallIn t) (decode (hallIn t) t) c .after)
-  after-valid c e = subst (λ (r : Done). Valid (hallIn t) (r .after)) (ap (λ (n : ℕ). decide n (decode (hallIn t) t) (perform (hallIn t) (decode (hallIn t) t) c)) e) (valid-step (hallIn t) ok (decode (hallIn t) t) c v)
+  after-valid c e =
+      subst (λ (r : Done). Valid (hallIn t) (r .after))
+      (ap (λ (n : ℕ). decide n (decode (hallIn t) t) (perform (hallIn t) (decode (hallIn t) t) c)) e)
+      (valid-step (hallIn t) ok (decode (hallIn t) t) c v)
 
   written-sound : (c : Call) → asked t c ≡ 0 → sound (written t c) ≡ true
-  written-sound c e = rw (encoded t c small s e) (is-sound (hallIn t) ok (perform (hallIn t) (decode (hallIn t) t) c .after) (after-valid c e) (drop (need (hallIn t)) t))
+  written-sound c e =
+      rw (encoded t c small s e)
+      (is-sound (hallIn t) ok (perform (hallIn t) (decode (hallIn t) t) c .after) (after-valid c e) (drop (need (hallIn t)) t))
 
 -- ---- Every step.
 pub demand1 : (t : List ℕ) → Words16 t → (c : Call) → Demand1 t c
@@ -266,11 +300,14 @@ pub opening-demand1 : (H : Hall) (t : List ℕ) → OpeningDemand1 H t
 opening-demand1 H t =
     record {
       refused =
-          by-open (λ r. (n : ℕ) → r .answer .number ≡ suc n → (1 ≤ copies (suc n) (1 ∷ 2 ∷ 3 ∷ 4 ∷ [])) × (r .answer .session ≡ 0) × (r .after ≡ t)) H t
+          by-open
+          (λ r. (n : ℕ) → r .answer .number ≡ suc n → (1 ≤ copies (suc n) (1 ∷ 2 ∷ 3 ∷ 4 ∷ [])) × (r .answer .session ≡ 0) × (r .after ≡ t)) H t
           (λ m a n q. (first-no-is-asked (openQuestions H t) n (a ∙ q), refl, refl)) (λ a n q. absurd (omega arith));
       accepted =
           by-open (λ r. r .answer .number ≡ 0 → (i : ℕ) → need H ≤ i → getD (r .after) i 0 ≡ getD t i 0) H t
           (λ m a q. absurd (omega arith)) (λ a q. opened-past H t);
       sameLength = open-length H t;
-      staysSound = by-open (λ r. r .answer .number ≡ 0 → sound (r .after) ≡ true) H t (λ m a q. absurd (omega arith)) (λ a q. sound-table H (hall-opens H t a .0) t []);
+      staysSound =
+          by-open (λ r. r .answer .number ≡ 0 → sound (r .after) ≡ true) H t (λ m a q. absurd (omega arith))
+          (λ a q. sound-table H (hall-opens H t a .0) t []);
     }

@@ -8,7 +8,8 @@ use mathlib.Core.List.{List}
 use lib.ListN.{length, take, drop}
 use Rattle.rules.specs.Demands.{BackWithin, exactBound}
 use Rattle.rules.specs.Hall.{Hall, State, allScreens, deskOf, fresh, usedPlaces}
-use Rattle.rules.specs.History.{Deed, Disciplined, Shows, collectsOf, deedAt, handBacks, handBacksOf, isCollect, isHandBackOf, lacksRoom, nothing, retirements, retirementsOf, retires}
+use Rattle.rules.specs.History.{Deed, Disciplined, Shows, collectsOf, deedAt, handBacks, handBacksOf, isCollect, isHandBackOf, lacksRoom}
+use Rattle.rules.specs.History.{nothing, retirements, retirementsOf, retires}
 use Rattle.rules.specs.Steps.{Call, end, run}
 use Rattle.rules.specs.laws.Checks.{disciplined}
 use Rattle.rules.specs.laws.Fresh.{fresh-copies, fresh-formed, fresh-places, fresh-room, fresh-shown, fresh-sound}
@@ -51,11 +52,15 @@ module _ (H : Hall) (some : 1 ≤ allScreens H) (cs : List Call) (B : ℕ) (enou
       let formed = formed-run H (take n cs) (fresh H) (fresh-formed H) in
       let ok = sound-run H d some hd (take n cs) (fresh H) (fresh-formed H) (fresh-sound H d) in
       let zero-plus : (i : ℕ) → f (0 + i) ≡ f i = (λ i. let e : 0 + i ≡ i = omega arith in ap f e) in
-      let shown : AllShown H f n (end H (fresh H) (take n cs)) = subst (λ (m : ℕ). AllShown H f m (end H (fresh H) (take n cs))) (omega arith) (all-shown-run H f s hs n cs (fresh H) 0 zero-plus (fresh-formed H) (fresh-shown H f) hn) in
+      let shown : AllShown H f n (end H (fresh H) (take n cs)) =
+      subst (λ (m : ℕ). AllShown H f m (end H (fresh H) (take n cs))) (omega arith)
+      (all-shown-run H f s hs n cs (fresh H) 0 zero-plus (fresh-formed H) (fresh-shown H f) hn) in
       let hidden = hidden-run H f s hs k (drop n cs) (end H (fresh H) (take n cs)) n (deeds-split H n cs (fresh H)) formed shown unshown in
       let c1 = copies-run H d some hd s hs (take n cs) (fresh H) (fresh-formed H) (fresh-sound H d) in
       let c2 = copies-run H d some hd s hs (take k (drop n cs)) (end H (fresh H) (take n cs)) formed ok in
-      let du = due-run H d some hd s (take k (drop n cs)) (end H (fresh H) (take n cs)) B 0 formed ok (due-start (allScreens H) s B 0 (deskOf (end H (fresh H) (take n cs)) d) some enough (ok .pass)) hidden hc in
+      let du =
+      due-run H d some hd s (take k (drop n cs)) (end H (fresh H) (take n cs)) B 0 formed ok
+      (due-start (allScreens H) s B 0 (deskOf (end H (fresh H) (take n cs)) d) some enough (ok .pass)) hidden hc in
       let hb = count-split (isHandBackOf s) d H n k cs (fresh H) in
       omega (arith, fresh-copies H d s)
 
@@ -70,7 +75,10 @@ module _ (H : Hall) (some : 1 ≤ allScreens H) (cs : List Call) (B : ℕ) (enou
         where
           at : Dec (r < length cs) → suc r ≤ length cs
           at (yes l) = l
-          at (no l) = let k : nothing ≡ retires d s = sym (deeds-past H cs (fresh H) r (omega arith)) ∙ q in let z : _≡_ {A = ℕ} 0 1 = cc in absurd (omega arith)
+          at (no l) =
+              let k : nothing ≡ retires d s = sym (deeds-past H cs (fresh H) r (omega arith)) ∙ q in
+              let z : _≡_ {A = ℕ} 0 1 = cc in
+              absurd (omega arith)
 
       collected : (n : ℕ) → collectsOf d (take n (run H (fresh H) cs)) ≡ collectsOf d (run H (fresh H) (take n cs))
       collected n = ap (collectsOf d) (run-take H n cs (fresh H))
@@ -85,6 +93,8 @@ module _ (H : Hall) (some : 1 ≤ allScreens H) (cs : List Call) (B : ℕ) (enou
           let e : suc r + (h - r) ≡ suc h = omega arith in
           let c = count-split isCollect d H (suc r) (h - r) cs (fresh H) in
           let c′ = ap (λ (m : ℕ). collectsOf d (run H (fresh H) (take m cs))) e in
-          let b = back-from d s (suc r) (h - r) (range .0) (range .2) inside (omega (arith, collected (suc h), collected (suc r))) (λ m x y a b. unshown m x y (omega arith) (omega arith)) in
+          let b =
+          back-from d s (suc r) (h - r) (range .0) (range .2) inside (omega (arith, collected (suc h), collected (suc r)))
+          (λ m x y a b. unshown m x y (omega arith) (omega arith)) in
           let b′ = ap (λ (m : ℕ). handBacksOf d s (run H (fresh H) (take m cs))) e in
           omega (arith, ap (retirementsOf d s) (run-take H (suc r) cs (fresh H)), ap (handBacksOf d s) (run-take H (suc h) cs (fresh H)))

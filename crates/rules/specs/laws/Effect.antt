@@ -57,7 +57,8 @@ in-range n m h = go (leb 1 n) (leb n m) refl refl h
     go false b p q e = let z : _≡_ {A = ℕ} 0 1 = cc in absurd (omega arith)
 
 pub out-of-range : (n m : ℕ) → inRange n m ≡ false → (1 ≤ n) × (n ≤ m) → ⊥
-out-of-range n m e r = let t : inRange n m ≡ true = and-yes (leb 1 n) (leb n m) (le-leb 1 n (r .0)) (le-leb n m (r .1)) in let z : _≡_ {A = ℕ} 0 1 = cc in omega arith
+out-of-range n m e r =
+    let t : inRange n m ≡ true = and-yes (leb 1 n) (leb n m) (le-leb 1 n (r .0)) (le-leb n m (r .1)) in let z : _≡_ {A = ℕ} 0 1 = cc in omega arith
   where
     and-yes : (a b : Bool) → a ≡ true → b ≡ true → a && b ≡ true
     and-yes true b p q = q
@@ -94,27 +95,42 @@ module _ (H : Hall) (st : State) (d : ℕ) (formed : Formed H st) (hd : 1 ≤ d)
   other : (e : ℕ) (x : Desk) → 1 ≤ e → (e ≡ d → ⊥) → getD (set (st .desks) (e - 1) x) (d - 1) emptyDesk ≡ here
   other e x he ne = getD-set-other (st .desks) (e - 1) (d - 1) x emptyDesk (λ q. ne (omega arith))
 
-  retire-own : firstNo (questions H st (Retire d)) ≡ 0 → Retires (allScreens H) (here .owed) here (getD (set (st .desks) (d - 1) (retire here)) (d - 1) emptyDesk)
-  retire-own e = record { owed = refl; some = eqb-false (here .owed) 0 (not-true _ (ys .1)); room = ltb-true _ _ (ys .2); after = own-record (retire here) (in-range d (H .desks) (ys .0) .1) }
+  retire-own : firstNo (questions H st (Retire d)) ≡ 0
+      → Retires (allScreens H) (here .owed) here (getD (set (st .desks) (d - 1) (retire here)) (d - 1) emptyDesk)
+  retire-own e = record {
+    owed = refl;
+    some = eqb-false (here .owed) 0 (not-true _ (ys .1));
+    room = ltb-true _ _ (ys .2);
+    after = own-record (retire here) (in-range d (H .desks) (ys .0) .1);
+  }
     where
       ys : (inRange d (H .desks) ≡ true) × (not (eqb (here .owed) 0) ≡ true) × (ltb (usedPlaces here) (2 * allScreens H) ≡ true)
       ys = yes3 (inRange d (H .desks)) (not (eqb (here .owed) 0)) (ltb (usedPlaces here) (2 * allScreens H)) e
 
   full-own : firstNo (questions H st (Retire d)) ≡ 14 → LacksRoom (allScreens H) here here
-  full-own e = record { room = ltb-false _ _ (full3 (inRange d (H .desks)) (not (eqb (here .owed) 0)) (ltb (usedPlaces here) (2 * allScreens H)) e); after = refl }
+  full-own e = record {
+    room = ltb-false _ _ (full3 (inRange d (H .desks)) (not (eqb (here .owed) 0)) (ltb (usedPlaces here) (2 * allScreens H)) e);
+    after = refl;
+  }
 
   collect-own : firstNo (questions H st (Collect d)) ≡ 0 → (v : ℕ) → collect (allScreens H) (st .shown) here .session ≡ v
       → Collects (allScreens H) (st .shown) v here (getD (set (st .desks) (d - 1) (collect (allScreens H) (st .shown) here .after)) (d - 1) emptyDesk)
-  collect-own e v q = record { session = q; after = own-record (collect (allScreens H) (st .shown) here .after) (in-range d (H .desks) (yes1 (inRange d (H .desks)) 5 e) .1) }
+  collect-own e v q = record {
+    session = q;
+    after = own-record (collect (allScreens H) (st .shown) here .after) (in-range d (H .desks) (yes1 (inRange d (H .desks)) 5 e) .1);
+  }
 
-  pub effect : (c : Call) → Effect (allScreens H) (st .shown) here (deskOf (step H st c .after) d) (own d (deed c (step H st c .answer .number) (step H st c .answer .session)))
+  pub effect : (c : Call)
+      → Effect (allScreens H) (st .shown) here (deskOf (step H st c .after) d) (own d (deed c (step H st c .answer .number) (step H st c .answer .session)))
   effect (Take x c p) = go (firstNo (questions H st (Take x c p)))
     where
       either : (b : Bool) (v : ℕ) → Effect (allScreens H) (st .shown) here here (cond b (takes x c p v) nothing)
       either true v = same here
       either false v = same here
 
-      go : (n : ℕ) → let r = decide n st (perform H st (Take x c p)) in Effect (allScreens H) (st .shown) here (deskOf (r .after) d) (own d (deed (Take x c p) (r .answer .number) (r .answer .session)))
+      go : (n : ℕ) → let r =
+          decide n st (perform H st (Take x c p)) in Effect (allScreens H) (st .shown) here (deskOf (r .after) d)
+          (own d (deed (Take x c p) (r .answer .number) (r .answer .session)))
       go zero = either (eqb x d) (getD (st .held) (p - 1) 0)
       go (suc n) = same here
   effect (Drop x c) = go (firstNo (questions H st (Drop x c)))
@@ -123,19 +139,25 @@ module _ (H : Hall) (st : State) (d : ℕ) (formed : Formed H st) (hd : 1 ≤ d)
       either true = same here
       either false = same here
 
-      go : (n : ℕ) → let r = decide n st (perform H st (Drop x c)) in Effect (allScreens H) (st .shown) here (deskOf (r .after) d) (own d (deed (Drop x c) (r .answer .number) (r .answer .session)))
+      go : (n : ℕ) → let r =
+          decide n st (perform H st (Drop x c)) in Effect (allScreens H) (st .shown) here (deskOf (r .after) d)
+          (own d (deed (Drop x c) (r .answer .number) (r .answer .session)))
       go zero = either (eqb x d)
       go (suc n) = same here
   effect (Swap x p v) = go (firstNo (questions H st (Swap x p v))) refl
     where
-      go : (n : ℕ) → firstNo (questions H st (Swap x p v)) ≡ n → let r = decide n st (perform H st (Swap x p v)) in Effect (allScreens H) (st .shown) here (deskOf (r .after) d) (own d (deed (Swap x p v) (r .answer .number) (r .answer .session)))
+      go : (n : ℕ) → firstNo (questions H st (Swap x p v)) ≡ n → let r =
+          decide n st (perform H st (Swap x p v)) in Effect (allScreens H) (st .shown) here (deskOf (r .after) d)
+          (own d (deed (Swap x p v) (r .answer .number) (r .answer .session)))
       go zero e = at (eqb x d) refl
         where
           ok : (1 ≤ x) × (x ≤ H .desks)
           ok = in-range x (H .desks) (swap3 (inRange x (H .desks)) (inRange p (H .positions)) (eqb (deskOf st x .owed) 0) e)
 
-          at : (b : Bool) → eqb x d ≡ b → Effect (allScreens H) (st .shown) here (getD (set (st .desks) (x - 1) (owe (deskOf st x) (getD (st .held) (p - 1) 0))) (d - 1) emptyDesk) (cond b (swaps x p) nothing)
-          at true q = let xd : x ≡ d = eqb-true x d q in rw xd (record { owed = getD (st .held) (p - 1) 0; after = own-record _ (omega (arith, ok .1)) })
+          at : (b : Bool) → eqb x d ≡ b
+              → Effect (allScreens H) (st .shown) here (getD (set (st .desks) (x - 1) (owe (deskOf st x) (getD (st .held) (p - 1) 0))) (d - 1) emptyDesk) (cond b (swaps x p) nothing)
+          at true q =
+              let xd : x ≡ d = eqb-true x d q in rw xd (record { owed = getD (st .held) (p - 1) 0; after = own-record _ (omega (arith, ok .1)) })
           at false q = rw (other x _ (ok .0) (eqb-false x d q)) (same here)
       go (suc n) e = same here
   effect (Retire x) = go (firstNo (questions H st (Retire x))) refl
@@ -143,17 +165,24 @@ module _ (H : Hall) (st : State) (d : ℕ) (formed : Formed H st) (hd : 1 ≤ d)
       accepted : (b : Bool) → eqb x d ≡ b → firstNo (questions H st (Retire x)) ≡ 0
           → Effect (allScreens H) (st .shown) here (getD (set (st .desks) (x - 1) (retire (deskOf st x))) (d - 1) emptyDesk) (cond b (retires x (deskOf st x .owed)) nothing)
       accepted true q e = let xd : x ≡ d = eqb-true x d q in rw xd (retire-own (rw xd at e))
-      accepted false q e = rw (other x _ (in-range x (H .desks) (yes3 (inRange x (H .desks)) (not (eqb (deskOf st x .owed) 0)) (ltb (usedPlaces (deskOf st x)) (2 * allScreens H)) e .0) .0) (eqb-false x d q)) (same here)
+      accepted false q e =
+          rw
+          (other x _ (in-range x (H .desks) (yes3 (inRange x (H .desks)) (not (eqb (deskOf st x .owed) 0)) (ltb (usedPlaces (deskOf st x)) (2 * allScreens H)) e .0) .0) (eqb-false x d q))
+          (same here)
 
-      full : (b : Bool) → eqb x d ≡ b → firstNo (questions H st (Retire x)) ≡ 14 → Effect (allScreens H) (st .shown) here here (cond b (lacksRoom x) nothing)
+      full : (b : Bool) → eqb x d ≡ b → firstNo (questions H st (Retire x)) ≡ 14
+          → Effect (allScreens H) (st .shown) here here (cond b (lacksRoom x) nothing)
       full true q e = let xd : x ≡ d = eqb-true x d q in full-own (rw xd at e)
       full false q e = same here
 
-      refused : (n : ℕ) (b : Bool) → eqb n 14 ≡ b → firstNo (questions H st (Retire x)) ≡ n → Effect (allScreens H) (st .shown) here here (own d (cond b (lacksRoom x) nothing))
+      refused : (n : ℕ) (b : Bool) → eqb n 14 ≡ b → firstNo (questions H st (Retire x)) ≡ n
+          → Effect (allScreens H) (st .shown) here here (own d (cond b (lacksRoom x) nothing))
       refused n true q e = full (eqb x d) refl (e ∙ eqb-true n 14 q)
       refused n false q e = same here
 
-      go : (n : ℕ) → firstNo (questions H st (Retire x)) ≡ n → let r = decide n st (perform H st (Retire x)) in Effect (allScreens H) (st .shown) here (deskOf (r .after) d) (own d (deed (Retire x) (r .answer .number) (r .answer .session)))
+      go : (n : ℕ) → firstNo (questions H st (Retire x)) ≡ n → let r =
+          decide n st (perform H st (Retire x)) in Effect (allScreens H) (st .shown) here (deskOf (r .after) d)
+          (own d (deed (Retire x) (r .answer .number) (r .answer .session)))
       go zero e = accepted (eqb x d) refl e
       go (suc n) e = refused (suc n) (eqb (suc n) 14) refl e
   effect (Collect x) = go (firstNo (questions H st (Collect x))) refl
@@ -165,24 +194,31 @@ module _ (H : Hall) (st : State) (d : ℕ) (formed : Formed H st) (hd : 1 ≤ d)
       after = getD (set (st .desks) (x - 1) (collect (allScreens H) (st .shown) (deskOf st x) .after)) (d - 1) emptyDesk
 
       far : (x ≡ d → ⊥) → firstNo (questions H st (Collect x)) ≡ 0 → Same here after
-      far ne e = rw (other x (collect (allScreens H) (st .shown) (deskOf st x) .after) (in-range x (H .desks) (yes1 (inRange x (H .desks)) 5 e) .0) ne) (same here)
+      far ne e =
+          rw (other x (collect (allScreens H) (st .shown) (deskOf st x) .after) (in-range x (H .desks) (yes1 (inRange x (H .desks)) 5 e) .0) ne)
+          (same here)
 
       near : x ≡ d → firstNo (questions H st (Collect x)) ≡ 0 → Collects (allScreens H) (st .shown) v here after
       near xd e = rw xd (collect-own (rw xd at e) (collect (allScreens H) (st .shown) here .session) refl)
 
-      empty : (b : Bool) → eqb x d ≡ b → v ≡ 0 → firstNo (questions H st (Collect x)) ≡ 0 → Effect (allScreens H) (st .shown) here after (cond b (collects x) nothing)
+      empty : (b : Bool) → eqb x d ≡ b → v ≡ 0 → firstNo (questions H st (Collect x)) ≡ 0
+          → Effect (allScreens H) (st .shown) here after (cond b (collects x) nothing)
       empty true q z e = rw z at (near (eqb-true x d q) e)
       empty false q z e = far (eqb-false x d q) e
 
-      back : (b : Bool) → eqb x d ≡ b → (v ≡ 0 → ⊥) → firstNo (questions H st (Collect x)) ≡ 0 → Effect (allScreens H) (st .shown) here after (cond b (handsBack x v) nothing)
+      back : (b : Bool) → eqb x d ≡ b → (v ≡ 0 → ⊥) → firstNo (questions H st (Collect x)) ≡ 0
+          → Effect (allScreens H) (st .shown) here after (cond b (handsBack x v) nothing)
       back true q z e = (z, near (eqb-true x d q) e)
       back false q z e = far (eqb-false x d q) e
 
-      accepted : (b : Bool) → eqb v 0 ≡ b → firstNo (questions H st (Collect x)) ≡ 0 → Effect (allScreens H) (st .shown) here after (own d (cond b (collects x) (handsBack x v)))
+      accepted : (b : Bool) → eqb v 0 ≡ b → firstNo (questions H st (Collect x)) ≡ 0
+          → Effect (allScreens H) (st .shown) here after (own d (cond b (collects x) (handsBack x v)))
       accepted true q e = empty (eqb x d) refl (eqb-true v 0 q) e
       accepted false q e = back (eqb x d) refl (eqb-false v 0 q) e
 
-      go : (n : ℕ) → firstNo (questions H st (Collect x)) ≡ n → let r = decide n st (perform H st (Collect x)) in Effect (allScreens H) (st .shown) here (deskOf (r .after) d) (own d (deed (Collect x) (r .answer .number) (r .answer .session)))
+      go : (n : ℕ) → firstNo (questions H st (Collect x)) ≡ n → let r =
+          decide n st (perform H st (Collect x)) in Effect (allScreens H) (st .shown) here (deskOf (r .after) d)
+          (own d (deed (Collect x) (r .answer .number) (r .answer .session)))
       go zero e = accepted (eqb v 0) refl e
       go (suc n) e = same here
 
@@ -191,9 +227,18 @@ module _ (H : Hall) (st : State) (d : ℕ) (formed : Formed H st) (hd : 1 ≤ d)
   formed-step c = go (firstNo (questions H st c)) c
     where
       go : (n : ℕ) (c : Call) → Formed H (decide n st (perform H st c) .after)
-      go zero (Take x c p) = record { desks = formed .desks; screens = length-set (st .shown) (screenIndex H x c) (getD (st .held) (p - 1) 0) ∙ formed .screens }
+      go zero (Take x c p) = record {
+        desks = formed .desks;
+        screens = length-set (st .shown) (screenIndex H x c) (getD (st .held) (p - 1) 0) ∙ formed .screens;
+      }
       go zero (Drop x c) = record { desks = formed .desks; screens = length-set (st .shown) (screenIndex H x c) 0 ∙ formed .screens }
-      go zero (Swap x p v) = record { desks = length-set (st .desks) (x - 1) (owe (deskOf st x) (getD (st .held) (p - 1) 0)) ∙ formed .desks; screens = formed .screens }
+      go zero (Swap x p v) = record {
+        desks = length-set (st .desks) (x - 1) (owe (deskOf st x) (getD (st .held) (p - 1) 0)) ∙ formed .desks;
+        screens = formed .screens;
+      }
       go zero (Retire x) = record { desks = length-set (st .desks) (x - 1) (retire (deskOf st x)) ∙ formed .desks; screens = formed .screens }
-      go zero (Collect x) = record { desks = length-set (st .desks) (x - 1) (collect (allScreens H) (st .shown) (deskOf st x) .after) ∙ formed .desks; screens = formed .screens }
+      go zero (Collect x) = record {
+        desks = length-set (st .desks) (x - 1) (collect (allScreens H) (st .shown) (deskOf st x) .after) ∙ formed .desks;
+        screens = formed .screens;
+      }
       go (suc n) c = formed

@@ -9,19 +9,22 @@ use lib.Seq.{take-at, drop-at, take-append-seam, drop-append-seam, length-take-l
 use lib.Dec.{T}
 use borrow.Author.Tests.{eq-eqb, ne-eqb}
 use Rattle.rules.specs.Hall.{Desk, TestedPlace, marked, unmarked}
-use Rattle.rules.specs.Table.{bitValue, bitsOfWord, bitsOfWords, decodeDesk, encodeDesk, listOf, marksOf, ones, placesOf, sessionsOf, wordOfBits, wordsOfBits}
+use Rattle.rules.specs.Table.{bitValue, bitsOfWord, bitsOfWords, decodeDesk, encodeDesk, listOf, marksOf, ones, placesOf, sessionsOf}
+use Rattle.rules.specs.Table.{wordOfBits, wordsOfBits}
 use Rattle.rules.specs.laws.Marks.{markCount}
 
 bits-of-word-of-bits : (n : ℕ) (bs : List Bool) → length bs ≡ n → bitsOfWord n (wordOfBits bs) ≡ bs
 bits-of-word-of-bits zero [] h = refl
 bits-of-word-of-bits zero (b ∷ bs) h = absurd (omega arith)
 bits-of-word-of-bits (suc n) [] h = absurd (omega arith)
-bits-of-word-of-bits (suc n) (true ∷ bs) h = λ i. eq-eqb ((1 + 2 * wordOfBits bs) % 2) 1 (omega arith) i ∷ (ap (bitsOfWord n) (half true) ∙ bits-of-word-of-bits n bs (omega arith)) i
+bits-of-word-of-bits (suc n) (true ∷ bs) h =
+    λ i. eq-eqb ((1 + 2 * wordOfBits bs) % 2) 1 (omega arith) i ∷ (ap (bitsOfWord n) (half true) ∙ bits-of-word-of-bits n bs (omega arith)) i
   where
     half : (b : Bool) → (bitValue b + 2 * wordOfBits bs) / 2 ≡ wordOfBits bs
     half true = omega arith
     half false = omega arith
-bits-of-word-of-bits (suc n) (false ∷ bs) h = λ i. ne-eqb ((0 + 2 * wordOfBits bs) % 2) 1 (λ q. omega arith) i ∷ (ap (bitsOfWord n) half ∙ bits-of-word-of-bits n bs (omega arith)) i
+bits-of-word-of-bits (suc n) (false ∷ bs) h =
+    λ i. ne-eqb ((0 + 2 * wordOfBits bs) % 2) 1 (λ q. omega arith) i ∷ (ap (bitsOfWord n) half ∙ bits-of-word-of-bits n bs (omega arith)) i
   where
     half : (0 + 2 * wordOfBits bs) / 2 ≡ wordOfBits bs
     half = omega arith
@@ -29,7 +32,10 @@ bits-of-word-of-bits (suc n) (false ∷ bs) h = λ i. ne-eqb ((0 + 2 * wordOfBit
 bits-of-words-of-bits : (n : ℕ) (bs : List Bool) → length bs ≡ n * 16 → bitsOfWords (wordsOfBits n bs) ≡ bs
 bits-of-words-of-bits zero [] h = refl
 bits-of-words-of-bits zero (b ∷ bs) h = absurd (omega arith)
-bits-of-words-of-bits (suc n) bs h = ap₂ {C = List Bool} (λ x y. x ++ y) (bits-of-word-of-bits 16 (take 16 bs) (length-take-le 16 bs (omega arith))) (bits-of-words-of-bits n (drop 16 bs) (omega (arith, length-drop 16 bs))) ∙ take-append-drop 16 bs
+bits-of-words-of-bits (suc n) bs h =
+    ap₂ {C = List Bool} (λ x y. x ++ y) (bits-of-word-of-bits 16 (take 16 bs) (length-take-le 16 bs (omega arith)))
+    (bits-of-words-of-bits n (drop 16 bs) (omega (arith, length-drop 16 bs)))
+    ∙ take-append-drop 16 bs
 
 pub length-sessions : (ps : List TestedPlace) → length (sessionsOf ps) ≡ length ps
 length-sessions [] = refl
@@ -56,13 +62,21 @@ module _ {A : Type 0} (a b c z : List A) where
   part-1 = ap (take (length a)) (append-assoc a (b ++ c) z) ∙ take-append-seam a ((b ++ c) ++ z)
 
   part-2 : (n : ℕ) → length b ≡ n → take n (drop (length a) ((a ++ (b ++ c)) ++ z)) ≡ b
-  part-2 n h = ap (λ (l : List A). take n (drop (length a) l)) (append-assoc a (b ++ c) z) ∙ ap (take n) (drop-append-seam a ((b ++ c) ++ z)) ∙ ap (take n) (append-assoc b c z) ∙ take-at b (c ++ z) n h
+  part-2 n h =
+      ap (λ (l : List A). take n (drop (length a) l)) (append-assoc a (b ++ c) z) ∙ ap (take n) (drop-append-seam a ((b ++ c) ++ z))
+      ∙ ap (take n) (append-assoc b c z) ∙ take-at b (c ++ z) n h
 
   part-3 : (n : ℕ) → length b ≡ n → take (length c) (drop (length a + n) ((a ++ (b ++ c)) ++ z)) ≡ c
-  part-3 n h = ap (λ (l : List A). take (length c) (drop (length a + n) l)) (append-assoc a (b ++ c) z) ∙ ap (take (length c)) (drop-append-add a ((b ++ c) ++ z) n) ∙ ap (λ (l : List A). take (length c) (drop n l)) (append-assoc b c z) ∙ ap (take (length c)) (drop-at b (c ++ z) n h) ∙ take-append-seam c z
+  part-3 n h =
+      ap (λ (l : List A). take (length c) (drop (length a + n) l)) (append-assoc a (b ++ c) z)
+      ∙ ap (take (length c)) (drop-append-add a ((b ++ c) ++ z) n) ∙ ap (λ (l : List A). take (length c) (drop n l)) (append-assoc b c z)
+      ∙ ap (take (length c)) (drop-at b (c ++ z) n h) ∙ take-append-seam c z
 
-pub marks-read-back : (T : List TestedPlace) → length T ≤ 128 → bitsOfWords (wordsOfBits 8 (marksOf T ++ replicate (128 - length T) false)) ≡ marksOf T ++ replicate (128 - length T) false
-marks-read-back T h = bits-of-words-of-bits 8 (marksOf T ++ replicate (128 - length T) false) (omega (arith, length-append (marksOf T) (replicate (128 - length T) false), length-marks T, length-replicate {A = Bool} (128 - length T) false))
+pub marks-read-back : (T : List TestedPlace) → length T ≤ 128
+    → bitsOfWords (wordsOfBits 8 (marksOf T ++ replicate (128 - length T) false)) ≡ marksOf T ++ replicate (128 - length T) false
+marks-read-back T h =
+    bits-of-words-of-bits 8 (marksOf T ++ replicate (128 - length T) false)
+    (omega (arith, length-append (marksOf T) (replicate (128 - length T) false), length-marks T, length-replicate {A = Bool} (128 - length T) false))
 
 pub desk-read-back : (S : ℕ) (D : Desk) → length (D .tested) ≤ 128 → decodeDesk (encodeDesk S D) ≡ D
 unfolding encodeDesk decodeDesk
@@ -75,7 +89,13 @@ desk-read-back S D h = λ i. record { owed = D .owed; scanned = D .scanned; read
     rd = part-1 (D .ready) (sessionsOf (D .tested)) (D .waiting) (replicate (2 * S - length (listOf D)) 0)
 
     td : decodeDesk (encodeDesk S D) .tested ≡ D .tested
-    td = ap₂ placesOf (part-2 (D .ready) (sessionsOf (D .tested)) (D .waiting) (replicate (2 * S - length (listOf D)) 0) (length (D .tested)) (length-sessions (D .tested))) (ap (take (length (D .tested))) (marks-read-back (D .tested) h) ∙ take-at (marksOf (D .tested)) _ (length (D .tested)) (length-marks (D .tested))) ∙ places-again (D .tested)
+    td =
+        ap₂ placesOf
+        (part-2 (D .ready) (sessionsOf (D .tested)) (D .waiting) (replicate (2 * S - length (listOf D)) 0) (length (D .tested)) (length-sessions (D .tested)))
+        (ap (take (length (D .tested))) (marks-read-back (D .tested) h) ∙ take-at (marksOf (D .tested)) _ (length (D .tested)) (length-marks (D .tested)))
+        ∙ places-again (D .tested)
 
     wd : decodeDesk (encodeDesk S D) .waiting ≡ D .waiting
-    wd = part-3 (D .ready) (sessionsOf (D .tested)) (D .waiting) (replicate (2 * S - length (listOf D)) 0) (length (D .tested)) (length-sessions (D .tested))
+    wd =
+        part-3 (D .ready) (sessionsOf (D .tested)) (D .waiting) (replicate (2 * S - length (listOf D)) 0) (length (D .tested))
+        (length-sessions (D .tested))

@@ -38,13 +38,17 @@ module _ (H : Hall) (some : 1 ≤ allScreens H) (cs : List Call) where
   sane = sane-run H cs (fresh H) (fresh-formed H)
 
   calm : (i x c p v : ℕ) → f i ≡ takes x c p v → link H f (screenIndex H x c) i ≡ unlinked
-  calm i x c p v t = let e : 0 + i ≡ i = omega arith in subst (λ (k : ℕ). link H f (screenIndex H x c) k ≡ unlinked) e (calm-run H f cs (fresh H) 0 start (fresh-formed H) agree0 i x c p v (ap f e ∙ t))
+  calm i x c p v t =
+      let e : 0 + i ≡ i = omega arith in
+      subst (λ (k : ℕ). link H f (screenIndex H x c) k ≡ unlinked) e
+      (calm-run H f cs (fresh H) 0 start (fresh-formed H) agree0 i x c p v (ap f e ∙ t))
 
   guard : (d s : ℕ) → 1 ≤ d → d ≤ H .desks → (s ≡ 0 → ⊥) → Guard H f d s (0 + length cs) (deskOf (end H (fresh H) cs) d)
   guard d s h h′ hs = guard-run H f sane calm some d s h hs cs (fresh H) 0 start (fresh-formed H) (fresh-sound H d) agree0
       (record {
         count = λ r. 0;
-        tokens = record { old = []; new = []; same = λ r. omega arith; held = record { sum = omega (arith, fresh-copies H d s); tests = omega arith; marks = omega arith; waits = omega arith } };
+        tokens =
+            record { old = []; new = []; same = λ r. omega arith; held = record { sum = omega (arith, fresh-copies H d s); tests = omega arith; marks = omega arith; waits = omega arith } };
         single = λ r. omega arith;
         mine = λ r q. absurd (omega arith);
         pair = λ a. 0;
@@ -58,7 +62,8 @@ module _ (H : Hall) (some : 1 ≤ allScreens H) (cs : List Call) where
     where
       go : Dec (a < length cs) → a < 0 + length cs
       go (yes h) = omega arith
-      go (no h) = let k : nothing ≡ handsBack d s = sym (past H cs (fresh H) a (omega arith)) ∙ q in let z : _≡_ {A = ℕ} 0 1 = cc in absurd (omega arith)
+      go (no h) =
+          let k : nothing ≡ handsBack d s = sym (past H cs (fresh H) a (omega arith)) ∙ q in let z : _≡_ {A = ℕ} 0 1 = cc in absurd (omega arith)
 
   choose : (d s : ℕ) → Dec (1 ≤ d) → Dec (d ≤ H .desks) → Dec (s ≡ 0) → ℕ → ℕ
   choose d s (yes h) (yes h′) (no z) = guard d s h h′ z .pair
@@ -74,7 +79,9 @@ module _ (H : Hall) (some : 1 ≤ allScreens H) (cs : List Call) where
   works d s h h′ hs = go (decLe 1 d) (decLe d (H .desks)) (ℕ-discrete s 0)
     where
       go : (x : Dec (1 ≤ d)) (y : Dec (d ≤ H .desks)) (z : Dec (s ≡ 0)) → Works f d s (choose d s x y z)
-      go (yes x) (yes y) (no z) = let g = guard d s x y z in record { good = λ a q. g .good a (within-end a d s q) q; once = λ a b q q′. g .once a b (within-end a d s q) (within-end b d s q′) q q′ }
+      go (yes x) (yes y) (no z) =
+          let g = guard d s x y z in
+          record { good = λ a q. g .good a (within-end a d s q) q; once = λ a b q q′. g .once a b (within-end a d s q) (within-end b d s q′) q q′ }
       go (yes x) (yes y) (yes z) = absurd (hs z)
       go (yes x) (no y) z = absurd (y h′)
       go (no x) y z = absurd (x h)
@@ -95,7 +102,8 @@ module _ (H : Hall) (some : 1 ≤ allScreens H) (cs : List Call) where
   found a d s q = ap (partner a) q
 
   is-good : (a d s : ℕ) → f a ≡ handsBack d s → Good f d s a (partner a (f a))
-  is-good a d s q = let r = subst (Range H) q (sane a) in subst (λ (m : ℕ). Good f d s a m) (sym (found a d s q)) (works d s (r .0) (r .1) (r .2) .good a q)
+  is-good a d s q =
+      let r = subst (Range H) q (sane a) in subst (λ (m : ℕ). Good f d s a m) (sym (found a d s q)) (works d s (r .0) (r .1) (r .2) .good a q)
 
   is-once : (a d s b d′ s′ : ℕ) → f a ≡ handsBack d s → f b ≡ handsBack d′ s′ → partner a (f a) ≡ partner b (f b) → a ≡ b
   is-once a d s b d′ s′ q q′ e =
@@ -108,4 +116,10 @@ module _ (H : Hall) (some : 1 ≤ allScreens H) (cs : List Call) where
 
   -- The guarantee of Definition 2.1.
   pub guaranteed : Guarantee (deedAt (run H (fresh H) cs))
-  guaranteed = record { pair = λ a. partner a (f a); earlier = λ a d s q. is-good a d s q .earlier; same = λ a d s q. is-good a d s q .same; once = is-once; dropped = λ a d s i q. is-good a d s q .dropped i }
+  guaranteed = record {
+    pair = λ a. partner a (f a);
+    earlier = λ a d s q. is-good a d s q .earlier;
+    same = λ a d s q. is-good a d s q .same;
+    once = is-once;
+    dropped = λ a d s i q. is-good a d s q .dropped i;
+  }

@@ -8,10 +8,12 @@ use lib.ListN.{length, drop, length-append, length-map}
 use Rattle.rules.specs.Demands.{exactBound, readings}
 use Rattle.rules.specs.Hall.{Desk, TestedPlace, unmarked, usedPlaces}
 use Rattle.rules.specs.History.{copies}
-use Rattle.rules.specs.Steps.{begin, beginAt, collect, handBack, markEach, markedOf, nextScreens, readScreens, retire, scan, settle, settleIf, unmarkedOf}
+use Rattle.rules.specs.Steps.{begin, beginAt, collect, handBack, markEach, markedOf, nextScreens, readScreens, retire, scan, settle, settleIf}
+use Rattle.rules.specs.Steps.{unmarkedOf}
 use Rattle.rules.specs.laws.Collect.{Orderly, Scanning, begin-keeps, by-scan, copiesOn}
 use Rattle.rules.specs.laws.Lists.{copies-append, copies-drop-append, copies-past-end, drop-after-first, matches}
-use Rattle.rules.specs.laws.Marks.{copies-next-screens, length-mark-each, marked-copies-begin, marked-copies-mark-each, tested-copies-begin, tested-copies-mark-each, testedCopies, unmarked-and-marked}
+use Rattle.rules.specs.laws.Marks.{copies-next-screens, length-mark-each, marked-copies-begin, marked-copies-mark-each, tested-copies-begin}
+use Rattle.rules.specs.laws.Marks.{tested-copies-mark-each, testedCopies, unmarked-and-marked}
 use Rattle.rules.specs.laws.Sound.{ScanFits}
 
 -- B collects are left, after which no more than m copies of s are on the list.
@@ -49,7 +51,8 @@ due-end S s m D hS ok d = at (D .tested) refl (ok .going) d
 pub due-retire : (S s v B m : ℕ) (D : Desk) → D .owed ≡ v → Due S s B m D → Due S s B (matches s v + m) (retire D)
 due-retire S s v B m D q (thisReading h1 he h2) = thisReading h1 he h2
 due-retire S s v B m D q (noReading h1 h2) = noReading h1 h2
-due-retire S s v B m D q (nextReading h1 he h2 h3 h4) = nextReading h1 he h2 (omega (arith, copies-append s (D .waiting) (D .owed ∷ []), ap (matches s) q)) h4
+due-retire S s v B m D q (nextReading h1 he h2 h3 h4) =
+    nextReading h1 he h2 (omega (arith, copies-append s (D .waiting) (D .owed ∷ []), ap (matches s) q)) h4
 due-retire S s v B m D q (isReady h) = isReady (omega (arith, copies-append s (D .waiting) (D .owed ∷ []), ap (matches s) q))
 
 -- (a): what was waiting is tested, unmarked.
@@ -58,7 +61,9 @@ due-begin S s B m D hS ok d = at (D .tested) refl (ok .going) d
   where
     start : (w : List ℕ) → D .waiting ≡ w → D .scanned ≡ 0 → 2 * S + readings S ≤ suc B + 1 → Due S s (suc B) m (beginAt [] D)
     start [] q k0 h = noReading (ap (map unmarked) q) h
-    start (x ∷ w) q k0 h = nextReading (omega (arith, ap length q, length-map (D .waiting) unmarked)) (omega arith) (marked-copies-begin s (D .waiting)) (omega arith) (omega arith)
+    start (x ∷ w) q k0 h =
+        nextReading (omega (arith, ap length q, length-map (D .waiting) unmarked)) (omega arith) (marked-copies-begin s (D .waiting)) (omega arith)
+        (omega arith)
 
     at : (t : List TestedPlace) → D .tested ≡ t → Scanning S (D .scanned) t → Due S s (suc B) m D → Due S s (suc B) m (beginAt t D)
     at [] e g (thisReading h1 he h2) = absurd (omega (arith, ap length e))
@@ -74,22 +79,30 @@ none-left D = at (D .tested) refl
     at [] e h = refl
     at (p ∷ ps) e h = let z : _≡_ {A = ℕ} (suc (length ps)) 0 = sym (ap length e) ∙ ap length h in absurd (omega arith)
 
-due-scan : (S s B m : ℕ) (shown : List ℕ) (A : Desk) → 1 ≤ S → length shown ≡ S → copies s shown ≡ 0 → usedPlaces A ≤ 2 * S → Scanning S (A .scanned) (A .tested) → (A .tested ≡ [] → A .waiting ≡ []) → Due S s (suc B) m A → Due S s B m (handBack (settle S (scan shown A)) .after)
+due-scan : (S s B m : ℕ) (shown : List ℕ) (A : Desk) → 1 ≤ S → length shown ≡ S → copies s shown ≡ 0 → usedPlaces A ≤ 2 * S
+    → Scanning S (A .scanned) (A .tested) → (A .tested ≡ [] → A .waiting ≡ []) → Due S s (suc B) m A
+    → Due S s B m (handBack (settle S (scan shown A)) .after)
 due-scan S s B m shown A hS hl hid tot g nil d = by-scan (λ (X : Desk). Due S s B m (handBack X .after)) S shown A hS hl g (rest d) (on d) (over d)
   where
     rest : Due S s (suc B) m A → A .tested ≡ [] → Due S s B m (handBack A .after)
     rest (thisReading a1 ae a2) e = absurd (omega (arith, ap length e))
-    rest (noReading a1 a2) e = isReady (rw drop-after-first (omega (arith, copies-past-end s (suc B) (A .ready) (omega arith), ap (testedCopies s) e, ap (copies s) (nil e))))
+    rest (noReading a1 a2) e =
+        isReady
+        (rw drop-after-first (omega (arith, copies-past-end s (suc B) (A .ready) (omega arith), ap (testedCopies s) e, ap (copies s) (nil e))))
     rest (nextReading a1 ae a2 a3 a4) e = absurd (omega (arith, ap length e))
     rest (isReady a) e = isReady (rw drop-after-first a)
 
-    on : Due S s (suc B) m A → 1 ≤ length (A .tested) → length (nextScreens shown A) ≡ 2 → A .scanned + 2 < S → Due S s B m (handBack (readScreens (nextScreens shown A) A) .after)
+    on : Due S s (suc B) m A → 1 ≤ length (A .tested) → length (nextScreens shown A) ≡ 2 → A .scanned + 2 < S
+        → Due S s B m (handBack (readScreens (nextScreens shown A) A) .after)
     on (thisReading a1 ae a2) h1 h2 h3 = thisReading (omega (arith, length-mark-each (nextScreens shown A) (A .tested))) (omega arith) (omega arith)
     on (noReading a1 a2) h1 h2 h3 = absurd (omega (arith, ap length a1))
-    on (nextReading a1 ae a2 a3 a4) h1 h2 h3 = nextReading (omega (arith, length-mark-each (nextScreens shown A) (A .tested))) (omega arith) (marked-copies-mark-each s (nextScreens shown A) (A .tested) (copies-next-screens s (A .scanned) shown hid) ∙ a2) a3 (omega arith)
+    on (nextReading a1 ae a2 a3 a4) h1 h2 h3 =
+        nextReading (omega (arith, length-mark-each (nextScreens shown A) (A .tested))) (omega arith)
+        (marked-copies-mark-each s (nextScreens shown A) (A .tested) (copies-next-screens s (A .scanned) shown hid) ∙ a2) a3 (omega arith)
     on (isReady a) h1 h2 h3 = isReady (rw drop-after-first (omega (arith, tested-copies-mark-each s (nextScreens shown A) (A .tested))))
 
-    over : Due S s (suc B) m A → 1 ≤ length (A .tested) → A .scanned < S → S ≤ A .scanned + 2 → A .scanned + length (nextScreens shown A) ≡ S → Due S s B m (handBack (settleIf true (readScreens (nextScreens shown A) A)) .after)
+    over : Due S s (suc B) m A → 1 ≤ length (A .tested) → A .scanned < S → S ≤ A .scanned + 2 → A .scanned + length (nextScreens shown A) ≡ S
+        → Due S s B m (handBack (settleIf true (readScreens (nextScreens shown A) A)) .after)
     over (thisReading a1 ae a2) h1 h2 h3 h4 = noReading refl (omega arith)
     over (noReading a1 a2) h1 h2 h3 h4 = absurd (omega (arith, ap length a1))
     over (nextReading a1 ae a2 a3 a4) h1 h2 h3 h4 =
@@ -108,7 +121,8 @@ due-scan S s B m shown A hS hl hid tot g nil d = by-scan (λ (X : Desk). Due S s
         let ca = copies-append s (markedOf t) (A .waiting) in
         isReady (rw drop-after-first (omega arith))
 
-pub due-collect : (S s B m : ℕ) (shown : List ℕ) (D : Desk) → 1 ≤ S → length shown ≡ S → copies s shown ≡ 0 → Orderly S D → Due S s (suc B) m D → Due S s B m (collect S shown D .after)
+pub due-collect : (S s B m : ℕ) (shown : List ℕ) (D : Desk) → 1 ≤ S → length shown ≡ S → copies s shown ≡ 0 → Orderly S D → Due S s (suc B) m D
+    → Due S s B m (collect S shown D .after)
 due-collect S s B m shown D hS hl hid ok d =
     let b = begin-keeps S D hS ok in
     due-scan S s B m shown (begin D) hS hl hid (omega (arith, b .total, ok .total)) (b .going) (none-left D) (due-begin S s B m D hS ok d)

@@ -11,7 +11,8 @@ use lib.Dec.{eqb, ltb}
 use borrow.Author.Tests.{eqb-true, eqb-false, not-true, ltb-true}
 use Rattle.rules.specs.Hall.{Desk, Hall, State, TestedPlace, allScreens, deskOf, emptyDesk, screenIndex, usedPlaces}
 use Rattle.rules.specs.History.{Deed, collects, deed, drops, handsBack, lacksRoom, nothing, retires, swaps, takes}
-use Rattle.rules.specs.Steps.{Call, Collect, Drop, Retire, Swap, Take, begin, beginAt, collect, decide, firstNo, inRange, owe, perform, questions, retire, retireQuestions, scan, scanAt, settleIf, step}
+use Rattle.rules.specs.Steps.{Call, Collect, Drop, Retire, Swap, Take, begin, beginAt, collect, decide, firstNo, inRange, owe, perform}
+use Rattle.rules.specs.Steps.{questions, retire, retireQuestions, scan, scanAt, settleIf, step}
 use Rattle.rules.specs.laws.Effect.{Formed, in-range}
 use Rattle.rules.specs.laws.ScreenIndex.{screen-in}
 
@@ -70,7 +71,8 @@ unlinked-of f hs ds v (beforeRetire e) a z = absurd (a .0 z)
 unlinked-of f hs ds v (linkedTo r) a z = absurd (a .0 z)
 
 module _ (f : ℕ → Deed) (hs : List ℕ) (ds : List Desk) (v : ℕ) where
-  take-agree : (b : Bool) (p w : ℕ) (l : Link) → (b ≡ true → v ≡ 0) → (w ≡ 0 → ⊥) → 1 ≤ p → w ≡ getD hs (p - 1) 0 → Agree f hs ds v l → Agree f hs ds (cond b w v) (onTake b p l)
+  take-agree : (b : Bool) (p w : ℕ) (l : Link) → (b ≡ true → v ≡ 0) → (w ≡ 0 → ⊥) → 1 ≤ p → w ≡ getD hs (p - 1) 0 → Agree f hs ds v l
+      → Agree f hs ds (cond b w v) (onTake b p l)
   take-agree true p w unlinked z nz hp e a = (nz, hp, e)
   take-agree true p w (beforeSwap q) z nz hp e a = absurd (a .0 (z refl))
   take-agree true p w (beforeRetire q) z nz hp e a = absurd (a .0 (z refl))
@@ -89,17 +91,21 @@ module _ (f : ℕ → Deed) (hs : List ℕ) (ds : List Desk) (v : ℕ) where
   swap-agree e p w unlinked hp he le z a = a
   swap-agree e p w (beforeSwap q) hp he le z a = go (eqb p q) refl
     where
-      go : (b : Bool) → eqb p q ≡ b → Agree f (set hs (p - 1) w) (set ds (e - 1) (owe (getD ds (e - 1) emptyDesk) (getD hs (p - 1) 0))) v (cond b (beforeRetire e) (beforeSwap q))
-      go true t = (a .0, he, a .2 ∙ ap (λ (m : ℕ). getD hs (m - 1) 0) (sym (eqb-true p q t)) ∙ sym (ap (λ (D : Desk). D .owed) (getD-set-same ds (e - 1) (owe (getD ds (e - 1) emptyDesk) (getD hs (p - 1) 0)) emptyDesk (omega arith))))
+      go : (b : Bool) → eqb p q ≡ b
+          → Agree f (set hs (p - 1) w) (set ds (e - 1) (owe (getD ds (e - 1) emptyDesk) (getD hs (p - 1) 0))) v (cond b (beforeRetire e) (beforeSwap q))
+      go true t =
+          (a .0, he, a .2 ∙ ap (λ (m : ℕ). getD hs (m - 1) 0) (sym (eqb-true p q t)) ∙ sym (ap (λ (D : Desk). D .owed) (getD-set-same ds (e - 1) (owe (getD ds (e - 1) emptyDesk) (getD hs (p - 1) 0)) emptyDesk (omega arith))))
       go false t = let ne = eqb-false p q t in (a .0, a .1, a .2 ∙ sym (getD-set-other hs (p - 1) (q - 1) w 0 (λ m. ne (omega (arith, a .1)))))
   swap-agree e p w (beforeRetire q) hp he le z a = go (ℕ-discrete e q)
     where
       go : Dec (e ≡ q) → Agree f (set hs (p - 1) w) (set ds (e - 1) (owe (getD ds (e - 1) emptyDesk) (getD hs (p - 1) 0))) v (beforeRetire q)
       go (yes t) = absurd (a .0 (a .2 ∙ ap (λ (m : ℕ). getD ds (m - 1) emptyDesk .owed) (sym t) ∙ z))
-      go (no t) = (a .0, a .1, a .2 ∙ sym (ap (λ (D : Desk). D .owed) (getD-set-other ds (e - 1) (q - 1) (owe (getD ds (e - 1) emptyDesk) (getD hs (p - 1) 0)) emptyDesk (λ m. t (omega (arith, a .1))))))
+      go (no t) =
+          (a .0, a .1, a .2 ∙ sym (ap (λ (D : Desk). D .owed) (getD-set-other ds (e - 1) (q - 1) (owe (getD ds (e - 1) emptyDesk) (getD hs (p - 1) 0)) emptyDesk (λ m. t (omega (arith, a .1))))))
   swap-agree e p w (linkedTo r) hp he le z a = a
 
-  retire-agree : (e n : ℕ) (l : Link) → 1 ≤ e → f n ≡ retires e (getD ds (e - 1) emptyDesk .owed) → Agree f hs ds v l → Agree f hs (set ds (e - 1) (retire (getD ds (e - 1) emptyDesk))) v (onRetire e n l)
+  retire-agree : (e n : ℕ) (l : Link) → 1 ≤ e → f n ≡ retires e (getD ds (e - 1) emptyDesk .owed) → Agree f hs ds v l
+      → Agree f hs (set ds (e - 1) (retire (getD ds (e - 1) emptyDesk))) v (onRetire e n l)
   retire-agree e n unlinked he q a = a
   retire-agree e n (beforeSwap p) he q a = a
   retire-agree e n (beforeRetire x) he q a = go (eqb e x) refl
@@ -109,7 +115,9 @@ module _ (f : ℕ → Deed) (hs : List ℕ) (ds : List Desk) (v : ℕ) where
 
       go : (b : Bool) → eqb e x ≡ b → Agree f hs (set ds (e - 1) (retire (getD ds (e - 1) emptyDesk))) v (cond b (linkedTo n) (beforeRetire x))
       go true t = (a .0, λ d s. told d s (eqb-true e x t))
-      go false t = let ne = eqb-false e x t in (a .0, a .1, a .2 ∙ sym (ap (λ (D : Desk). D .owed) (getD-set-other ds (e - 1) (x - 1) (retire (getD ds (e - 1) emptyDesk)) emptyDesk (λ m. ne (omega (arith, a .1))))))
+      go false t =
+          let ne = eqb-false e x t in
+          (a .0, a .1, a .2 ∙ sym (ap (λ (D : Desk). D .owed) (getD-set-other ds (e - 1) (x - 1) (retire (getD ds (e - 1) emptyDesk)) emptyDesk (λ m. ne (omega (arith, a .1))))))
   retire-agree e n (linkedTo r) he q a = a
 
 settle-owed : (b : Bool) (D : Desk) → settleIf b D .owed ≡ D .owed
@@ -125,16 +133,21 @@ open-owed [] D = refl
 open-owed (p ∷ ps) D = refl
 
 pub owed-collect : (S : ℕ) (shown : List ℕ) (D : Desk) → collect S shown D .after .owed ≡ D .owed
-owed-collect S shown D = settle-owed (eqb (scan shown (begin D) .scanned) S) (scan shown (begin D)) ∙ look-owed (begin D .tested) (take 2 (drop (begin D .scanned) shown)) (begin D) ∙ open-owed (D .tested) D
+owed-collect S shown D =
+    settle-owed (eqb (scan shown (begin D) .scanned) S) (scan shown (begin D))
+    ∙ look-owed (begin D .tested) (take 2 (drop (begin D .scanned) shown)) (begin D) ∙ open-owed (D .tested) D
 
-collect-agree : (f : ℕ → Deed) (hs : List ℕ) (ds : List Desk) (v : ℕ) (e S : ℕ) (shown : List ℕ) (l : Link) → 1 ≤ e → e ≤ length ds → Agree f hs ds v l → Agree f hs (set ds (e - 1) (collect S shown (getD ds (e - 1) emptyDesk) .after)) v l
+collect-agree : (f : ℕ → Deed) (hs : List ℕ) (ds : List Desk) (v : ℕ) (e S : ℕ) (shown : List ℕ) (l : Link) → 1 ≤ e → e ≤ length ds
+    → Agree f hs ds v l → Agree f hs (set ds (e - 1) (collect S shown (getD ds (e - 1) emptyDesk) .after)) v l
 collect-agree f hs ds v e S shown unlinked he le a = a
 collect-agree f hs ds v e S shown (beforeSwap p) he le a = a
 collect-agree f hs ds v e S shown (beforeRetire q) he le a = go (ℕ-discrete e q)
   where
     go : Dec (e ≡ q) → Agree f hs (set ds (e - 1) (collect S shown (getD ds (e - 1) emptyDesk) .after)) v (beforeRetire q)
-    go (yes t) = (a .0, a .1, a .2 ∙ ap (λ (m : ℕ). getD ds (m - 1) emptyDesk .owed) (sym t) ∙ sym (owed-collect S shown (getD ds (e - 1) emptyDesk)) ∙ sym (ap (λ (D : Desk). D .owed) (getD-set-same ds (e - 1) (collect S shown (getD ds (e - 1) emptyDesk) .after) emptyDesk (omega arith))) ∙ ap (λ (m : ℕ). getD (set ds (e - 1) (collect S shown (getD ds (e - 1) emptyDesk) .after)) (m - 1) emptyDesk .owed) t)
-    go (no t) = (a .0, a .1, a .2 ∙ sym (ap (λ (D : Desk). D .owed) (getD-set-other ds (e - 1) (q - 1) (collect S shown (getD ds (e - 1) emptyDesk) .after) emptyDesk (λ m. t (omega (arith, a .1))))))
+    go (yes t) =
+        (a .0, a .1, a .2 ∙ ap (λ (m : ℕ). getD ds (m - 1) emptyDesk .owed) (sym t) ∙ sym (owed-collect S shown (getD ds (e - 1) emptyDesk)) ∙ sym (ap (λ (D : Desk). D .owed) (getD-set-same ds (e - 1) (collect S shown (getD ds (e - 1) emptyDesk) .after) emptyDesk (omega arith))) ∙ ap (λ (m : ℕ). getD (set ds (e - 1) (collect S shown (getD ds (e - 1) emptyDesk) .after)) (m - 1) emptyDesk .owed) t)
+    go (no t) =
+        (a .0, a .1, a .2 ∙ sym (ap (λ (D : Desk). D .owed) (getD-set-other ds (e - 1) (q - 1) (collect S shown (getD ds (e - 1) emptyDesk) .after) emptyDesk (λ m. t (omega (arith, a .1))))))
 collect-agree f hs ds v e S shown (linkedTo r) he le a = a
 
 -- a screen after a store
@@ -164,7 +177,8 @@ abbrev pub ScreensAgree : Hall → (ℕ → Deed) → ℕ → State → Type 0
 ScreensAgree H f n st = (x : ℕ) → x < allScreens H → Agree f (st .held) (st .desks) (getD (st .shown) x 0) (link H f x n)
 
 module _ (H : Hall) (st : State) (formed : Formed H st) where
-  pub take-facts : (d c p : ℕ) → firstNo (questions H st (Take d c p)) ≡ 0 → (1 ≤ d) × (d ≤ H .desks) × (1 ≤ c) × (c ≤ H .screens) × (1 ≤ p) × (getD (st .shown) (screenIndex H d c) 0 ≡ 0) × (getD (st .held) (p - 1) 0 ≡ 0 → ⊥)
+  pub take-facts : (d c p : ℕ) → firstNo (questions H st (Take d c p)) ≡ 0
+      → (1 ≤ d) × (d ≤ H .desks) × (1 ≤ c) × (c ≤ H .screens) × (1 ≤ p) × (getD (st .shown) (screenIndex H d c) 0 ≡ 0) × (getD (st .held) (p - 1) 0 ≡ 0 → ⊥)
   take-facts d c p e =
       let y1 = holds (inRange d (H .desks)) _ 5 e in
       let y2 = holds (inRange c (H .screens)) _ 6 (y1 .1) in
@@ -220,15 +234,20 @@ module _ (H : Hall) (st : State) (formed : Formed H st) where
         where
           outside : (b : Bool) → inRange d (H .desks) ≡ b → (1 ≤ d) × (d ≤ H .desks)
           outside true r = in-range d (H .desks) r
-          outside false r = absurd (omega (arith, ap (λ (y : Bool). cond {A = ℕ} y (firstNo (retireQuestions (allScreens H) (deskOf st d))) 6) r, e, eqb-true m 14 q))
+          outside false r =
+              absurd
+              (omega (arith, ap (λ (y : Bool). cond {A = ℕ} y (firstNo (retireQuestions (allScreens H) (deskOf st d))) 6) r, e, eqb-true m 14 q))
       full d m false e q = tt
 
-      go : (m : ℕ) (c : Call) → firstNo (questions H st c) ≡ m → Range H (deed c (decide m st (perform H st c) .answer .number) (decide m st (perform H st c) .answer .session))
+      go : (m : ℕ) (c : Call) → firstNo (questions H st c) ≡ m
+          → Range H (deed c (decide m st (perform H st c) .answer .number) (decide m st (perform H st c) .answer .session))
       go zero (Take d c p) e = let t = take-facts d c p e in (t .0, t .1, t .2, t .3)
       go zero (Drop d c) e = drop-facts d c e
       go zero (Swap d p v) e = let t = swap-facts d p v e in (t .0, t .1)
       go zero (Retire d) e = retire-facts d e
-      go zero (Collect d) e = back d (collect (allScreens H) (st .shown) (deskOf st d) .session) (eqb (collect (allScreens H) (st .shown) (deskOf st d) .session) 0) (desk-fact d _ e) refl
+      go zero (Collect d) e =
+          back d (collect (allScreens H) (st .shown) (deskOf st d) .session) (eqb (collect (allScreens H) (st .shown) (deskOf st d) .session) 0)
+          (desk-fact d _ e) refl
       go (suc m) (Take d c p) e = tt
       go (suc m) (Drop d c) e = tt
       go (suc m) (Swap d p v) e = tt
@@ -238,17 +257,23 @@ module _ (H : Hall) (st : State) (formed : Formed H st) where
   module _ (f : ℕ → Deed) (n : ℕ) (ag : ScreensAgree H f n st) where
     back-agree : (x : ℕ) → x < allScreens H → (d s : ℕ) (b : Bool) → (1 ≤ d) × (d ≤ H .desks) → f n ≡ cond b (collects d) (handsBack d s)
         → Agree f (st .held) (set (st .desks) (d - 1) (collect (allScreens H) (st .shown) (deskOf st d) .after)) (getD (st .shown) x 0) (link H f x (suc n))
-    back-agree x hx d s true a q = rw q (collect-agree f (st .held) (st .desks) (getD (st .shown) x 0) d (allScreens H) (st .shown) (link H f x n) (a .0) (omega (arith, formed .desks, a .1)) (ag x hx))
-    back-agree x hx d s false a q = rw q (collect-agree f (st .held) (st .desks) (getD (st .shown) x 0) d (allScreens H) (st .shown) (link H f x n) (a .0) (omega (arith, formed .desks, a .1)) (ag x hx))
+    back-agree x hx d s true a q =
+        rw q
+        (collect-agree f (st .held) (st .desks) (getD (st .shown) x 0) d (allScreens H) (st .shown) (link H f x n) (a .0) (omega (arith, formed .desks, a .1)) (ag x hx))
+    back-agree x hx d s false a q =
+        rw q
+        (collect-agree f (st .held) (st .desks) (getD (st .shown) x 0) d (allScreens H) (st .shown) (link H f x n) (a .0) (omega (arith, formed .desks, a .1)) (ag x hx))
 
-    pub agree-step : (c : Call) → f n ≡ deed c (step H st c .answer .number) (step H st c .answer .session) → ScreensAgree H f (suc n) (step H st c .after)
+    pub agree-step : (c : Call) → f n ≡ deed c (step H st c .answer .number) (step H st c .answer .session)
+        → ScreensAgree H f (suc n) (step H st c .after)
     agree-step c q x hx = go (firstNo (questions H st c)) c refl q
       where
         full : (d : ℕ) (b : Bool) → f n ≡ cond b (lacksRoom d) nothing → Agree f (st .held) (st .desks) (getD (st .shown) x 0) (link H f x (suc n))
         full d true q = rw q (ag x hx)
         full d false q = rw q (ag x hx)
 
-        go : (m : ℕ) (c : Call) → firstNo (questions H st c) ≡ m → f n ≡ deed c (decide m st (perform H st c) .answer .number) (decide m st (perform H st c) .answer .session)
+        go : (m : ℕ) (c : Call) → firstNo (questions H st c) ≡ m
+            → f n ≡ deed c (decide m st (perform H st c) .answer .number) (decide m st (perform H st c) .answer .session)
             → Agree f (decide m st (perform H st c) .after .held) (decide m st (perform H st c) .after .desks) (getD (decide m st (perform H st c) .after .shown) x 0) (link H f x (suc n))
         go zero (Take d c p) e q =
             let t = take-facts d c p e in
@@ -263,9 +288,13 @@ module _ (H : Hall) (st : State) (formed : Formed H st) where
             (drop-agree f (st .held) (st .desks) (getD (st .shown) x 0) (eqb y x) (link H f x n) (ag x hx))
         go zero (Swap d p v) e q =
             let t = swap-facts d p v e in
-            rw q (swap-agree f (st .held) (st .desks) (getD (st .shown) x 0) d p v (link H f x n) (t .2) (t .0) (omega (arith, formed .desks, t .1)) (t .3) (ag x hx))
-        go zero (Retire d) e q = rw q (retire-agree f (st .held) (st .desks) (getD (st .shown) x 0) d n (link H f x n) (desk-fact d _ e .0) q (ag x hx))
-        go zero (Collect d) e q = back-agree x hx d (collect (allScreens H) (st .shown) (deskOf st d) .session) (eqb (collect (allScreens H) (st .shown) (deskOf st d) .session) 0) (desk-fact d _ e) q
+            rw q
+            (swap-agree f (st .held) (st .desks) (getD (st .shown) x 0) d p v (link H f x n) (t .2) (t .0) (omega (arith, formed .desks, t .1)) (t .3) (ag x hx))
+        go zero (Retire d) e q =
+            rw q (retire-agree f (st .held) (st .desks) (getD (st .shown) x 0) d n (link H f x n) (desk-fact d _ e .0) q (ag x hx))
+        go zero (Collect d) e q =
+            back-agree x hx d (collect (allScreens H) (st .shown) (deskOf st d) .session)
+            (eqb (collect (allScreens H) (st .shown) (deskOf st d) .session) 0) (desk-fact d _ e) q
         go (suc m) (Take d c p) e q = rw q (ag x hx)
         go (suc m) (Drop d c) e q = rw q (ag x hx)
         go (suc m) (Swap d p v) e q = rw q (ag x hx)
@@ -273,7 +302,8 @@ module _ (H : Hall) (st : State) (formed : Formed H st) where
         go (suc m) (Collect d) e q = rw q (ag x hx)
 
     -- an accepted take finds its screen unlinked
-    pub calm-step : (c : Call) → f n ≡ deed c (step H st c .answer .number) (step H st c .answer .session) → (d s p v : ℕ) → f n ≡ takes d s p v → link H f (screenIndex H d s) n ≡ unlinked
+    pub calm-step : (c : Call) → f n ≡ deed c (step H st c .answer .number) (step H st c .answer .session) → (d s p v : ℕ) → f n ≡ takes d s p v
+        → link H f (screenIndex H d s) n ≡ unlinked
     calm-step c q d s p v t = go (firstNo (questions H st c)) c refl (sym q ∙ t)
       where
         none : (b : Bool) (x w : ℕ) → cond b (collects x) (handsBack x w) ≡ takes d s p v → link H f (screenIndex H d s) n ≡ unlinked
@@ -284,17 +314,21 @@ module _ (H : Hall) (st : State) (formed : Formed H st) where
         full true x e = let z : _≡_ {A = ℕ} 0 1 = cc in absurd (omega arith)
         full false x e = let z : _≡_ {A = ℕ} 0 1 = cc in absurd (omega arith)
 
-        go : (m : ℕ) (c : Call) → firstNo (questions H st c) ≡ m → deed c (decide m st (perform H st c) .answer .number) (decide m st (perform H st c) .answer .session) ≡ takes d s p v → link H f (screenIndex H d s) n ≡ unlinked
+        go : (m : ℕ) (c : Call) → firstNo (questions H st c) ≡ m
+            → deed c (decide m st (perform H st c) .answer .number) (decide m st (perform H st c) .answer .session) ≡ takes d s p v
+            → link H f (screenIndex H d s) n ≡ unlinked
         go zero (Take x y w) e q =
             let t = take-facts x y w e in
             let xd : x ≡ d = cc in
             let ys : y ≡ s = cc in
             let fit = screen-in H x y (t .0) (t .1) (t .2) (t .3) in
-            rw (← xd, ← ys) (unlinked-of f (st .held) (st .desks) (getD (st .shown) (screenIndex H x y) 0) (link H f (screenIndex H x y) n) (ag (screenIndex H x y) fit) (t .5))
+            rw (← xd, ← ys)
+            (unlinked-of f (st .held) (st .desks) (getD (st .shown) (screenIndex H x y) 0) (link H f (screenIndex H x y) n) (ag (screenIndex H x y) fit) (t .5))
         go zero (Drop x y) e q = let z : _≡_ {A = ℕ} 0 1 = cc in absurd (omega arith)
         go zero (Swap x y w) e q = let z : _≡_ {A = ℕ} 0 1 = cc in absurd (omega arith)
         go zero (Retire x) e q = let z : _≡_ {A = ℕ} 0 1 = cc in absurd (omega arith)
-        go zero (Collect x) e q = none (eqb (collect (allScreens H) (st .shown) (deskOf st x) .session) 0) x (collect (allScreens H) (st .shown) (deskOf st x) .session) q
+        go zero (Collect x) e q =
+            none (eqb (collect (allScreens H) (st .shown) (deskOf st x) .session) 0) x (collect (allScreens H) (st .shown) (deskOf st x) .session) q
         go (suc m) (Take x y w) e q = let z : _≡_ {A = ℕ} 0 1 = cc in absurd (omega arith)
         go (suc m) (Drop x y) e q = let z : _≡_ {A = ℕ} 0 1 = cc in absurd (omega arith)
         go (suc m) (Swap x y w) e q = let z : _≡_ {A = ℕ} 0 1 = cc in absurd (omega arith)

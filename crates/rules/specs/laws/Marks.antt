@@ -68,7 +68,8 @@ tested-copies-mark s v [] = refl
 tested-copies-mark s v (marked x ∷ ps) = omega (arith, tested-copies-mark s v ps)
 tested-copies-mark s v (unmarked x ∷ ps) = go (eqb v x) (tested-copies-mark s v ps)
   where
-    go : (b : Bool) → testedCopies s (mark v ps) ≡ testedCopies s ps → testedCopies s (cond b (marked x ∷ ps) (unmarked x ∷ mark v ps)) ≡ testedCopies s (unmarked x ∷ ps)
+    go : (b : Bool) → testedCopies s (mark v ps) ≡ testedCopies s ps
+        → testedCopies s (cond b (marked x ∷ ps) (unmarked x ∷ mark v ps)) ≡ testedCopies s (unmarked x ∷ ps)
     go true e = omega arith
     go false e = omega arith
 
@@ -82,11 +83,13 @@ marked-copies-mark s v [] h = refl
 marked-copies-mark s v (marked x ∷ ps) h = omega (arith, marked-copies-mark s v ps h)
 marked-copies-mark s v (unmarked x ∷ ps) h = go (eqb v x) refl (marked-copies-mark s v ps h)
   where
-    go : (b : Bool) → eqb v x ≡ b → copies s (markedOf (mark v ps)) ≡ copies s (markedOf ps) → copies s (markedOf (cond b (marked x ∷ ps) (unmarked x ∷ mark v ps))) ≡ copies s (markedOf ps)
+    go : (b : Bool) → eqb v x ≡ b → copies s (markedOf (mark v ps)) ≡ copies s (markedOf ps)
+        → copies s (markedOf (cond b (marked x ∷ ps) (unmarked x ∷ mark v ps))) ≡ copies s (markedOf ps)
     go true q e = let vx : v ≡ x = eqb-true v x q in let h2 : matches s x ≡ 0 = rw vx at h in omega arith
     go false q e = e
 
-pub marked-copies-mark-each : (s : ℕ) (vs : List ℕ) (ps : List TestedPlace) → copies s vs ≡ 0 → copies s (markedOf (markEach vs ps)) ≡ copies s (markedOf ps)
+pub marked-copies-mark-each : (s : ℕ) (vs : List ℕ) (ps : List TestedPlace) → copies s vs ≡ 0
+    → copies s (markedOf (markEach vs ps)) ≡ copies s (markedOf ps)
 marked-copies-mark-each s [] ps h = refl
 marked-copies-mark-each s (v ∷ vs) ps h = marked-copies-mark-each s vs (mark v ps) (omega arith) ∙ marked-copies-mark s v ps (omega arith)
 

@@ -9,17 +9,20 @@ use lib.ListN.{length}
 use lib.Dec.{eqb}
 use borrow.Author.Tests.{eq-eqb, ne-eqb}
 use Rattle.rules.specs.Hall.{Desk, Hall, State, allScreens, deskOf, screenIndex, unmarked}
-use Rattle.rules.specs.History.{Deed, DroppedBefore, Linked, collects, copies, deed, deedAt, drops, handsBack, lacksRoom, nothing, own, retires, swaps, takes}
+use Rattle.rules.specs.History.{Deed, DroppedBefore, Linked, collects, copies, deed, deedAt, drops, handsBack, lacksRoom, nothing, own, retires}
+use Rattle.rules.specs.History.{swaps, takes}
 use Rattle.rules.specs.Steps.{Call, begin, collect, end, owe, retire, run, step}
 use Rattle.rules.specs.laws.Collect.{Orderly, beforeHandBack, begin-keeps}
 use Rattle.rules.specs.laws.Effect.{Effect, Formed, effect, formed-step}
-use Rattle.rules.specs.laws.Links.{Link, Range, ScreensAgree, agree-step, beforeRetire, beforeSwap, calm-step, link, linkedTo, range-step, unlinked}
+use Rattle.rules.specs.laws.Links.{Link, Range, ScreensAgree, agree-step, beforeRetire, beforeSwap, calm-step, link, linkedTo, range-step}
+use Rattle.rules.specs.laws.Links.{unlinked}
 use Rattle.rules.specs.laws.Lists.{copies-append, matches, matches-at-most-one, matches-other, matches-same}
 use Rattle.rules.specs.laws.OwnDeeds.{own-handed, own-hands-back, own-retires}
 use Rattle.rules.specs.laws.Runs.{sound-step}
 use Rattle.rules.specs.laws.ScreenIndex.{screen-in}
 use Rattle.rules.specs.laws.Sound.{Sound, sound-orderly}
-use Rattle.rules.specs.laws.Tokens.{Leaves, Tokens, hand-other, hand-same, live, live-at, live-next, open-tokens, pass-tokens, tally, tally-le, ties}
+use Rattle.rules.specs.laws.Tokens.{Leaves, Tokens, hand-other, hand-same, live, live-at, live-next, open-tokens, pass-tokens, tally, tally-le}
+use Rattle.rules.specs.laws.Tokens.{ties}
 use Rattle.rules.specs.laws.Track.{linked-tied}
 
 -- A hand-back at place a, of session s to desk d, may be paired with the retirement at place r.
@@ -51,7 +54,8 @@ live-one H f n (suc k) r = omega (arith, live-one H f n k r, go (link H f k n))
 
 module _ (H : Hall) (f : ℕ → Deed) (d s n : ℕ) where
   -- the next place
-  later : (D E : Desk) (count : ℕ → ℕ) → ((r : ℕ) → 1 ≤ count r → r < n) → E .scanned ≡ D .scanned → E .ready ≡ D .ready → E .tested ≡ D .tested → E .waiting ≡ D .waiting → Tokens H f s n D count → Tokens H f s (suc n) E count
+  later : (D E : Desk) (count : ℕ → ℕ) → ((r : ℕ) → 1 ≤ count r → r < n) → E .scanned ≡ D .scanned → E .ready ≡ D .ready → E .tested ≡ D .tested
+      → E .waiting ≡ D .waiting → Tokens H f s n D count → Tokens H f s (suc n) E count
   later D E count low ek er et ew t = record {
     old = t .old;
     new = t .new;
@@ -95,7 +99,8 @@ module _ (H : Hall) (f : ℕ → Deed) (d s n : ℕ) where
       old = t .old;
       new = n ∷ t .new;
       same = λ r. omega (arith, t .same r);
-      held = record { sum = omega (arith, t .held .sum, wait); tests = t .held .tests; marks = t .held .marks; waits = omega (arith, t .held .waits, wait, live-one H f (suc n) (allScreens H) n) };
+      held =
+          record { sum = omega (arith, t .held .sum, wait); tests = t .held .tests; marks = t .held .marks; waits = omega (arith, t .held .waits, wait, live-one H f (suc n) (allScreens H) n) };
     };
     single = λ r. one r (ℕ-discrete r n);
     mine = λ r q. own r q (ℕ-discrete r n);
@@ -138,10 +143,13 @@ module _ (H : Hall) (f : ℕ → Deed) (d s n : ℕ) where
       apart a r h q c z (no w) = g .unused a r h q (omega (arith, matches-other r n w)) z
 
   -- s is handed back to the desk at place n
-  backs : (D E : Desk) → ((m : ℕ) → Range H (f m)) → ((i x c p v : ℕ) → f i ≡ takes x c p v → link H f (screenIndex H x c) i ≡ unlinked) → f n ≡ handsBack d s → (g : Guard H f d s n D) → Leaves H f s n E (g .count) → Guard H f d s (suc n) E
+  backs : (D E : Desk) → ((m : ℕ) → Range H (f m)) → ((i x c p v : ℕ) → f i ≡ takes x c p v → link H f (screenIndex H x c) i ≡ unlinked)
+      → f n ≡ handsBack d s → (g : Guard H f d s n D) → Leaves H f s n E (g .count) → Guard H f d s (suc n) E
   backs D E sane calm e g l = record {
     count = left;
-    tokens = later E E left (λ r q. g .mine r (omega (arith, l .same r)) .0) refl refl refl refl (record { old = l .old; new = l .new; same = λ r. refl; held = l .held });
+    tokens =
+        later E E left (λ r q. g .mine r (omega (arith, l .same r)) .0) refl refl refl refl
+        (record { old = l .old; new = l .new; same = λ r. refl; held = l .held });
     single = λ r. omega (arith, l .same r, g .single r);
     mine = λ r q. (omega (arith, g .mine r (omega (arith, l .same r)) .0), g .mine r (omega (arith, l .same r)) .1);
     pair = pair′;
@@ -171,7 +179,9 @@ module _ (H : Hall) (f : ℕ → Deed) (d s n : ℕ) where
       drops′ : (i : ℕ) → Linked f i (l .it) → DroppedBefore f i n
       drops′ i k =
           let r = subst (Range H) (k .take) (sane i) in
-          linked-tied H f sane i (k .desk) (k .screen) (k .position) (k .shown) (k .by) (k .swapAt) (k .session) (l .it) (k .take) (k .swap) (k .retire) (calm i (k .desk) (k .screen) (k .position) (k .shown) (k .take)) n (g .mine (l .it) was .0) (unmarked (screenIndex H (k .desk) (k .screen)) (screen-in H (k .desk) (k .screen) (r .0) (r .1) (r .2) (r .3)))
+          linked-tied H f sane i (k .desk) (k .screen) (k .position) (k .shown) (k .by) (k .swapAt) (k .session) (l .it) (k .take) (k .swap)
+          (k .retire) (calm i (k .desk) (k .screen) (k .position) (k .shown) (k .take)) n (g .mine (l .it) was .0)
+          (unmarked (screenIndex H (k .desk) (k .screen)) (screen-in H (k .desk) (k .screen) (r .0) (r .1) (r .2) (r .3)))
 
       fits : Good f d s n (l .it)
       fits = record { earlier = g .mine (l .it) was .0; same = g .mine (l .it) was .1; dropped = drops′ }
@@ -194,10 +204,15 @@ shift : (f : ℕ → Deed) (a b : ℕ) → a ≡ b → f a ≡ f b
 shift f a b e = ap f e
 
 -- One call.
-module _ (H : Hall) (f : ℕ → Deed) (sane : (m : ℕ) → Range H (f m)) (calm : (i x c p v : ℕ) → f i ≡ takes x c p v → link H f (screenIndex H x c) i ≡ unlinked) (hS : 1 ≤ allScreens H) (d s : ℕ) (hd : 1 ≤ d) (hs : s ≡ 0 → ⊥) where
-  guard-step : (n : ℕ) (st : State) (c : Call) → Formed H st → Orderly (allScreens H) (deskOf st d) → ScreensAgree H f n st → f n ≡ deed c (step H st c .answer .number) (step H st c .answer .session)
+module _ (H : Hall) (f : ℕ → Deed) (sane : (m : ℕ) → Range H (f m))
+    (calm : (i x c p v : ℕ) → f i ≡ takes x c p v → link H f (screenIndex H x c) i ≡ unlinked) (hS : 1 ≤ allScreens H) (d s : ℕ) (hd : 1 ≤ d)
+    (hs : s ≡ 0 → ⊥) where
+  guard-step : (n : ℕ) (st : State) (c : Call) → Formed H st → Orderly (allScreens H) (deskOf st d) → ScreensAgree H f n st
+      → f n ≡ deed c (step H st c .answer .number) (step H st c .answer .session)
       → Guard H f d s n (deskOf st d) → Guard H f d s (suc n) (deskOf (step H st c .after) d)
-  guard-step n st c formed ok ag q g = go (own d (f n)) refl (subst (λ (D : Deed). Effect (allScreens H) (st .shown) (deskOf st d) (deskOf (step H st c .after) d) (own d D)) (sym q) (effect H st d formed hd c))
+  guard-step n st c formed ok ag q g =
+      go (own d (f n)) refl
+      (subst (λ (D : Deed). Effect (allScreens H) (st .shown) (deskOf st d) (deskOf (step H st c .after) d) (own d D)) (sym q) (effect H st d formed hd c))
     where
       below : (r : ℕ) → 1 ≤ g .count r → r < n
       below r h = g .mine r h .0
@@ -207,7 +222,8 @@ module _ (H : Hall) (f : ℕ → Deed) (sane : (m : ℕ) → Range H (f m)) (cal
       no-hand-back D o ne t = ne (sym (own-hands-back d s) ∙ ap (own d) (sym t) ∙ o)
 
       -- the list stays as it is
-      same-list : (D : Deed) → own d (f n) ≡ D → (handsBack d s ≡ D → ⊥) → (o : ℕ) → deskOf (step H st c .after) d ≡ owe (deskOf st d) o → Guard H f d s (suc n) (deskOf (step H st c .after) d)
+      same-list : (D : Deed) → own d (f n) ≡ D → (handsBack d s ≡ D → ⊥) → (o : ℕ) → deskOf (step H st c .after) d ≡ owe (deskOf st d) o
+          → Guard H f d s (suc n) (deskOf (step H st c .after) d)
       same-list D p ne o e =
           rw e (still H f d s n (deskOf st d) (owe (deskOf st d) o) (no-hand-back D p ne) g
           (later H f d s n (deskOf st d) (owe (deskOf st d) o) (g .count) below refl refl refl refl (g .tokens)))
@@ -218,40 +234,55 @@ module _ (H : Hall) (f : ℕ → Deed) (sane : (m : ℕ) → Range H (f m)) (cal
           let t = later H f d s n (deskOf st d) (deskOf st d) (g .count) below refl refl refl refl (g .tokens) in
           let w = copies-append s (deskOf st d .waiting) (deskOf st d .owed ∷ []) in
           let z : matches s (deskOf st d .owed) ≡ 0 = ap (matches s) o ∙ matches-other s v ne in
-          record { old = t .old; new = t .new; same = t .same; held = record { sum = omega (arith, t .held .sum); tests = t .held .tests; marks = t .held .marks; waits = omega (arith, t .held .waits) } }
+          record {
+            old = t .old;
+            new = t .new;
+            same = t .same;
+            held =
+                record { sum = omega (arith, t .held .sum); tests = t .held .tests; marks = t .held .marks; waits = omega (arith, t .held .waits) };
+          }
 
       passed : Tokens H f s n (beforeHandBack (allScreens H) (st .shown) (deskOf st d)) (g .count)
-      passed = pass-tokens H f d s n (g .count) st ag (g .single) (λ r h. g .mine r h .1) hS (formed .screens) (begin (deskOf st d)) (begin-keeps (allScreens H) (deskOf st d) hS ok .going) (open-tokens H f d s n (g .count) (deskOf st d) (ok .going) (g .tokens))
+      passed =
+          pass-tokens H f d s n (g .count) st ag (g .single) (λ r h. g .mine r h .1) hS (formed .screens) (begin (deskOf st d))
+          (begin-keeps (allScreens H) (deskOf st d) hS ok .going) (open-tokens H f d s n (g .count) (deskOf st d) (ok .going) (g .tokens))
 
       retiring : (v : ℕ) → deskOf st d .owed ≡ v → f n ≡ retires d v → Dec (s ≡ v) → Guard H f d s (suc n) (retire (deskOf st d))
       retiring v o y (yes t) = gives H f d s n (deskOf st d) (o ∙ sym t) (y ∙ ap (retires d) (sym t)) g
-      retiring v o y (no t) = still H f d s n (deskOf st d) (retire (deskOf st d)) (λ u. let k : retires d v ≡ handsBack d s = sym y ∙ u in let z : _≡_ {A = ℕ} 0 1 = cc in omega arith) g (wider v o t)
+      retiring v o y (no t) =
+          still H f d s n (deskOf st d) (retire (deskOf st d))
+          (λ u. let k : retires d v ≡ handsBack d s = sym y ∙ u in let z : _≡_ {A = ℕ} 0 1 = cc in omega arith) g (wider v o t)
 
       -- a collect that replies another session, or 0
-      collecting : (v : ℕ) → collect (allScreens H) (st .shown) (deskOf st d) .session ≡ v → (s ≡ v → ⊥) → (f n ≡ handsBack d s → ⊥) → Guard H f d s (suc n) (collect (allScreens H) (st .shown) (deskOf st d) .after)
+      collecting : (v : ℕ) → collect (allScreens H) (st .shown) (deskOf st d) .session ≡ v → (s ≡ v → ⊥) → (f n ≡ handsBack d s → ⊥)
+          → Guard H f d s (suc n) (collect (allScreens H) (st .shown) (deskOf st d) .after)
       collecting v e ne other =
           let E = collect (allScreens H) (st .shown) (deskOf st d) .after in
           still H f d s n (deskOf st d) E other g
           (later H f d s n E E (g .count) below refl refl refl refl (hand-other H f d s n (g .count) (beforeHandBack (allScreens H) (st .shown) (deskOf st d)) hs (λ u. ne (u ∙ e)) passed))
 
-      handing : (v : ℕ) → collect (allScreens H) (st .shown) (deskOf st d) .session ≡ v → f n ≡ handsBack d v → Dec (s ≡ v) → Guard H f d s (suc n) (collect (allScreens H) (st .shown) (deskOf st d) .after)
+      handing : (v : ℕ) → collect (allScreens H) (st .shown) (deskOf st d) .session ≡ v → f n ≡ handsBack d v → Dec (s ≡ v)
+          → Guard H f d s (suc n) (collect (allScreens H) (st .shown) (deskOf st d) .after)
       handing v e y (yes t) =
           backs H f d s n (deskOf st d) (collect (allScreens H) (st .shown) (deskOf st d) .after) sane calm (y ∙ ap (handsBack d) (sym t)) g
           (hand-same H f d s n (g .count) (beforeHandBack (allScreens H) (st .shown) (deskOf st d)) hs (t ∙ sym e) passed)
       handing v e y (no t) = collecting v e t (λ u. let k : handsBack d v ≡ handsBack d s = sym y ∙ u in t (cc))
 
-      go : (D : Deed) → own d (f n) ≡ D → Effect (allScreens H) (st .shown) (deskOf st d) (deskOf (step H st c .after) d) D → Guard H f d s (suc n) (deskOf (step H st c .after) d)
+      go : (D : Deed) → own d (f n) ≡ D → Effect (allScreens H) (st .shown) (deskOf st d) (deskOf (step H st c .after) d) D
+          → Guard H f d s (suc n) (deskOf (step H st c .after) d)
       go (takes by x p v) o e = same-list (takes by x p v) o (λ t. let z : _≡_ {A = ℕ} 0 1 = cc in omega arith) (e .owed) (e .after)
       go (drops by x) o e = same-list (drops by x) o (λ t. let z : _≡_ {A = ℕ} 0 1 = cc in omega arith) (e .owed) (e .after)
       go (swaps by p) o e = same-list (swaps by p) o (λ t. let z : _≡_ {A = ℕ} 0 1 = cc in omega arith) (e .owed) (e .after)
       go (retires by v) o e = rw (e .after) (retiring v (e .owed) (own-retires d by v (f n) o) (ℕ-discrete s v))
       go (lacksRoom by) o e = same-list (lacksRoom by) o (λ t. let z : _≡_ {A = ℕ} 0 1 = cc in omega arith) (deskOf st d .owed) (e .after)
-      go (collects by) o e = rw (e .after) (collecting 0 (e .session) hs (no-hand-back (collects by) o (λ t. let z : _≡_ {A = ℕ} 0 1 = cc in omega arith)))
+      go (collects by) o e =
+          rw (e .after) (collecting 0 (e .session) hs (no-hand-back (collects by) o (λ t. let z : _≡_ {A = ℕ} 0 1 = cc in omega arith)))
       go (handsBack by v) o e = rw (e .1 .after) (handing v (e .1 .session) (own-handed d by v (f n) o) (ℕ-discrete s v))
       go nothing o e = same-list nothing o (λ t. let z : _≡_ {A = ℕ} 0 1 = cc in omega arith) (e .owed) (e .after)
 
   -- A list of calls: the list of events stands in f from place n on.
-  pub guard-run : (cs : List Call) (st : State) (n : ℕ) → ((i : ℕ) → f (n + i) ≡ deedAt (run H st cs) i) → Formed H st → Sound (allScreens H) (deskOf st d) → ScreensAgree H f n st
+  pub guard-run : (cs : List Call) (st : State) (n : ℕ) → ((i : ℕ) → f (n + i) ≡ deedAt (run H st cs) i) → Formed H st
+      → Sound (allScreens H) (deskOf st d) → ScreensAgree H f n st
       → Guard H f d s n (deskOf st d) → Guard H f d s (n + length cs) (deskOf (end H st cs) d)
   guard-run [] st n sh formed ok ag g = subst (λ (m : ℕ). Guard H f d s m (deskOf st d)) (omega arith) g
   guard-run (c ∷ cs) st n sh formed ok ag g =
@@ -265,8 +296,10 @@ sane-run H [] st formed m = tt
 sane-run H (c ∷ cs) st formed zero = range-step H st formed c
 sane-run H (c ∷ cs) st formed (suc m) = sane-run H cs (step H st c .after) (formed-step H st 1 formed (omega arith) c) m
 
-pub calm-run : (H : Hall) (f : ℕ → Deed) (cs : List Call) (st : State) (n : ℕ) → ((i : ℕ) → f (n + i) ≡ deedAt (run H st cs) i) → Formed H st → ScreensAgree H f n st → (m x c p v : ℕ) → f (n + m) ≡ takes x c p v → link H f (screenIndex H x c) (n + m) ≡ unlinked
-calm-run H f [] st n sh formed ag m x y p v t = let k : nothing ≡ takes x y p v = sym (sh m) ∙ t in let z : _≡_ {A = ℕ} 0 1 = cc in absurd (omega arith)
+pub calm-run : (H : Hall) (f : ℕ → Deed) (cs : List Call) (st : State) (n : ℕ) → ((i : ℕ) → f (n + i) ≡ deedAt (run H st cs) i) → Formed H st
+    → ScreensAgree H f n st → (m x c p v : ℕ) → f (n + m) ≡ takes x c p v → link H f (screenIndex H x c) (n + m) ≡ unlinked
+calm-run H f [] st n sh formed ag m x y p v t =
+    let k : nothing ≡ takes x y p v = sym (sh m) ∙ t in let z : _≡_ {A = ℕ} 0 1 = cc in absurd (omega arith)
 calm-run H f (c ∷ cs) st n sh formed ag zero x y p v t =
     let e : n ≡ n + 0 = omega arith in
     let q : f n ≡ deed c (step H st c .answer .number) (step H st c .answer .session) = ap f e ∙ sh 0 in
@@ -275,4 +308,5 @@ calm-run H f (c ∷ cs) st n sh formed ag (suc m) x y p v t =
     let e : n ≡ n + 0 = omega arith in
     let u : suc n + m ≡ n + suc m = omega arith in
     let q : f n ≡ deed c (step H st c .answer .number) (step H st c .answer .session) = ap f e ∙ sh 0 in
-    subst (λ (k : ℕ). link H f (screenIndex H x y) k ≡ unlinked) u (calm-run H f cs (step H st c .after) (suc n) (λ i. shift f (suc n + i) (n + suc i) (omega arith) ∙ sh (suc i)) (formed-step H st 1 formed (omega arith) c) (agree-step H st formed f n ag c q) m x y p v (ap f u ∙ t))
+    subst (λ (k : ℕ). link H f (screenIndex H x y) k ≡ unlinked) u
+    (calm-run H f cs (step H st c .after) (suc n) (λ i. shift f (suc n + i) (n + suc i) (omega arith) ∙ sh (suc i)) (formed-step H st 1 formed (omega arith) c) (agree-step H st formed f n ag c q) m x y p v (ap f u ∙ t))

@@ -17,7 +17,8 @@ module _ (a m b : List ℕ) (n : ℕ) (h : length a ≡ n) where
   get-mid i l = ap (λ (k : ℕ). getD (a ++ (m ++ b)) (k + i) 0) (sym h) ∙ getD-append-add a (m ++ b) i 0 ∙ List·getD-append m b 0 i l
 
   pub set-mid : (i v : ℕ) → i < length m → set (a ++ (m ++ b)) (n + i) v ≡ a ++ (set m i v ++ b)
-  set-mid i v l = ap (λ (k : ℕ). set (a ++ (m ++ b)) (k + i) v) (sym h) ∙ set-append-add a (m ++ b) i v ∙ ap (λ (y : List ℕ). a ++ y) (set-append-left m b i v l)
+  set-mid i v l =
+      ap (λ (k : ℕ). set (a ++ (m ++ b)) (k + i) v) (sym h) ∙ set-append-add a (m ++ b) i v ∙ ap (λ (y : List ℕ). a ++ y) (set-append-left m b i v l)
 
   pub take-mid : (w : ℕ) → length m ≡ w → take w (drop n (a ++ (m ++ b))) ≡ m
   take-mid w e = ap (take w) (drop-at a (m ++ b) n h) ∙ take-at m b w e

@@ -9,7 +9,8 @@ use lib.Dec.{eqb}
 use borrow.Author.Tests.{eqb-true, eqb-false}
 use Rattle.rules.specs.Hall.{Desk, TestedPlace, unmarked, usedPlaces}
 use Rattle.rules.specs.Steps.{begin, beginAt, collect, handBack, markedOf, retire, scan, scanAt, settle, settleIf, unmarkedOf}
-use Rattle.rules.specs.laws.Marks.{length-mark-each, length-next-screens, mark-count-begin, mark-count-mark-each, markCount, unmarked-and-marked}
+use Rattle.rules.specs.laws.Marks.{length-mark-each, length-next-screens, mark-count-begin, mark-count-mark-each, markCount}
+use Rattle.rules.specs.laws.Marks.{unmarked-and-marked}
 
 -- What holds of the tested part: f is 1 if the desk has retired since its last collect, and else 0.
 abbrev pub ScanRoom : ℕ → ℕ → ℕ → List TestedPlace → ℕ → Type 0
@@ -37,19 +38,25 @@ pub begin-room : (S f : ℕ) (D : Desk) → 1 ≤ S → f ≤ 1 → Room S f D �
 begin-room S f D hS hf r = go (D .tested) refl (r .pass)
   where
     go : (t : List TestedPlace) → D .tested ≡ t → ScanRoom S f (D .scanned) t (length (D .waiting)) → RoomBegun S (beginAt t D)
-    go [] e p = record { total = omega (arith, r .total, ap length e, length-map (D .waiting) unmarked); mid = begun-room S f (D .scanned) (D .waiting) hS hf (p .0) (p .1) }
+    go [] e p = record {
+      total = omega (arith, r .total, ap length e, length-map (D .waiting) unmarked);
+      mid = begun-room S f (D .scanned) (D .waiting) hS hf (p .0) (p .1);
+    }
     go (q ∷ qs) e p = record { total = omega (arith, r .total); mid = rw e (omega arith) }
 
 -- (d): the first ready one leaves.
-hand-back-room : (S : ℕ) (D : Desk) → usedPlaces D ≤ 2 * S → length (D .tested) + length (D .waiting) + 1 ≤ 2 * S → ScanRoom S 0 (D .scanned) (D .tested) (length (D .waiting)) → Room S 0 (handBack D .after)
+hand-back-room : (S : ℕ) (D : Desk) → usedPlaces D ≤ 2 * S → length (D .tested) + length (D .waiting) + 1 ≤ 2 * S
+    → ScanRoom S 0 (D .scanned) (D .tested) (length (D .waiting)) → Room S 0 (handBack D .after)
 hand-back-room S D h l p = record { total = omega (arith, length-drop 1 (D .ready)); pass = p }
 
 -- (c): the pass goes on, or it ends.
-settle-room : (S : ℕ) (D : Desk) → usedPlaces D ≤ 2 * S → 1 ≤ length (D .tested) → D .scanned ≤ S → 2 * length (D .tested) ≤ 3 * S + 1 → 2 * length (D .waiting) + 1 ≤ D .scanned → (D .scanned < S → 2 * length (D .waiting) + 2 ≤ D .scanned)
+settle-room : (S : ℕ) (D : Desk) → usedPlaces D ≤ 2 * S → 1 ≤ length (D .tested) → D .scanned ≤ S → 2 * length (D .tested) ≤ 3 * S + 1
+    → 2 * length (D .waiting) + 1 ≤ D .scanned → (D .scanned < S → 2 * length (D .waiting) + 2 ≤ D .scanned)
     → markCount (D .tested) ≤ D .scanned → Room S 0 (handBack (settle S D) .after)
 settle-room S D h t1 hk ht hw hx hm = go (eqb (D .scanned) S) refl
   where
-    busy : (t : List TestedPlace) → D .tested ≡ t → D .scanned < S → 2 * length (D .waiting) + 2 ≤ D .scanned → ScanRoom S 0 (D .scanned) t (length (D .waiting))
+    busy : (t : List TestedPlace) → D .tested ≡ t → D .scanned < S → 2 * length (D .waiting) + 2 ≤ D .scanned
+        → ScanRoom S 0 (D .scanned) t (length (D .waiting))
     busy [] e lt w2 = absurd (omega (arith, ap length e))
     busy (p ∷ ps) e lt w2 = omega (arith, ap length e, ap markCount e)
 
@@ -71,7 +78,8 @@ collect-room S f shown D hS hf hl r = go (begin D) (begin-room S f D hS hf r)
     go : (A : Desk) → RoomBegun S A → Room S 0 (handBack (settle S (scan shown A)) .after)
     go A o = at (A .tested) refl (o .mid)
       where
-        at : (t : List TestedPlace) → A .tested ≡ t → BegunRoom S (A .scanned) t (length (A .waiting)) → Room S 0 (handBack (settle S (scanAt t (take 2 (drop (A .scanned) shown)) A)) .after)
+        at : (t : List TestedPlace) → A .tested ≡ t → BegunRoom S (A .scanned) t (length (A .waiting))
+            → Room S 0 (handBack (settle S (scanAt t (take 2 (drop (A .scanned) shown)) A)) .after)
         at [] e m = at0 (eqb (A .scanned) S) refl
           where
             idle : ScanRoom S 0 (A .scanned) (A .tested) (length (A .waiting))
@@ -88,11 +96,13 @@ collect-room S f shown D hS hf hl r = go (begin D) (begin-room S f D hS hf r)
             let le = ap length e in
             let me = ap markCount e in
             let to = o .total in
-            settle-room S (scanAt (p ∷ ps) vs A) (omega arith) (omega arith) (omega arith) (omega arith) (omega arith) (λ q. omega arith) (omega arith)
+            settle-room S (scanAt (p ∷ ps) vs A) (omega arith) (omega arith) (omega arith) (omega arith) (omega arith) (λ q. omega arith)
+            (omega arith)
 
 pub retire-room : (S : ℕ) (D : Desk) → Room S 0 D → Room S 1 (retire D)
 retire-room S D r = record { total = omega (arith, r .total, length-append (D .waiting) (D .owed ∷ [])); pass = go (D .tested) (r .pass) }
   where
-    go : (t : List TestedPlace) → ScanRoom S 0 (D .scanned) t (length (D .waiting)) → ScanRoom S 1 (D .scanned) t (length (D .waiting ++ (D .owed ∷ [])))
+    go : (t : List TestedPlace) → ScanRoom S 0 (D .scanned) t (length (D .waiting))
+        → ScanRoom S 1 (D .scanned) t (length (D .waiting ++ (D .owed ∷ [])))
     go [] p = omega (arith, length-append (D .waiting) (D .owed ∷ []))
     go (q ∷ qs) p = omega (arith, length-append (D .waiting) (D .owed ∷ []))

@@ -10,9 +10,11 @@ pub screen-in : (H : Hall) (d c : ℕ) → 1 ≤ d → d ≤ H .desks → 1 ≤ 
 screen-in H d c h1 h2 h3 h4 = let m : suc (d - 1) * H .screens ≤ H .desks * H .screens = mul-le-mul-right (H .screens) (omega arith) in omega arith
 
 pub screen-less : (H : Hall) (d c x y : ℕ) → 1 ≤ d → d < x → 1 ≤ c → c ≤ H .screens → screenIndex H d c < screenIndex H x y
-screen-less H d c x y h1 h2 h3 h4 = let m : suc (d - 1) * H .screens ≤ (x - 1) * H .screens = mul-le-mul-right (H .screens) (omega arith) in omega arith
+screen-less H d c x y h1 h2 h3 h4 =
+    let m : suc (d - 1) * H .screens ≤ (x - 1) * H .screens = mul-le-mul-right (H .screens) (omega arith) in omega arith
 
-pub screen-same : (H : Hall) (d c x y : ℕ) → (1 ≤ d) × (d ≤ H .desks) × (1 ≤ c) × (c ≤ H .screens) → (1 ≤ x) × (x ≤ H .desks) × (1 ≤ y) × (y ≤ H .screens) → screenIndex H d c ≡ screenIndex H x y → (d ≡ x) × (c ≡ y)
+pub screen-same : (H : Hall) (d c x y : ℕ) → (1 ≤ d) × (d ≤ H .desks) × (1 ≤ c) × (c ≤ H .screens)
+    → (1 ≤ x) × (x ≤ H .desks) × (1 ≤ y) × (y ≤ H .screens) → screenIndex H d c ≡ screenIndex H x y → (d ≡ x) × (c ≡ y)
 screen-same H d c x y a b e = go (decLt d x) (decLt x d)
   where
     go : Dec (d < x) → Dec (x < d) → (d ≡ x) × (c ≡ y)

@@ -9,7 +9,8 @@ use lib.ListN.{length, take, getD, set}
 use lib.Dec.{eqb}
 use borrow.Author.Tests.{eqb-true, eqb-false}
 use Rattle.rules.specs.Hall.{Hall, State, allScreens, deskOf, screenIndex}
-use Rattle.rules.specs.History.{Deed, Shows, collects, copies, deed, deedAt, drops, handsBack, lacksRoom, nothing, refusedDeed, retires, swaps, takes}
+use Rattle.rules.specs.History.{Deed, Shows, collects, copies, deed, deedAt, drops, handsBack, lacksRoom, nothing, refusedDeed, retires, swaps}
+use Rattle.rules.specs.History.{takes}
 use Rattle.rules.specs.Steps.{Call, Collect, Drop, Retire, Swap, Take, collect, decide, end, firstNo, perform, questions, run, step}
 use Rattle.rules.specs.laws.Checks.{nowhere}
 use Rattle.rules.specs.laws.Effect.{Formed, formed-step}
@@ -34,7 +35,8 @@ still-shown H f n x v k no-drop = record {
   desk = k .desk;
   screen = k .screen;
   index = k .index;
-  shows = record { takenAt = k .shows .takenAt; position = k .shows .position; earlier = omega (arith, k .shows .earlier); take = k .shows .take; undropped = undropped };
+  shows =
+      record { takenAt = k .shows .takenAt; position = k .shows .position; earlier = omega (arith, k .shows .earlier); take = k .shows .take; undropped = undropped };
 }
   where
     undropped : (m : ℕ) → k .shows .takenAt < m → m < suc n → f m ≡ drops (k .desk) (k .screen) → ⊥
@@ -49,7 +51,8 @@ module _ (H : Hall) (f : ℕ → Deed) (n : ℕ) (st : State) (formed : Formed H
   unchanged : ((d c : ℕ) → f n ≡ drops d c → ⊥) → AllShown H f (suc n) st
   unchanged no-drop x nz = still-shown H f n x (getD (st .shown) x 0) (before x nz) (no-drop (before x nz .desk) (before x nz .screen))
 
-  after-take : (d c p : ℕ) → firstNo (questions H st (Take d c p)) ≡ 0 → f n ≡ takes d c p (getD (st .held) (p - 1) 0) → AllShown H f (suc n) (perform H st (Take d c p) .after)
+  after-take : (d c p : ℕ) → firstNo (questions H st (Take d c p)) ≡ 0 → f n ≡ takes d c p (getD (st .held) (p - 1) 0)
+      → AllShown H f (suc n) (perform H st (Take d c p) .after)
   after-take d c p e q x nz = subst (ShownBy H f (suc n) x) (sym value) (go (eqb y x) refl (subst (λ (v : ℕ). v ≡ 0 → ⊥) value nz))
     where
       y : ℕ
@@ -62,16 +65,21 @@ module _ (H : Hall) (f : ℕ → Deed) (n : ℕ) (st : State) (formed : Formed H
       facts = take-facts H st formed d c p e
 
       value : getD (set (st .shown) (screenIndex H d c) (getD (st .held) (p - 1) 0)) x 0 ≡ cond (eqb (screenIndex H d c) x) (getD (st .held) (p - 1) 0) (getD (st .shown) x 0)
-      value = set-at (st .shown) (screenIndex H d c) x (getD (st .held) (p - 1) 0) (omega (arith, formed .screens, screen-in H d c (facts .0) (facts .1) (facts .2) (facts .3)))
+      value =
+          set-at (st .shown) (screenIndex H d c) x (getD (st .held) (p - 1) 0)
+          (omega (arith, formed .screens, screen-in H d c (facts .0) (facts .1) (facts .2) (facts .3)))
 
-      go : (b : Bool) → eqb (screenIndex H d c) x ≡ b → (cond b (getD (st .held) (p - 1) 0) (getD (st .shown) x 0) ≡ 0 → ⊥) → ShownBy H f (suc n) x (cond b (getD (st .held) (p - 1) 0) (getD (st .shown) x 0))
+      go : (b : Bool) → eqb (screenIndex H d c) x ≡ b → (cond b (getD (st .held) (p - 1) 0) (getD (st .shown) x 0) ≡ 0 → ⊥)
+          → ShownBy H f (suc n) x (cond b (getD (st .held) (p - 1) 0) (getD (st .shown) x 0))
       go true t nz = record {
         desk = d;
         screen = c;
         index = eqb-true (screenIndex H d c) x t;
         shows = record { takenAt = n; position = p; earlier = omega arith; take = q; undropped = λ m a b. absurd (omega arith) };
       }
-      go false t nz = still-shown H f n x (getD (st .shown) x 0) (before x nz) (λ u. let k : takes d c p (getD (st .held) (p - 1) 0) ≡ drops (before x nz .desk) (before x nz .screen) = sym q ∙ u in let z : _≡_ {A = ℕ} 0 1 = cc in omega arith)
+      go false t nz =
+          still-shown H f n x (getD (st .shown) x 0) (before x nz)
+          (λ u. let k : takes d c p (getD (st .held) (p - 1) 0) ≡ drops (before x nz .desk) (before x nz .screen) = sym q ∙ u in let z : _≡_ {A = ℕ} 0 1 = cc in omega arith)
 
   after-drop : (d c : ℕ) → firstNo (questions H st (Drop d c)) ≡ 0 → f n ≡ drops d c → AllShown H f (suc n) (perform H st (Drop d c) .after)
   after-drop d c e q x nz = subst (ShownBy H f (suc n) x) (sym value) (go (eqb (screenIndex H d c) x) refl (subst (λ (v : ℕ). v ≡ 0 → ⊥) value nz))
@@ -82,7 +90,8 @@ module _ (H : Hall) (f : ℕ → Deed) (n : ℕ) (st : State) (formed : Formed H
       value : getD (set (st .shown) (screenIndex H d c) 0) x 0 ≡ cond (eqb (screenIndex H d c) x) 0 (getD (st .shown) x 0)
       value = set-at (st .shown) (screenIndex H d c) x 0 (omega (arith, formed .screens, screen-in H d c (facts .0) (facts .1) (facts .2) (facts .3)))
 
-      go : (b : Bool) → eqb (screenIndex H d c) x ≡ b → (cond {A = ℕ} b 0 (getD (st .shown) x 0) ≡ 0 → ⊥) → ShownBy H f (suc n) x (cond b 0 (getD (st .shown) x 0))
+      go : (b : Bool) → eqb (screenIndex H d c) x ≡ b → (cond {A = ℕ} b 0 (getD (st .shown) x 0) ≡ 0 → ⊥)
+          → ShownBy H f (suc n) x (cond b 0 (getD (st .shown) x 0))
       go true t nz = absurd (nz refl)
       go false t nz = still-shown H f n x (getD (st .shown) x 0) (before x nz) other
         where
@@ -93,7 +102,8 @@ module _ (H : Hall) (f : ℕ → Deed) (n : ℕ) (st : State) (formed : Formed H
               let cc′ : c ≡ before x nz .screen = cc in
               eqb-false (screenIndex H d c) x t ((λ i. screenIndex H (dd i) (cc′ i)) ∙ before x nz .index)
 
-  pub all-shown-step : (c : Call) → f n ≡ deed c (step H st c .answer .number) (step H st c .answer .session) → AllShown H f (suc n) (step H st c .after)
+  pub all-shown-step : (c : Call) → f n ≡ deed c (step H st c .answer .number) (step H st c .answer .session)
+      → AllShown H f (suc n) (step H st c .after)
   all-shown-step c q = go (firstNo (questions H st c)) c refl q
     where
       refused : (c : Call) (m : ℕ) → f n ≡ refusedDeed c (suc m) → (a b : ℕ) → f n ≡ drops a b → ⊥
@@ -111,12 +121,17 @@ module _ (H : Hall) (f : ℕ → Deed) (n : ℕ) (st : State) (formed : Formed H
       collected d v true q a b u = let k : collects d ≡ drops a b = sym q ∙ u in let z : _≡_ {A = ℕ} 0 1 = cc in omega arith
       collected d v false q a b u = let k : handsBack d v ≡ drops a b = sym q ∙ u in let z : _≡_ {A = ℕ} 0 1 = cc in omega arith
 
-      go : (m : ℕ) (c : Call) → firstNo (questions H st c) ≡ m → f n ≡ deed c (decide m st (perform H st c) .answer .number) (decide m st (perform H st c) .answer .session) → AllShown H f (suc n) (decide m st (perform H st c) .after)
+      go : (m : ℕ) (c : Call) → firstNo (questions H st c) ≡ m
+          → f n ≡ deed c (decide m st (perform H st c) .answer .number) (decide m st (perform H st c) .answer .session)
+          → AllShown H f (suc n) (decide m st (perform H st c) .after)
       go zero (Take d c p) e q = after-take d c p e q
       go zero (Drop d c) e q = after-drop d c e q
       go zero (Swap d p v) e q = unchanged (λ a b u. let k : swaps d p ≡ drops a b = sym q ∙ u in let z : _≡_ {A = ℕ} 0 1 = cc in omega arith)
-      go zero (Retire d) e q = unchanged (λ a b u. let k : retires d (deskOf st d .owed) ≡ drops a b = sym q ∙ u in let z : _≡_ {A = ℕ} 0 1 = cc in omega arith)
-      go zero (Collect d) e q = unchanged (collected d (collect (allScreens H) (st .shown) (deskOf st d) .session) (eqb (collect (allScreens H) (st .shown) (deskOf st d) .session) 0) q)
+      go zero (Retire d) e q =
+          unchanged (λ a b u. let k : retires d (deskOf st d .owed) ≡ drops a b = sym q ∙ u in let z : _≡_ {A = ℕ} 0 1 = cc in omega arith)
+      go zero (Collect d) e q =
+          unchanged
+          (collected d (collect (allScreens H) (st .shown) (deskOf st d) .session) (eqb (collect (allScreens H) (st .shown) (deskOf st d) .session) 0) q)
       go (suc m) c e q = unchanged (refused c m q)
 
 -- a session that stands at no place of a list
@@ -132,7 +147,8 @@ module _ (H : Hall) (f : ℕ → Deed) (s : ℕ) (hs : s ≡ 0 → ⊥) where
   hidden-run (suc k) [] st n at formed shown hid = tt
   hidden-run (suc k) (c ∷ cs) st n at formed shown hid = (
     copies-none s (st .shown) nowhere,
-    hidden-run k cs (step H st c .after) (suc n) (λ i. shift (suc n + i) (n + suc i) (omega arith) ∙ at (suc i)) (formed-step H st 1 formed (omega arith) c)
+    hidden-run k cs (step H st c .after) (suc n) (λ i. shift (suc n + i) (n + suc i) (omega arith) ∙ at (suc i))
+        (formed-step H st 1 formed (omega arith) c)
         (all-shown-step H f n st formed shown c (shift n (n + 0) (omega arith) ∙ at 0)) (λ m d c a b. hid m d c (omega arith) (omega arith)),
   )
     where
@@ -140,9 +156,12 @@ module _ (H : Hall) (f : ℕ → Deed) (s : ℕ) (hs : s ≡ 0 → ⊥) where
       shift a b e = ap f e
 
       nowhere : (x : ℕ) → getD (st .shown) x 0 ≡ s → ⊥
-      nowhere x e = let k = shown x (λ z. hs (sym e ∙ z)) in hid n (k .desk) (k .screen) (omega arith) (omega arith) (subst (Shows f n (k .desk) (k .screen)) e (k .shows))
+      nowhere x e =
+          let k = shown x (λ z. hs (sym e ∙ z)) in
+          hid n (k .desk) (k .screen) (omega arith) (omega arith) (subst (Shows f n (k .desk) (k .screen)) e (k .shows))
 
-  pub all-shown-run : (k : ℕ) (cs : List Call) (st : State) (n : ℕ) → ((i : ℕ) → f (n + i) ≡ deedAt (run H st cs) i) → Formed H st → AllShown H f n st → k ≤ length cs → AllShown H f (n + k) (end H st (take k cs))
+  pub all-shown-run : (k : ℕ) (cs : List Call) (st : State) (n : ℕ) → ((i : ℕ) → f (n + i) ≡ deedAt (run H st cs) i) → Formed H st → AllShown H f n st
+      → k ≤ length cs → AllShown H f (n + k) (end H st (take k cs))
   all-shown-run zero cs st n at formed shown l = subst (λ (m : ℕ). AllShown H f m st) (omega arith) shown
   all-shown-run (suc k) [] st n at formed shown l = absurd (omega arith)
   all-shown-run (suc k) (c ∷ cs) st n at formed shown l =

@@ -63,8 +63,11 @@ begun-fits S D hS s = go (D .tested) refl (s .pass)
     go [] e p = start (D .waiting) p
     go (q ∷ qs) e p = again (D .tested) (s .pass)
 
-scan-collect : (S : ℕ) (shown : List ℕ) (A : Desk) → 1 ≤ S → length shown ≡ S → BegunFits S (A .scanned) (A .tested) → ScanFits S (settle S (scan shown A) .scanned) (settle S (scan shown A) .tested)
-scan-collect S shown A hS hl m = by-scan (λ (X : Desk). ScanFits S (X .scanned) (X .tested)) S shown A hS hl (begun-scanning S (A .scanned) (A .tested) m) (λ e. rest (A .tested) e m) (λ h1 h2 h3. on (A .tested) refl h1 h2 h3 m) (λ h1 h2 h3 h4. refl)
+scan-collect : (S : ℕ) (shown : List ℕ) (A : Desk) → 1 ≤ S → length shown ≡ S → BegunFits S (A .scanned) (A .tested)
+    → ScanFits S (settle S (scan shown A) .scanned) (settle S (scan shown A) .tested)
+scan-collect S shown A hS hl m =
+    by-scan (λ (X : Desk). ScanFits S (X .scanned) (X .tested)) S shown A hS hl (begun-scanning S (A .scanned) (A .tested) m)
+    (λ e. rest (A .tested) e m) (λ h1 h2 h3. on (A .tested) refl h1 h2 h3 m) (λ h1 h2 h3 h4. refl)
   where
     rest : (t : List TestedPlace) → t ≡ [] → BegunFits S (A .scanned) t → ScanFits S (A .scanned) t
     rest [] e m = m
@@ -74,16 +77,20 @@ scan-collect S shown A hS hl m = by-scan (λ (X : Desk). ScanFits S (X .scanned)
     busy k [] h a b c d = absurd (omega arith)
     busy k (p ∷ ps) h a b c d = (a, b, c, d)
 
-    on : (t : List TestedPlace) → A .tested ≡ t → 1 ≤ length (A .tested) → length (nextScreens shown A) ≡ 2 → A .scanned + 2 < S → BegunFits S (A .scanned) t → ScanFits S (A .scanned + length (nextScreens shown A)) (markEach (nextScreens shown A) (A .tested))
+    on : (t : List TestedPlace) → A .tested ≡ t → 1 ≤ length (A .tested) → length (nextScreens shown A) ≡ 2 → A .scanned + 2 < S
+        → BegunFits S (A .scanned) t → ScanFits S (A .scanned + length (nextScreens shown A)) (markEach (nextScreens shown A) (A .tested))
     on [] e h1 h2 h3 m = absurd (omega (arith, ap length e))
     on (p ∷ ps) e h1 h2 h3 m =
         let lw = length-mark-each (nextScreens shown A) (A .tested) in
         let mw = mark-count-mark-each (nextScreens shown A) (A .tested) in
         let me = ap markCount e in
-        busy (A .scanned + length (nextScreens shown A)) (markEach (nextScreens shown A) (A .tested)) (omega arith) (omega arith) (omega arith) (omega arith) (omega arith)
+        busy (A .scanned + length (nextScreens shown A)) (markEach (nextScreens shown A) (A .tested)) (omega arith) (omega arith) (omega arith)
+        (omega arith) (omega arith)
 
 pub collect-sound : (S : ℕ) (shown : List ℕ) (D : Desk) → 1 ≤ S → length shown ≡ S → Sound S D → Sound S (collect S shown D .after)
-collect-sound S shown D hS hl s = let o = collect-orderly S shown D hS hl (sound-orderly S D s) in record { total = o .total; real = o .real; pass = scan-collect S shown (begin D) hS hl (begun-fits S D hS s) }
+collect-sound S shown D hS hl s =
+    let o = collect-orderly S shown D hS hl (sound-orderly S D s) in
+    record { total = o .total; real = o .real; pass = scan-collect S shown (begin D) hS hl (begun-fits S D hS s) }
 
 -- The record of a sound desk passes the test.
 pub and-true : (a b : Bool) → a ≡ true → b ≡ true → a && b ≡ true
@@ -115,14 +122,19 @@ copies-sessions s (unmarked x ∷ ps) = omega (arith, copies-sessions s ps)
 copies-sessions s (marked x ∷ ps) = omega (arith, copies-sessions s ps)
 
 pub length-list : (D : Desk) → length (listOf D) ≡ usedPlaces D
-length-list D = omega (arith, length-append (D .ready) (sessionsOf (D .tested) ++ D .waiting), length-append (sessionsOf (D .tested)) (D .waiting), length-sessions (D .tested))
+length-list D =
+    omega
+    (arith, length-append (D .ready) (sessionsOf (D .tested) ++ D .waiting), length-append (sessionsOf (D .tested)) (D .waiting), length-sessions (D .tested))
 
 pub copies-list : (s : ℕ) (D : Desk) → copies s (listOf D) ≡ copiesOn s D
-copies-list s D = omega (arith, copies-append s (D .ready) (sessionsOf (D .tested) ++ D .waiting), copies-append s (sessionsOf (D .tested)) (D .waiting), copies-sessions s (D .tested))
+copies-list s D =
+    omega
+    (arith, copies-append s (D .ready) (sessionsOf (D .tested) ++ D .waiting), copies-append s (sessionsOf (D .tested)) (D .waiting), copies-sessions s (D .tested))
 
 pass-true : (S k : ℕ) (t : List TestedPlace) → ScanFits S k t → scanSound S (length t) k ≡ true
 pass-true S k [] p = eq-eqb k 0 p
-pass-true S k (q ∷ qs) p = and-true (eqb (k % 2) 0) (leb 2 k && ltb k S) (eq-eqb (k % 2) 0 (p .0)) (and-true (leb 2 k) (ltb k S) (le-leb 2 k (p .1)) (lt-ltb k S (p .2)))
+pass-true S k (q ∷ qs) p =
+    and-true (eqb (k % 2) 0) (leb 2 k && ltb k S) (eq-eqb (k % 2) 0 (p .0)) (and-true (leb 2 k) (ltb k S) (le-leb 2 k (p .1)) (lt-ltb k S (p .2)))
 
 pass-marks : (S k : ℕ) (t : List TestedPlace) → ScanFits S k t → markCount t ≤ k
 pass-marks S k [] p = omega arith
@@ -145,4 +157,6 @@ encoded-sound S D h s =
     mk = marks-read-back (D .tested) (omega (arith, s .total))
 
     few : ones (marksOf (D .tested) ++ replicate (128 - length (D .tested)) false) ≤ D .scanned
-    few = omega (arith, ones-append (marksOf (D .tested)) (replicate (128 - length (D .tested)) false), ones-none (128 - length (D .tested)), ones-marks (D .tested), pass-marks S (D .scanned) (D .tested) (s .pass))
+    few =
+        omega
+        (arith, ones-append (marksOf (D .tested)) (replicate (128 - length (D .tested)) false), ones-none (128 - length (D .tested)), ones-marks (D .tested), pass-marks S (D .scanned) (D .tested) (s .pass))

@@ -11,20 +11,22 @@ use borrow.Author.Tests.{leb-true, eqb-true, eqb-false, ltb-true}
 use Rattle.rules.specs.Hall.{Hall, TestedPlace, allScreens}
 use Rattle.rules.specs.History.{copies}
 use Rattle.rules.specs.Steps.{Call, perform}
-use Rattle.rules.specs.Table.{bitsOfWords, decode, decodeDesk, encode, every, everyRecord, hallIn, need, ones, pieces, placesOf, recordSound, recordWidth, recordsIn, scanSound, sound, written}
+use Rattle.rules.specs.Table.{bitsOfWords, decode, decodeDesk, encode, every, everyRecord, hallIn, need, ones, pieces, placesOf, recordSound}
+use Rattle.rules.specs.Table.{recordWidth, recordsIn, scanSound, sound, written}
 use Rattle.rules.specs.laws.Decoding.{and-1, and-2, flags-join, length-unwords, list-parts, part-a, part-b, part-c, same-table}
 use Rattle.rules.specs.laws.Encoding.{ones-marks}
 use Rattle.rules.specs.laws.Lists.{matches, matches-other}
 use Rattle.rules.specs.laws.Marks.{markCount}
 use Rattle.rules.specs.laws.Sound.{ScanFits, Sound, copies-list, ones-append}
 use Rattle.rules.specs.laws.TableSteps.{Known, asked, known}
-use Rattle.rules.specs.laws.Tables.{All, Opens, Valid, writes-is}
+use Rattle.rules.specs.laws.Tables.{All, Opens, Valid, written-is}
 
 real-cnt : (l : List ℕ) → every (λ x. not (eqb x 0)) l ≡ true → copies 0 l ≡ 0
 real-cnt [] h = refl
 real-cnt (x ∷ l) h = go (eqb x 0) refl (real-cnt l) h
   where
-    go : (b : Bool) → eqb x 0 ≡ b → (every (λ y. not (eqb y 0)) l ≡ true → copies 0 l ≡ 0) → not b && every (λ y. not (eqb y 0)) l ≡ true → matches 0 x + copies 0 l ≡ 0
+    go : (b : Bool) → eqb x 0 ≡ b → (every (λ y. not (eqb y 0)) l ≡ true → copies 0 l ≡ 0) → not b && every (λ y. not (eqb y 0)) l ≡ true
+        → matches 0 x + copies 0 l ≡ 0
     go true e ih q = let z : _≡_ {A = ℕ} 0 1 = cc in absurd (omega arith)
     go false e ih q = omega (arith, matches-other 0 x (λ z. eqb-false x 0 e (sym z)), ih q)
 
@@ -60,17 +62,22 @@ desk-sound S r lr hS e =
     let hl : length l ≡ 2 * S = omega (arith, length-drop 13 r) in
     let hu : length u ≡ 128 = omega (arith, length-unwords (take 8 (drop 5 r)), length-take-le 8 (drop 5 r) (omega (arith, length-drop 5 r))) in
     let T : List TestedPlace = placesOf (take b (drop a l)) (take b u) in
-    let f = flags-join (take b (drop a l)) (take b u) (omega (arith, length-take-le b (drop a l) (omega (arith, length-drop a l)), length-take-le b u (omega arith))) in
+    let f =
+    flags-join (take b (drop a l)) (take b u)
+    (omega (arith, length-take-le b (drop a l) (omega (arith, length-drop a l)), length-take-le b u (omega arith))) in
     let few : ones u ≤ k = leb-true (ones u) k (and-2 q5 q6 e4) in
     let m : markCount T ≤ k = omega (arith, ones-marks T, ap ones f, ones-append (take b u) (drop b u), ap ones (take-append-drop b u)) in
     record {
       total = omega (arith, part-a S a b c l u hl hu hS h0, part-b S a b c l u hl hu hS h0, part-c S a b c l u hl hu hS h0);
-      real = sym (copies-list 0 (decodeDesk r)) ∙ ap (copies 0) (list-parts S a b c l u hl hu hS h0) ∙ real-cnt (take (a + b + c) l) (and-1 q2 (q3 && (q4 && (q5 && q6))) e1);
+      real =
+          sym (copies-list 0 (decodeDesk r)) ∙ ap (copies 0) (list-parts S a b c l u hl hu hS h0)
+          ∙ real-cnt (take (a + b + c) l) (and-1 q2 (q3 && (q4 && (q5 && q6))) e1);
       pass = pass-of S b k T (part-b S a b c l u hl hu hS h0) (and-1 q5 q6 e4) m;
     }
 
 module _ (S : ℕ) (hS : S ≤ 64) where
-  records-sound : (n : ℕ) (x : List ℕ) → n * (13 + 2 * S) ≤ length x → everyRecord (recordSound S) (pieces n (13 + 2 * S) x) ≡ true → All (Sound S) (map decodeDesk (pieces n (13 + 2 * S) x))
+  records-sound : (n : ℕ) (x : List ℕ) → n * (13 + 2 * S) ≤ length x → everyRecord (recordSound S) (pieces n (13 + 2 * S) x) ≡ true
+      → All (Sound S) (map decodeDesk (pieces n (13 + 2 * S) x))
   records-sound zero x h e = tt
   records-sound (suc n) x h e =
       let w : ℕ = 13 + 2 * S in
@@ -91,13 +98,16 @@ valid t k =
     let l2 = length-drop (H .positions) (drop 3 t) in
     let l3 = length-drop (allScreens H) (drop (H .positions) (drop 3 t)) in
     record {
-      formed = record { desks = length-map (recordsIn H t) decodeDesk ∙ length-records (H .desks) (recordWidth H) (drop (allScreens H) (drop (H .positions) (drop 3 t))); screens = length-take-le (allScreens H) (drop (H .positions) (drop 3 t)) (omega arith) };
+      formed =
+          record { desks = length-map (recordsIn H t) decodeDesk ∙ length-records (H .desks) (recordWidth H) (drop (allScreens H) (drop (H .positions) (drop 3 t))); screens = length-take-le (allScreens H) (drop (H .positions) (drop 3 t)) (omega arith) };
       held = length-take-le (H .positions) (drop 3 t) (omega arith);
       desks = records-sound (allScreens H) (k .most) (H .desks) (drop (allScreens H) (drop (H .positions) (drop 3 t))) (omega arith) (k .records);
     }
 
 -- what an accepted call writes is the table of the state after it
-pub encoded : (t : List ℕ) (c : Call) → ((i : ℕ) → getD t i 0 < 65536) → sound t ≡ true → asked t c ≡ 0 → written t c ≡ encode (hallIn t) (perform (hallIn t) (decode (hallIn t) t) c .after) ++ drop (need (hallIn t)) t
+pub encoded : (t : List ℕ) (c : Call) → ((i : ℕ) → getD t i 0 < 65536) → sound t ≡ true → asked t c ≡ 0
+    → written t c ≡ encode (hallIn t) (perform (hallIn t) (decode (hallIn t) t) c .after) ++ drop (need (hallIn t)) t
 encoded t c sm h q =
     let k = known t h in
-    ap (λ (x : List ℕ). written x c) (sym (same-table t sm h)) ∙ writes-is (hallIn t) (known-opens t k) (decode (hallIn t) t) (valid t k) (drop (need (hallIn t)) t) c q
+    ap (λ (x : List ℕ). written x c) (sym (same-table t sm h))
+    ∙ written-is (hallIn t) (known-opens t k) (decode (hallIn t) t) (valid t k) (drop (need (hallIn t)) t) c q

@@ -8,7 +8,8 @@ use lib.ListN.{length, take, drop}
 use lib.Dec.{eqb}
 use borrow.Author.Tests.{eqb-true, ne-eqb}
 use Rattle.rules.specs.Hall.{Hall, State}
-use Rattle.rules.specs.History.{Deed, collects, deedAt, deedsOf, drops, handBacksOf, handsBack, howMany, isHandBackOf, isRetirementOf, lacksRoom, nothing, oneIf, own, retirementsOf, retires, swaps, takes}
+use Rattle.rules.specs.History.{Deed, collects, deedAt, deedsOf, drops, handBacksOf, handsBack, howMany, isHandBackOf, isRetirementOf}
+use Rattle.rules.specs.History.{lacksRoom, nothing, oneIf, own, retirementsOf, retires, swaps, takes}
 use Rattle.rules.specs.Steps.{Call, Event, end, run, step}
 use Rattle.rules.specs.laws.Effect.{Formed, formed-step}
 use Rattle.rules.specs.laws.Links.{Range, range-step}
@@ -17,7 +18,8 @@ use Rattle.rules.specs.laws.OwnDeeds.{Own, othersDeed, own-cases, ownDee
 pub run-take : (H : Hall) (i : ℕ) (cs : List Call) (st : State) → take i (run H st cs) ≡ run H st (take i cs)
 run-take H zero cs st = refl
 run-take H (suc i) [] st = refl
-run-take H (suc i) (c ∷ cs) st = ap {B = List Event} (λ r. record { call = c; answer = step H st c .answer } ∷ r) (run-take H i cs (step H st c .after))
+run-take H (suc i) (c ∷ cs) st =
+    ap {B = List Event} (λ r. record { call = c; answer = step H st c .answer } ∷ r) (run-take H i cs (step H st c .after))
 
 pub end-split : (H : Hall) (n k : ℕ) (cs : List Call) (st : State) → end H st (take (n + k) cs) ≡ end H (end H st (take n cs)) (take k (drop n cs))
 end-split H zero k cs st = let e : 0 + k ≡ k = omega arith in ap (λ (m : ℕ). end H st (take m cs)) e
@@ -28,7 +30,8 @@ end-split H (suc n) k [] st = nil (suc n + k) k
     nil zero (suc j) = refl
     nil (suc m) zero = refl
     nil (suc m) (suc j) = refl
-end-split H (suc n) k (c ∷ cs) st = let e : suc n + k ≡ suc (n + k) = omega arith in ap (λ (m : ℕ). end H st (take m (c ∷ cs))) e ∙ end-split H n k cs (step H st c .after)
+end-split H (suc n) k (c ∷ cs) st =
+    let e : suc n + k ≡ suc (n + k) = omega arith in ap (λ (m : ℕ). end H st (take m (c ∷ cs))) e ∙ end-split H n k cs (step H st c .after)
 
 pub count-split : (test : Deed → Bool) (d : ℕ) (H : Hall) (n k : ℕ) (cs : List Call) (st : State)
     → howMany test (deedsOf d (run H st (take (n + k) cs))) ≡ howMany test (deedsOf d (run H st (take n cs))) + howMany test (deedsOf d (run H (end H st (take n cs)) (take k (drop n cs))))
@@ -45,10 +48,12 @@ count-split test d H (suc n) k (c ∷ cs) st =
     ap (λ (m : ℕ). howMany test (deedsOf d (run H st (take m (c ∷ cs))))) e ∙ omega (arith, count-split test d H n k cs (step H st c .after))
 
 -- the deeds after the first n
-pub deeds-split : (H : Hall) (n : ℕ) (cs : List Call) (st : State) (i : ℕ) → deedAt (run H st cs) (n + i) ≡ deedAt (run H (end H st (take n cs)) (drop n cs)) i
+pub deeds-split : (H : Hall) (n : ℕ) (cs : List Call) (st : State) (i : ℕ)
+    → deedAt (run H st cs) (n + i) ≡ deedAt (run H (end H st (take n cs)) (drop n cs)) i
 deeds-split H zero cs st i = let e : 0 + i ≡ i = omega arith in ap (deedAt (run H st cs)) e
 deeds-split H (suc n) [] st i = refl
-deeds-split H (suc n) (c ∷ cs) st i = let e : suc n + i ≡ suc (n + i) = omega arith in ap (deedAt (run H st (c ∷ cs))) e ∙ deeds-split H n cs (step H st c .after) i
+deeds-split H (suc n) (c ∷ cs) st i =
+    let e : suc n + i ≡ suc (n + i) = omega arith in ap (deedAt (run H st (c ∷ cs))) e ∙ deeds-split H n cs (step H st c .after) i
 
 -- past the end nothing is done
 pub deeds-past : (H : Hall) (cs : List Call) (st : State) (a : ℕ) → length cs ≤ a → deedAt (run H st cs) a ≡ nothing
@@ -78,7 +83,8 @@ module _ (H : Hall) (d : ℕ) (outside : (1 ≤ d) × (d ≤ H .desks) → ⊥) 
   outsider (handsBack by v) r = others by (handsBack by v) (r .0) (r .1) (eqb by d) refl
   outsider nothing r = refl
 
-  pub outsider-counts : (test : Deed → Bool) → test nothing ≡ false → (cs : List Call) (st : State) → Formed H st → howMany test (deedsOf d (run H st cs)) ≡ 0
+  pub outsider-counts : (test : Deed → Bool) → test nothing ≡ false → (cs : List Call) (st : State) → Formed H st
+      → howMany test (deedsOf d (run H st cs)) ≡ 0
   outsider-counts test none [] st formed = refl
   outsider-counts test none (c ∷ cs) st formed =
       omega (
@@ -106,7 +112,8 @@ range-not-zero H d D r = go (own-cases d D)
     go (othersDeed e) = (ap (isRetirementOf 0) e, ap (isHandBackOf 0) e)
     go (ownDeed e) = (ap (isRetirementOf 0) e ∙ plain D r .0, ap (isHandBackOf 0) e ∙ plain D r .1)
 
-pub no-session-zero : (H : Hall) (cs : List Call) (st : State) → Formed H st → (d : ℕ) → (retirementsOf d 0 (run H st cs) ≡ 0) × (handBacksOf d 0 (run H st cs) ≡ 0)
+pub no-session-zero : (H : Hall) (cs : List Call) (st : State) → Formed H st → (d : ℕ)
+    → (retirementsOf d 0 (run H st cs) ≡ 0) × (handBacksOf d 0 (run H st cs) ≡ 0)
 no-session-zero H [] st formed d = (refl, refl)
 no-session-zero H (c ∷ cs) st formed d =
     let n = range-not-zero H d (deedAt (run H st (c ∷ cs)) 0) (range-step H st formed c) in

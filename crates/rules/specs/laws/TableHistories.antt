@@ -9,9 +9,11 @@ use lib.ListN.{length, take, drop, replicate}
 use lib.Seq.{take-at}
 use Rattle.rules.specs.Demands.{BackWithin, Demand2, Demand3, countsOfDesk, exactBound, listOfDesk}
 use Rattle.rules.specs.Hall.{Desk, Hall, allScreens, deskOf, fresh, usedPlaces}
-use Rattle.rules.specs.History.{copies, handBacks, handBacksOf, isHandBack, isHandBackOf, isRetirement, isRetirementOf, retirements, retirementsOf}
+use Rattle.rules.specs.History.{copies, handBacks, handBacksOf, isHandBack, isHandBackOf, isRetirement, isRetirementOf, retirements}
+use Rattle.rules.specs.History.{retirementsOf}
 use Rattle.rules.specs.Steps.{Call, Event, end, firstNo, inRange, run}
-use Rattle.rules.specs.Table.{encode, encodeDesk, endTable, listIn, listOf, need, openIf, openQuestions, openTable, openedTable, recordOf, runTable, usedIn}
+use Rattle.rules.specs.Table.{encode, encodeDesk, endTable, listIn, listOf, need, openIf, openQuestions, openTable, openedTable, recordOf}
+use Rattle.rules.specs.Table.{runTable, usedIn}
 use Rattle.rules.specs.laws.Collect.{copiesOn}
 use Rattle.rules.specs.laws.Demand3.{back-in-time, list-bound, never-lacks-room, on-list, three-is-enough}
 use Rattle.rules.specs.laws.Effect.{in-range, out-of-range}
@@ -24,11 +26,13 @@ use Rattle.rules.specs.laws.Splits.{no-session-zero, outsider-counts, ru
 use Rattle.rules.specs.laws.Tables.{Opens, Valid, desk-record, fresh-valid, is-end, is-open, is-run, some-screens, valid-end}
 
 -- ---- What an accepted opening says of its hall.
-pub opening-asks : (H : Hall) (t : List ℕ) → openTable H t .answer .number ≡ 0 → (firstNo (openQuestions H t) ≡ 0) × (openTable H t .after ≡ openedTable H t)
+pub opening-asks : (H : Hall) (t : List ℕ) → openTable H t .answer .number ≡ 0
+    → (firstNo (openQuestions H t) ≡ 0) × (openTable H t .after ≡ openedTable H t)
 unfolding openTable
 opening-asks H t ok = go (firstNo (openQuestions H t)) refl ok
   where
-    go : (n : ℕ) → firstNo (openQuestions H t) ≡ n → openIf n H t .answer .number ≡ 0 → (firstNo (openQuestions H t) ≡ 0) × (openIf n H t .after ≡ openedTable H t)
+    go : (n : ℕ) → firstNo (openQuestions H t) ≡ n → openIf n H t .answer .number ≡ 0
+        → (firstNo (openQuestions H t) ≡ 0) × (openIf n H t .after ≡ openedTable H t)
     go zero e z = (e, refl)
     go (suc n) e z = absurd (omega arith)
 
@@ -55,10 +59,13 @@ module _ (H : Hall) (ok : Opens H) (t : List ℕ) (cs : List Call) where
   valid i = valid-end H ok (take i cs) (fresh H) (fresh-valid H ok)
 
   -- the record of desk d after the first i calls
-  record-after : (i d : ℕ) → (1 ≤ d) × (d ≤ H .desks) → recordOf H (endTable (openedTable H t) (take i cs)) d ≡ encodeDesk (allScreens H) (deskOf (end H (fresh H) (take i cs)) d)
-  record-after i d r = ap (λ (l : List ℕ). recordOf H l d) (end-is i) ∙ desk-record H ok (end H (fresh H) (take i cs)) (valid i) (drop (need H) t) d (r .0) (r .1)
+  record-after : (i d : ℕ) → (1 ≤ d) × (d ≤ H .desks)
+      → recordOf H (endTable (openedTable H t) (take i cs)) d ≡ encodeDesk (allScreens H) (deskOf (end H (fresh H) (take i cs)) d)
+  record-after i d r =
+      ap (λ (l : List ℕ). recordOf H l d) (end-is i) ∙ desk-record H ok (end H (fresh H) (take i cs)) (valid i) (drop (need H) t) d (r .0) (r .1)
 
-  counts-after : (d i : ℕ) → retirements d (take i (run H (fresh H) cs)) ≡ handBacks d (take i (run H (fresh H) cs)) + countsOfDesk H (endTable (openedTable H t) (take i cs)) d
+  counts-after : (d i : ℕ)
+      → retirements d (take i (run H (fresh H) cs)) ≡ handBacks d (take i (run H (fresh H) cs)) + countsOfDesk H (endTable (openedTable H t) (take i cs)) d
   counts-after d i = rw (run-take H i cs (fresh H)) (go (inRange d (H .desks)) refl)
     where
       go : (b : Bool) → inRange d (H .desks) ≡ b
@@ -66,17 +73,22 @@ module _ (H : Hall) (ok : Opens H) (t : List ℕ) (cs : List Call) where
       go true q =
           let r = in-range d (H .desks) q in
           on-list H some (take i cs) d (r .0)
-          ∙ ap (λ (n : ℕ). handBacks d (run H (fresh H) (take i cs)) + n) (sym (ap usedIn (record-after i d r) ∙ counts-encoded (allScreens H) (deskOf (end H (fresh H) (take i cs)) d)))
-      go false q = omega (arith, outsider-counts H d (out-of-range d (H .desks) q) isRetirement refl (take i cs) (fresh H) (fresh-formed H), outsider-counts H d (out-of-range d (H .desks) q) isHandBack refl (take i cs) (fresh H) (fresh-formed H))
+          ∙ ap (λ (n : ℕ). handBacks d (run H (fresh H) (take i cs)) + n)
+          (sym (ap usedIn (record-after i d r) ∙ counts-encoded (allScreens H) (deskOf (end H (fresh H) (take i cs)) d)))
+      go false q =
+          omega
+          (arith, outsider-counts H d (out-of-range d (H .desks) q) isRetirement refl (take i cs) (fresh H) (fresh-formed H), outsider-counts H d (out-of-range d (H .desks) q) isHandBack refl (take i cs) (fresh H) (fresh-formed H))
 
   list-after : (d i : ℕ) → retirements d (take i (run H (fresh H) cs)) ≤ handBacks d (take i (run H (fresh H) cs)) + 2 * allScreens H
   list-after d i = rw (run-take H i cs (fresh H)) (go (inRange d (H .desks)) refl)
     where
-      go : (b : Bool) → inRange d (H .desks) ≡ b → retirements d (run H (fresh H) (take i cs)) ≤ handBacks d (run H (fresh H) (take i cs)) + 2 * allScreens H
+      go : (b : Bool) → inRange d (H .desks) ≡ b
+          → retirements d (run H (fresh H) (take i cs)) ≤ handBacks d (run H (fresh H) (take i cs)) + 2 * allScreens H
       go true q = list-bound H some (take i cs) d (in-range d (H .desks) q .0)
       go false q = omega (arith, outsider-counts H d (out-of-range d (H .desks) q) isRetirement refl (take i cs) (fresh H) (fresh-formed H))
 
-  copies-after : (d s i : ℕ) → retirementsOf d s (take i (run H (fresh H) cs)) ≡ handBacksOf d s (take i (run H (fresh H) cs)) + copies s (listOfDesk H (endTable (openedTable H t) (take i cs)) d)
+  copies-after : (d s i : ℕ)
+      → retirementsOf d s (take i (run H (fresh H) cs)) ≡ handBacksOf d s (take i (run H (fresh H) cs)) + copies s (listOfDesk H (endTable (openedTable H t) (take i cs)) d)
   copies-after d s i = rw (run-take H i cs (fresh H)) (go (inRange d (H .desks)) refl (ℕ-discrete s 0))
     where
       listed : (1 ≤ d) × (d ≤ H .desks)
@@ -98,7 +110,9 @@ module _ (H : Hall) (ok : Opens H) (t : List ℕ) (cs : List Call) where
           let r = in-range d (H .desks) q in
           let c = copies-run H d some (r .0) s z (take i cs) (fresh H) (fresh-formed H) (fresh-sound H d) in
           omega (arith, listed r, fresh-copies H d s)
-      go false q z = omega (arith, outsider-counts H d (out-of-range d (H .desks) q) (isRetirementOf s) refl (take i cs) (fresh H) (fresh-formed H), outsider-counts H d (out-of-range d (H .desks) q) (isHandBackOf s) refl (take i cs) (fresh H) (fresh-formed H))
+      go false q z =
+          omega
+          (arith, outsider-counts H d (out-of-range d (H .desks) q) (isRetirementOf s) refl (take i cs) (fresh H) (fresh-formed H), outsider-counts H d (out-of-range d (H .desks) q) (isHandBackOf s) refl (take i cs) (fresh H) (fresh-formed H))
 
   pub demand2-opened : Demand2 H (runTable (openedTable H t) cs) (λ i. endTable (openedTable H t) (take i cs))
   demand2-opened =

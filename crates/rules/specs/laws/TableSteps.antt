@@ -11,7 +11,9 @@ use lib.Dec.{leb, eqb, eqb·suc-zero}
 use borrow.Author.Tests.{leb-true}
 use Rattle.rules.specs.Hall.{Desk, Hall, allScreens, deskOf, emptyDesk, screenIndex}
 use Rattle.rules.specs.Steps.{Call, decide, firstNo, inRange, perform, questions}
-use Rattle.rules.specs.Table.{TableDone, decode, decodeDesk, everyRecord, hallIn, need, openIf, openQuestions, openTable, openedTable, pieces, positionWord, recordOf, recordSound, recordStart, recordWidth, recordsIn, screenWord, sound, stepIf, stepTable, written}
+use Rattle.rules.specs.Table.{TableDone, decode, decodeDesk, everyRecord, hallIn, need, openIf, openQuestions, openTable, openedTable, pieces}
+use Rattle.rules.specs.Table.{positionWord, recordOf, recordSound, recordStart, recordWidth, recordsIn, screenWord, sound, stepIf, stepTable}
+use Rattle.rules.specs.Table.{written}
 use Rattle.rules.specs.laws.Decoding.{and-1, and-2}
 use Rattle.rules.specs.laws.Effect.{in-range}
 use Rattle.rules.specs.laws.ScreenIndex.{screen-in}
@@ -32,17 +34,23 @@ unfolding stepTable
 unsound-step t c e = ap (λ (b : Bool). stepIf b t c) e
 
 told-by : List ℕ → Call → ℕ → TableDone
-told-by t c n = let r = decide n (decode (hallIn t) t) (perform (hallIn t) (decode (hallIn t) t) c) in record { answer = r .answer; after = cond (eqb (r .answer .number) 0) (written t c) t }
+told-by t c n =
+    let r = decide n (decode (hallIn t) t) (perform (hallIn t) (decode (hallIn t) t) c) in
+    record { answer = r .answer; after = cond (eqb (r .answer .number) 0) (written t c) t }
 
 sound-step : (t : List ℕ) (c : Call) → sound t ≡ true → stepTable t c ≡ told-by t c (asked t c)
 unfolding stepTable told-by
 sound-step t c e = ap (λ (b : Bool). stepIf b t c) e
 
-pub refused-step : (t : List ℕ) (c : Call) (n : ℕ) → sound t ≡ true → asked t c ≡ suc n → stepTable t c ≡ record { answer = record { number = suc n; session = 0 }; after = t }
+pub refused-step : (t : List ℕ) (c : Call) (n : ℕ) → sound t ≡ true → asked t c ≡ suc n
+    → stepTable t c ≡ record { answer = record { number = suc n; session = 0 }; after = t }
 unfolding told-by
-refused-step t c n e q = sound-step t c e ∙ ap (told-by t c) q ∙ (λ i. record { answer = record { number = suc n; session = 0 }; after = cond (eqb·suc-zero n i) (written t c) t })
+refused-step t c n e q =
+    sound-step t c e ∙ ap (told-by t c) q
+    ∙ (λ i. record { answer = record { number = suc n; session = 0 }; after = cond (eqb·suc-zero n i) (written t c) t })
 
-pub accepted-step : (t : List ℕ) (c : Call) → sound t ≡ true → asked t c ≡ 0 → stepTable t c ≡ record { answer = record { number = 0; session = perform (hallIn t) (decode (hallIn t) t) c .session }; after = written t c }
+pub accepted-step : (t : List ℕ) (c : Call) → sound t ≡ true → asked t c ≡ 0
+    → stepTable t c ≡ record { answer = record { number = 0; session = perform (hallIn t) (decode (hallIn t) t) c .session }; after = written t c }
 unfolding told-by
 accepted-step t c e q = sound-step t c e ∙ ap (told-by t c) q
 
@@ -96,21 +104,27 @@ records-at (suc n) w x (suc i) h = records-at n w (drop w x) i (omega arith) ∙
 
 pub all-at : (f : List ℕ → Bool) (n w : ℕ) (x : List ℕ) (i : ℕ) → i < n → everyRecord f (pieces n w x) ≡ true → f (take w (drop (i * w) x)) ≡ true
 all-at f zero w x i h q = absurd (omega arith)
-all-at f (suc n) w x zero h q = let e : 0 * w ≡ 0 = omega arith in ap (λ (k : ℕ). f (take w (drop k x))) e ∙ and-1 (f (take w x)) (everyRecord f (pieces n w (drop w x))) q
-all-at f (suc n) w x (suc i) h q = ap (λ (y : List ℕ). f (take w y)) (sym (row-at n w i x)) ∙ all-at f n w (drop w x) i (omega arith) (and-2 (f (take w x)) (everyRecord f (pieces n w (drop w x))) q)
+all-at f (suc n) w x zero h q =
+    let e : 0 * w ≡ 0 = omega arith in ap (λ (k : ℕ). f (take w (drop k x))) e ∙ and-1 (f (take w x)) (everyRecord f (pieces n w (drop w x))) q
+all-at f (suc n) w x (suc i) h q =
+    ap (λ (y : List ℕ). f (take w y)) (sym (row-at n w i x))
+    ∙ all-at f n w (drop w x) i (omega arith) (and-2 (f (take w x)) (everyRecord f (pieces n w (drop w x))) q)
 
 -- record d, from 1, as it stands in the table
-record-part : (t : List ℕ) (d : ℕ) → drop ((d - 1) * recordWidth (hallIn t)) (drop (allScreens (hallIn t)) (drop (hallIn t .positions) (drop 3 t))) ≡ drop (recordStart (hallIn t) d) t
+record-part : (t : List ℕ) (d : ℕ)
+    → drop ((d - 1) * recordWidth (hallIn t)) (drop (allScreens (hallIn t)) (drop (hallIn t .positions) (drop 3 t))) ≡ drop (recordStart (hallIn t) d) t
 record-part t d =
     let H : Hall = hallIn t in
     let k : ℕ = (d - 1) * recordWidth H in
     let e : 3 + (H .positions + (allScreens H + k)) ≡ recordStart H d = omega arith in
-    drop-drop k (allScreens H) (drop (H .positions) (drop 3 t)) ∙ drop-drop (allScreens H + k) (H .positions) (drop 3 t) ∙ drop-drop (H .positions + (allScreens H + k)) 3 t ∙ ap (λ (j : ℕ). drop j t) e
+    drop-drop k (allScreens H) (drop (H .positions) (drop 3 t)) ∙ drop-drop (allScreens H + k) (H .positions) (drop 3 t)
+    ∙ drop-drop (H .positions + (allScreens H + k)) 3 t ∙ ap (λ (j : ℕ). drop j t) e
 
 pub record-sound : (t : List ℕ) (d : ℕ) → Known t → 1 ≤ d → d ≤ hallIn t .desks → recordSound (allScreens (hallIn t)) (recordOf (hallIn t) t d) ≡ true
 record-sound t d k h g =
     ap (λ (y : List ℕ). recordSound (allScreens (hallIn t)) (take (recordWidth (hallIn t)) y)) (sym (record-part t d))
-    ∙ all-at (recordSound (allScreens (hallIn t))) (hallIn t .desks) (recordWidth (hallIn t)) (drop (allScreens (hallIn t)) (drop (hallIn t .positions) (drop 3 t))) (d - 1) (omega arith) (k .records)
+    ∙ all-at (recordSound (allScreens (hallIn t))) (hallIn t .desks) (recordWidth (hallIn t))
+    (drop (allScreens (hallIn t)) (drop (hallIn t .positions) (drop 3 t))) (d - 1) (omega arith) (k .records)
 
 -- ---- what the words say of the state
 pub held-word : (t : List ℕ) (p : ℕ) → 1 ≤ p → p ≤ hallIn t .positions → getD (decode (hallIn t) t .held) (p - 1) 0 ≡ getD t (positionWord p) 0
@@ -120,9 +134,11 @@ pub shown-at : (t : List ℕ) (i : ℕ) → i < allScreens (hallIn t) → getD (
 shown-at t i h =
     let H : Hall = hallIn t in
     let e : 3 + (H .positions + i) ≡ 3 + H .positions + i = omega arith in
-    getD-take (allScreens H) (drop (H .positions) (drop 3 t)) i 0 h ∙ getD-drop (H .positions) (drop 3 t) i 0 ∙ getD-drop 3 t (H .positions + i) 0 ∙ ap (λ (k : ℕ). getD t k 0) e
+    getD-take (allScreens H) (drop (H .positions) (drop 3 t)) i 0 h ∙ getD-drop (H .positions) (drop 3 t) i 0 ∙ getD-drop 3 t (H .positions + i) 0
+    ∙ ap (λ (k : ℕ). getD t k 0) e
 
-pub shown-word : (t : List ℕ) (d c : ℕ) → 1 ≤ d → d ≤ hallIn t .desks → 1 ≤ c → c ≤ hallIn t .screens → getD (decode (hallIn t) t .shown) (screenIndex (hallIn t) d c) 0 ≡ getD t (screenWord (hallIn t) d c) 0
+pub shown-word : (t : List ℕ) (d c : ℕ) → 1 ≤ d → d ≤ hallIn t .desks → 1 ≤ c → c ≤ hallIn t .screens
+    → getD (decode (hallIn t) t .shown) (screenIndex (hallIn t) d c) 0 ≡ getD t (screenWord (hallIn t) d c) 0
 shown-word t d c h1 h2 h3 h4 = shown-at t (screenIndex (hallIn t) d c) (screen-in (hallIn t) d c h1 h2 h3 h4)
 
 pub desk-word : (t : List ℕ) (d : ℕ) → 1 ≤ d → d ≤ hallIn t .desks → deskOf (decode (hallIn t) t) d ≡ decodeDesk (recordOf (hallIn t) t d)
@@ -135,13 +151,16 @@ unfolding decodeDesk
 owed-word t d h g =
     let a : ℕ = recordStart (hallIn t) d in
     let e : a + 0 ≡ a = omega arith in
-    ap (λ (D : Desk). D .owed) (desk-word t d h g) ∙ getD-take (recordWidth (hallIn t)) (drop a t) 0 0 (omega arith) ∙ getD-drop a t 0 0 ∙ ap (λ (k : ℕ). getD t k 0) e
+    ap (λ (D : Desk). D .owed) (desk-word t d h g) ∙ getD-take (recordWidth (hallIn t)) (drop a t) 0 0 (omega arith) ∙ getD-drop a t 0 0
+    ∙ ap (λ (k : ℕ). getD t k 0) e
 
 -- ---- the opening
-pub refused-open : (H : Hall) (t : List ℕ) (n : ℕ) → firstNo (openQuestions H t) ≡ suc n → openTable H t ≡ record { answer = record { number = suc n; session = 0 }; after = t }
+pub refused-open : (H : Hall) (t : List ℕ) (n : ℕ) → firstNo (openQuestions H t) ≡ suc n
+    → openTable H t ≡ record { answer = record { number = suc n; session = 0 }; after = t }
 unfolding openTable
 refused-open H t n q = ap (λ (m : ℕ). openIf m H t) q
 
-pub accepted-open : (H : Hall) (t : List ℕ) → firstNo (openQuestions H t) ≡ 0 → openTable H t ≡ record { answer = record { number = 0; session = 0 }; after = openedTable H t }
+pub accepted-open : (H : Hall) (t : List ℕ) → firstNo (openQuestions H t) ≡ 0
+    → openTable H t ≡ record { answer = record { number = 0; session = 0 }; after = openedTable H t }
 unfolding openTable
 accepted-open H t q = ap (λ (m : ℕ). openIf m H t) q

@@ -9,9 +9,13 @@ use lib.ListN.{length, getD, take, drop, set, replicate, length-append, length-r
 use lib.Seq.{take-at, drop-at}
 use lib.Dec.{leb, ltb, eqb, eqb·suc-zero}
 use borrow.Author.Tests.{le-leb, eqb-false, ltb-true, not-true, leb-true}
-use Rattle.rules.specs.Hall.{Desk, Hall, State, allScreens, deskOf, emptyDesk, fresh, mostDesks, mostPositions, mostScreens, screenIndex, usedPlaces, withDesk, withHeld, withShown}
-use Rattle.rules.specs.Steps.{Call, Collect, Drop, Event, Retire, Swap, Take, collect, decide, end, firstNo, inRange, owe, perform, questions, retire, run, step}
-use Rattle.rules.specs.Table.{TableDone, decode, decodeDesk, encode, encodeDesk, endTable, everyRecord, joined, listOf, need, openQuestions, openedTable, pieces, positionWord, putRecord, recordOf, recordSound, recordStart, recordWidth, recordsIn, runTable, screenWord, sound, stepIf, stepTable, written}
+use Rattle.rules.specs.Hall.{Desk, Hall, State, allScreens, deskOf, emptyDesk, fresh, mostDesks, mostPositions, mostScreens, screenIndex}
+use Rattle.rules.specs.Hall.{usedPlaces, withDesk, withHeld, withShown}
+use Rattle.rules.specs.Steps.{Call, Collect, Drop, Event, Retire, Swap, Take, collect, decide, end, firstNo, inRange, owe, perform, questions}
+use Rattle.rules.specs.Steps.{retire, run, step}
+use Rattle.rules.specs.Table.{TableDone, decode, decodeDesk, encode, encodeDesk, endTable, everyRecord, joined, listOf, need, openQuestions}
+use Rattle.rules.specs.Table.{openedTable, pieces, positionWord, putRecord, recordOf, recordSound, recordStart, recordWidth, recordsIn}
+use Rattle.rules.specs.Table.{runTable, screenWord, sound, stepIf, stepTable, written}
 use Rattle.rules.specs.laws.Effect.{Formed, formed-step, in-range, yes3}
 use Rattle.rules.specs.laws.Encoding.{desk-read-back}
 use Rattle.rules.specs.laws.Links.{holds}
@@ -59,7 +63,11 @@ module _ (H : Hall) (opens : Opens H) where
   most = mul-le-mul (opens .desks .1) (opens .screens .1)
 
   pub valid-step : (st : State) (c : Call) → Valid H st → Valid H (step H st c .after)
-  valid-step st c v = record { formed = formed-step H st 1 (v .formed) (omega arith) c; held = lh (firstNo (questions H st c)) c; desks = go (firstNo (questions H st c)) c refl }
+  valid-step st c v = record {
+    formed = formed-step H st 1 (v .formed) (omega arith) c;
+    held = lh (firstNo (questions H st c)) c;
+    desks = go (firstNo (questions H st c)) c refl;
+  }
     where
       P : Desk → Type 0
       P = Sound (allScreens H)
@@ -78,19 +86,27 @@ module _ (H : Hall) (opens : Opens H) where
       go : (n : ℕ) (c : Call) → firstNo (questions H st c) ≡ n → All (Sound (allScreens H)) (decide n st (perform H st c) .after .desks)
       go zero (Take x s p) e = v .desks
       go zero (Drop x s) e = v .desks
-      go zero (Swap x p w) e = all-set (Sound (allScreens H)) (st .desks) (x - 1) _ (sound-owe (allScreens H) (getD (st .held) (p - 1) 0) (deskOf st x) (at x)) (v .desks)
+      go zero (Swap x p w) e =
+          all-set (Sound (allScreens H)) (st .desks) (x - 1) _ (sound-owe (allScreens H) (getD (st .held) (p - 1) 0) (deskOf st x) (at x)) (v .desks)
       go zero (Retire x) e =
           let y = yes3 (inRange x (H .desks)) (not (eqb (deskOf st x .owed) 0)) (ltb (usedPlaces (deskOf st x)) (2 * allScreens H)) e in
-          all-set (Sound (allScreens H)) (st .desks) (x - 1) (retire (deskOf st x)) (retire-sound (allScreens H) (deskOf st x) (eqb-false (deskOf st x .owed) 0 (not-true (eqb (deskOf st x .owed) 0) (y .1))) (ltb-true (usedPlaces (deskOf st x)) (2 * allScreens H) (y .2)) (at x)) (v .desks)
-      go zero (Collect x) e = all-set (Sound (allScreens H)) (st .desks) (x - 1) (collect (allScreens H) (st .shown) (deskOf st x) .after) (collect-sound (allScreens H) (st .shown) (deskOf st x) some-screens (v .formed .screens) (at x)) (v .desks)
+          all-set (Sound (allScreens H)) (st .desks) (x - 1) (retire (deskOf st x))
+          (retire-sound (allScreens H) (deskOf st x) (eqb-false (deskOf st x .owed) 0 (not-true (eqb (deskOf st x .owed) 0) (y .1))) (ltb-true (usedPlaces (deskOf st x)) (2 * allScreens H) (y .2)) (at x))
+          (v .desks)
+      go zero (Collect x) e =
+          all-set (Sound (allScreens H)) (st .desks) (x - 1) (collect (allScreens H) (st .shown) (deskOf st x) .after)
+          (collect-sound (allScreens H) (st .shown) (deskOf st x) some-screens (v .formed .screens) (at x)) (v .desks)
       go (suc n) c e = v .desks
 
   pub length-encoded : (D : Desk) → Sound (allScreens H) D → length (encodeDesk (allScreens H) D) ≡ recordWidth H
   unfolding encodeDesk
-  length-encoded D s = omega (arith, s .total, length-list D, length-append (listOf D) (replicate (2 * allScreens H - length (listOf D)) 0), length-replicate {A = ℕ} (2 * allScreens H - length (listOf D)) 0)
+  length-encoded D s =
+      omega
+      (arith, s .total, length-list D, length-append (listOf D) (replicate (2 * allScreens H - length (listOf D)) 0), length-replicate {A = ℕ} (2 * allScreens H - length (listOf D)) 0)
 
   -- the records, one after the other
-  records-flat : (ds : List Desk) (rest : List ℕ) → All (Sound (allScreens H)) ds → pieces (length ds) (recordWidth H) (joined (map (encodeDesk (allScreens H)) ds) ++ rest) ≡ map (encodeDesk (allScreens H)) ds
+  records-flat : (ds : List Desk) (rest : List ℕ) → All (Sound (allScreens H)) ds
+      → pieces (length ds) (recordWidth H) (joined (map (encodeDesk (allScreens H)) ds) ++ rest) ≡ map (encodeDesk (allScreens H)) ds
   records-flat [] rest h = refl
   records-flat (D ∷ ds) rest h =
       let q = append-assoc (encodeDesk (allScreens H) D) (joined (map (encodeDesk (allScreens H)) ds)) rest in
@@ -98,7 +114,9 @@ module _ (H : Hall) (opens : Opens H) where
 
   length-flat : (ds : List Desk) → All (Sound (allScreens H)) ds → length (joined (map (encodeDesk (allScreens H)) ds)) ≡ length ds * recordWidth H
   length-flat [] h = omega arith
-  length-flat (D ∷ ds) h = omega (arith, length-append (encodeDesk (allScreens H) D) (joined (map (encodeDesk (allScreens H)) ds)), length-encoded D (h .0), length-flat ds (h .1))
+  length-flat (D ∷ ds) h =
+      omega
+      (arith, length-append (encodeDesk (allScreens H) D) (joined (map (encodeDesk (allScreens H)) ds)), length-encoded D (h .0), length-flat ds (h .1))
 
   desks-code : (ds : List Desk) → All (Sound (allScreens H)) ds → map decodeDesk (map (encodeDesk (allScreens H)) ds) ≡ ds
   desks-code [] h = refl
@@ -106,7 +124,10 @@ module _ (H : Hall) (opens : Opens H) where
 
   all-sound : (ds : List Desk) → All (Sound (allScreens H)) ds → everyRecord (recordSound (allScreens H)) (map (encodeDesk (allScreens H)) ds) ≡ true
   all-sound [] h = refl
-  all-sound (D ∷ ds) h = and-true (recordSound (allScreens H) (encodeDesk (allScreens H) D)) (everyRecord (recordSound (allScreens H)) (map (encodeDesk (allScreens H)) ds)) (encoded-sound (allScreens H) D most (h .0)) (all-sound ds (h .1))
+  all-sound (D ∷ ds) h =
+      and-true (recordSound (allScreens H) (encodeDesk (allScreens H) D))
+      (everyRecord (recordSound (allScreens H)) (map (encodeDesk (allScreens H)) ds)) (encoded-sound (allScreens H) D most (h .0))
+      (all-sound ds (h .1))
 
   -- the records before desk i, from 0, its own, and those after it
   record Cut (ds : List Desk) (i : ℕ) : Type 0 where
@@ -120,7 +141,15 @@ module _ (H : Hall) (opens : Opens H) where
 
   cut : (ds : List Desk) (i : ℕ) → All (Sound (allScreens H)) ds → i < length ds → Cut ds i
   cut [] i h l = absurd (omega arith)
-  cut (D ∷ ds) zero h l = record { front = []; back = joined (map (encodeDesk (allScreens H)) ds); starts = omega arith; total = h .0 .total; wide = length-encoded D (h .0); is = refl; put = λ x. refl }
+  cut (D ∷ ds) zero h l = record {
+    front = [];
+    back = joined (map (encodeDesk (allScreens H)) ds);
+    starts = omega arith;
+    total = h .0 .total;
+    wide = length-encoded D (h .0);
+    is = refl;
+    put = λ x. refl;
+  }
   cut (D ∷ ds) (suc i) h l =
       let c = cut ds i (h .1) (omega arith) in
       record {
@@ -129,8 +158,12 @@ module _ (H : Hall) (opens : Opens H) where
         starts = omega (arith, length-append (encodeDesk (allScreens H) D) (c .front), length-encoded D (h .0), c .starts);
         total = c .total;
         wide = c .wide;
-        is = ap (λ (y : List ℕ). encodeDesk (allScreens H) D ++ y) (c .is) ∙ sym (append-assoc (encodeDesk (allScreens H) D) (c .front) (encodeDesk (allScreens H) (getD ds i emptyDesk) ++ c .back));
-        put = λ x. ap (λ (y : List ℕ). encodeDesk (allScreens H) D ++ y) (c .put x) ∙ sym (append-assoc (encodeDesk (allScreens H) D) (c .front) (encodeDesk (allScreens H) x ++ c .back));
+        is =
+            ap (λ (y : List ℕ). encodeDesk (allScreens H) D ++ y) (c .is)
+            ∙ sym (append-assoc (encodeDesk (allScreens H) D) (c .front) (encodeDesk (allScreens H) (getD ds i emptyDesk) ++ c .back));
+        put =
+            λ x. ap (λ (y : List ℕ). encodeDesk (allScreens H) D ++ y) (c .put x)
+            ∙ sym (append-assoc (encodeDesk (allScreens H) D) (c .front) (encodeDesk (allScreens H) x ++ c .back));
       }
 
   module _ (st : State) (v : Valid H st) (rest : List ℕ) where
@@ -138,19 +171,32 @@ module _ (H : Hall) (opens : Opens H) where
     body = (st .held ++ (st .shown ++ joined (map (encodeDesk (allScreens H)) (st .desks)))) ++ rest
 
     past-held : drop (H .positions) ((st .held ++ (st .shown ++ joined (map (encodeDesk (allScreens H)) (st .desks)))) ++ rest) ≡ st .shown ++ (joined (map (encodeDesk (allScreens H)) (st .desks)) ++ rest)
-    past-held = ap (drop (H .positions)) (append-assoc (st .held) (st .shown ++ joined (map (encodeDesk (allScreens H)) (st .desks))) rest) ∙ drop-at (st .held) ((st .shown ++ joined (map (encodeDesk (allScreens H)) (st .desks))) ++ rest) (H .positions) (v .held) ∙ append-assoc (st .shown) (joined (map (encodeDesk (allScreens H)) (st .desks))) rest
+    past-held =
+        ap (drop (H .positions)) (append-assoc (st .held) (st .shown ++ joined (map (encodeDesk (allScreens H)) (st .desks))) rest)
+        ∙ drop-at (st .held) ((st .shown ++ joined (map (encodeDesk (allScreens H)) (st .desks))) ++ rest) (H .positions) (v .held)
+        ∙ append-assoc (st .shown) (joined (map (encodeDesk (allScreens H)) (st .desks))) rest
 
     is-held : take (H .positions) ((st .held ++ (st .shown ++ joined (map (encodeDesk (allScreens H)) (st .desks)))) ++ rest) ≡ st .held
-    is-held = ap (take (H .positions)) (append-assoc (st .held) (st .shown ++ joined (map (encodeDesk (allScreens H)) (st .desks))) rest) ∙ take-at (st .held) ((st .shown ++ joined (map (encodeDesk (allScreens H)) (st .desks))) ++ rest) (H .positions) (v .held)
+    is-held =
+        ap (take (H .positions)) (append-assoc (st .held) (st .shown ++ joined (map (encodeDesk (allScreens H)) (st .desks))) rest)
+        ∙ take-at (st .held) ((st .shown ++ joined (map (encodeDesk (allScreens H)) (st .desks))) ++ rest) (H .positions) (v .held)
 
     pub is-records : recordsIn H (encode H st ++ rest) ≡ map (encodeDesk (allScreens H)) (st .desks)
-    is-records = ap (λ (l : List ℕ). pieces (H .desks) (recordWidth H) (drop (allScreens H) l)) past-held ∙ ap (pieces (H .desks) (recordWidth H)) (drop-at (st .shown) (joined (map (encodeDesk (allScreens H)) (st .desks)) ++ rest) (allScreens H) (v .formed .screens)) ∙ ap (λ (n : ℕ). pieces n (recordWidth H) (joined (map (encodeDesk (allScreens H)) (st .desks)) ++ rest)) (sym (v .formed .desks)) ∙ records-flat (st .desks) rest (v .desks)
+    is-records =
+        ap (λ (l : List ℕ). pieces (H .desks) (recordWidth H) (drop (allScreens H) l)) past-held
+        ∙ ap (pieces (H .desks) (recordWidth H))
+        (drop-at (st .shown) (joined (map (encodeDesk (allScreens H)) (st .desks)) ++ rest) (allScreens H) (v .formed .screens))
+        ∙ ap (λ (n : ℕ). pieces n (recordWidth H) (joined (map (encodeDesk (allScreens H)) (st .desks)) ++ rest)) (sym (v .formed .desks))
+        ∙ records-flat (st .desks) rest (v .desks)
 
     pub is-state : decode H (encode H st ++ rest) ≡ st
-    is-state = λ i. record { held = is-held i; shown = (ap (take (allScreens H)) past-held ∙ take-at (st .shown) (joined (map (encodeDesk (allScreens H)) (st .desks)) ++ rest) (allScreens H) (v .formed .screens)) i; desks = (ap (map decodeDesk) is-records ∙ desks-code (st .desks) (v .desks)) i }
+    is-state =
+        λ i. record { held = is-held i; shown = (ap (take (allScreens H)) past-held ∙ take-at (st .shown) (joined (map (encodeDesk (allScreens H)) (st .desks)) ++ rest) (allScreens H) (v .formed .screens)) i; desks = (ap (map decodeDesk) is-records ∙ desks-code (st .desks) (v .desks)) i }
 
     pub length-table : length (encode H st) ≡ need H
-    length-table = omega (arith, length-append (st .held) (st .shown ++ joined (map (encodeDesk (allScreens H)) (st .desks))), length-append (st .shown) (joined (map (encodeDesk (allScreens H)) (st .desks))), length-flat (st .desks) (v .desks), v .held, v .formed .screens, ap (λ (n : ℕ). n * recordWidth H) (v .formed .desks))
+    length-table =
+        omega
+        (arith, length-append (st .held) (st .shown ++ joined (map (encodeDesk (allScreens H)) (st .desks))), length-append (st .shown) (joined (map (encodeDesk (allScreens H)) (st .desks))), length-flat (st .desks) (v .desks), v .held, v .formed .screens, ap (λ (n : ℕ). n * recordWidth H) (v .formed .desks))
 
     range-true : (n m : ℕ) → 1 ≤ n → n ≤ m → inRange n m ≡ true
     range-true n m a b = and-true (leb 1 n) (leb n m) (le-leb 1 n a) (le-leb n m b)
@@ -165,34 +211,51 @@ module _ (H : Hall) (opens : Opens H) where
         (ap (everyRecord (recordSound (allScreens H))) is-records ∙ all-sound (st .desks) (v .desks)))))
 
     -- the table in three parts, with the positions, the screens or one record in the middle
-    as-held : (h s f : List ℕ) → (H .desks ∷ H .screens ∷ H .positions ∷ (h ++ (s ++ f))) ++ rest ≡ (H .desks ∷ H .screens ∷ H .positions ∷ []) ++ (h ++ ((s ++ f) ++ rest))
+    as-held : (h s f : List ℕ)
+        → (H .desks ∷ H .screens ∷ H .positions ∷ (h ++ (s ++ f))) ++ rest ≡ (H .desks ∷ H .screens ∷ H .positions ∷ []) ++ (h ++ ((s ++ f) ++ rest))
     as-held h s f = ap (λ (l : List ℕ). H .desks ∷ H .screens ∷ H .positions ∷ l) (append-assoc h (s ++ f) rest)
 
-    as-shown : (h s f : List ℕ) → (H .desks ∷ H .screens ∷ H .positions ∷ (h ++ (s ++ f))) ++ rest ≡ (H .desks ∷ H .screens ∷ H .positions ∷ h) ++ (s ++ (f ++ rest))
+    as-shown : (h s f : List ℕ)
+        → (H .desks ∷ H .screens ∷ H .positions ∷ (h ++ (s ++ f))) ++ rest ≡ (H .desks ∷ H .screens ∷ H .positions ∷ h) ++ (s ++ (f ++ rest))
     as-shown h s f = as-held h s f ∙ ap (λ (l : List ℕ). H .desks ∷ H .screens ∷ H .positions ∷ (h ++ l)) (append-assoc s f rest)
 
-    as-record : (h s a m b f : List ℕ) → f ≡ a ++ (m ++ b) → (H .desks ∷ H .screens ∷ H .positions ∷ (h ++ (s ++ f))) ++ rest ≡ (H .desks ∷ H .screens ∷ H .positions ∷ (h ++ (s ++ a))) ++ (m ++ (b ++ rest))
-    as-record h s a m b f e = ap (λ (x : List ℕ). (H .desks ∷ H .screens ∷ H .positions ∷ (h ++ (s ++ x))) ++ rest) e ∙ ap (λ (l : List ℕ). H .desks ∷ H .screens ∷ H .positions ∷ l) (simp append-assoc)
+    as-record : (h s a m b f : List ℕ) → f ≡ a ++ (m ++ b)
+        → (H .desks ∷ H .screens ∷ H .positions ∷ (h ++ (s ++ f))) ++ rest ≡ (H .desks ∷ H .screens ∷ H .positions ∷ (h ++ (s ++ a))) ++ (m ++ (b ++ rest))
+    as-record h s a m b f e =
+        ap (λ (x : List ℕ). (H .desks ∷ H .screens ∷ H .positions ∷ (h ++ (s ++ x))) ++ rest) e
+        ∙ ap (λ (l : List ℕ). H .desks ∷ H .screens ∷ H .positions ∷ l) (simp append-assoc)
 
     at-desk : (d m : ℕ) → cond {A = ℕ} (inRange d (H .desks)) m 6 ≡ 0 → Cut (st .desks) (d - 1)
-    at-desk d m e = let i = in-range d (H .desks) (holds (inRange d (H .desks)) m 5 e .0) in cut (st .desks) (d - 1) (v .desks) (omega (arith, v .formed .desks))
+    at-desk d m e =
+        let i = in-range d (H .desks) (holds (inRange d (H .desks)) m 5 e .0) in cut (st .desks) (d - 1) (v .desks) (omega (arith, v .formed .desks))
 
     -- one record replaced
-    put-is : (d : ℕ) (x : Desk) → Cut (st .desks) (d - 1) → putRecord H (encode H st ++ rest) d (encodeDesk (allScreens H) x) ≡ encode H (withDesk st d x) ++ rest
+    put-is : (d : ℕ) (x : Desk) → Cut (st .desks) (d - 1)
+        → putRecord H (encode H st ++ rest) d (encodeDesk (allScreens H) x) ≡ encode H (withDesk st d x) ++ rest
     put-is d x c =
         let a : List ℕ = H .desks ∷ H .screens ∷ H .positions ∷ (st .held ++ (st .shown ++ c .front)) in
-        let n : length a ≡ recordStart H d = omega (arith, length-append (st .held) (st .shown ++ c .front), length-append (st .shown) (c .front), v .held, v .formed .screens, c .starts) in
-        let q = as-record (st .held) (st .shown) (c .front) (encodeDesk (allScreens H) (deskOf st d)) (c .back) (joined (map (encodeDesk (allScreens H)) (st .desks))) (c .is) in
+        let n : length a ≡ recordStart H d =
+        omega
+        (arith, length-append (st .held) (st .shown ++ c .front), length-append (st .shown) (c .front), v .held, v .formed .screens, c .starts) in
+        let q =
+        as-record (st .held) (st .shown) (c .front) (encodeDesk (allScreens H) (deskOf st d)) (c .back)
+        (joined (map (encodeDesk (allScreens H)) (st .desks))) (c .is) in
         ap (λ (t : List ℕ). putRecord H t d (encodeDesk (allScreens H) x)) q
-        ∙ put-mid a (encodeDesk (allScreens H) (deskOf st d)) (c .back ++ rest) (recordStart H d) n (recordWidth H) (encodeDesk (allScreens H) x) (c .wide)
-        ∙ sym (as-record (st .held) (st .shown) (c .front) (encodeDesk (allScreens H) x) (c .back) (joined (map (encodeDesk (allScreens H)) (set (st .desks) (d - 1) x))) (c .put x))
+        ∙ put-mid a (encodeDesk (allScreens H) (deskOf st d)) (c .back ++ rest) (recordStart H d) n (recordWidth H) (encodeDesk (allScreens H) x)
+        (c .wide)
+        ∙ sym
+        (as-record (st .held) (st .shown) (c .front) (encodeDesk (allScreens H) x) (c .back) (joined (map (encodeDesk (allScreens H)) (set (st .desks) (d - 1) x))) (c .put x))
 
     -- one record read
     record-is : (d : ℕ) → Cut (st .desks) (d - 1) → recordOf H (encode H st ++ rest) d ≡ encodeDesk (allScreens H) (deskOf st d)
     record-is d c =
         let a : List ℕ = H .desks ∷ H .screens ∷ H .positions ∷ (st .held ++ (st .shown ++ c .front)) in
-        let n : length a ≡ recordStart H d = omega (arith, length-append (st .held) (st .shown ++ c .front), length-append (st .shown) (c .front), v .held, v .formed .screens, c .starts) in
-        let q = as-record (st .held) (st .shown) (c .front) (encodeDesk (allScreens H) (deskOf st d)) (c .back) (joined (map (encodeDesk (allScreens H)) (st .desks))) (c .is) in
+        let n : length a ≡ recordStart H d =
+        omega
+        (arith, length-append (st .held) (st .shown ++ c .front), length-append (st .shown) (c .front), v .held, v .formed .screens, c .starts) in
+        let q =
+        as-record (st .held) (st .shown) (c .front) (encodeDesk (allScreens H) (deskOf st d)) (c .back)
+        (joined (map (encodeDesk (allScreens H)) (st .desks))) (c .is) in
         ap (λ (t : List ℕ). recordOf H t d) q
         ∙ take-mid a (encodeDesk (allScreens H) (deskOf st d)) (c .back ++ rest) (recordStart H d) n (recordWidth H) (c .wide)
 
@@ -205,7 +268,10 @@ module _ (H : Hall) (opens : Opens H) where
 
     -- a position read, and written; a screen written
     held-is : (p : ℕ) → 1 ≤ p → p ≤ H .positions → getD (encode H st ++ rest) (positionWord p) 0 ≡ getD (st .held) (p - 1) 0
-    held-is p l m = ap (λ (t : List ℕ). getD t (3 + (p - 1)) 0) (as-held (st .held) (st .shown) (joined (map (encodeDesk (allScreens H)) (st .desks)))) ∙ get-mid (H .desks ∷ H .screens ∷ H .positions ∷ []) (st .held) ((st .shown ++ joined (map (encodeDesk (allScreens H)) (st .desks))) ++ rest) 3 refl (p - 1) (omega (arith, v .held))
+    held-is p l m =
+        ap (λ (t : List ℕ). getD t (3 + (p - 1)) 0) (as-held (st .held) (st .shown) (joined (map (encodeDesk (allScreens H)) (st .desks))))
+        ∙ get-mid (H .desks ∷ H .screens ∷ H .positions ∷ []) (st .held)
+        ((st .shown ++ joined (map (encodeDesk (allScreens H)) (st .desks))) ++ rest) 3 refl (p - 1) (omega (arith, v .held))
 
     put-held : (p w : ℕ) → 1 ≤ p → p ≤ H .positions → set (encode H st ++ rest) (positionWord p) w ≡ encode H (withHeld st (p - 1) w) ++ rest
     put-held p w l m =
@@ -214,62 +280,86 @@ module _ (H : Hall) (opens : Opens H) where
         ∙ set-mid (H .desks ∷ H .screens ∷ H .positions ∷ []) (st .held) ((st .shown ++ f) ++ rest) 3 refl (p - 1) w (omega (arith, v .held))
         ∙ sym (as-held (set (st .held) (p - 1) w) (st .shown) f)
 
-    shown-is : (d c w : ℕ) → (1 ≤ d) × (d ≤ H .desks) → (1 ≤ c) × (c ≤ H .screens) → set (encode H st ++ rest) (screenWord H d c) w ≡ encode H (withShown st (screenIndex H d c) w) ++ rest
+    shown-is : (d c w : ℕ) → (1 ≤ d) × (d ≤ H .desks) → (1 ≤ c) × (c ≤ H .screens)
+        → set (encode H st ++ rest) (screenWord H d c) w ≡ encode H (withShown st (screenIndex H d c) w) ++ rest
     shown-is d c w i j =
         let f = joined (map (encodeDesk (allScreens H)) (st .desks)) in
         let n : length (H .desks ∷ H .screens ∷ H .positions ∷ st .held) ≡ 3 + H .positions = omega (arith, v .held) in
         ap (λ (t : List ℕ). set t (screenWord H d c) w) (as-shown (st .held) (st .shown) f)
-        ∙ set-mid (H .desks ∷ H .screens ∷ H .positions ∷ st .held) (st .shown) (f ++ rest) (3 + H .positions) n (screenIndex H d c) w (omega (arith, v .formed .screens, screen-in H d c (i .0) (i .1) (j .0) (j .1)))
+        ∙ set-mid (H .desks ∷ H .screens ∷ H .positions ∷ st .held) (st .shown) (f ++ rest) (3 + H .positions) n (screenIndex H d c) w
+        (omega (arith, v .formed .screens, screen-in H d c (i .0) (i .1) (j .0) (j .1)))
         ∙ sym (as-shown (st .held) (set (st .shown) (screenIndex H d c) w) f)
 
     -- what an accepted call writes is the table of the state after it
-    pub writes-is : (c : Call) → firstNo (questions H st c) ≡ 0 → written (encode H st ++ rest) c ≡ encode H (perform H st c .after) ++ rest
+    pub written-is : (c : Call) → firstNo (questions H st c) ≡ 0 → written (encode H st ++ rest) c ≡ encode H (perform H st c .after) ++ rest
     unfolding encodeDesk
-    writes-is (Take d c p) e =
+    written-is (Take d c p) e =
         let y1 = holds (inRange d (H .desks)) _ 5 e in
         let y2 = holds (inRange c (H .screens)) _ 6 (y1 .1) in
         let ip = in-range p (H .positions) (holds (inRange p (H .positions)) _ 7 (y2 .1) .0) in
-        (λ i. set (encode H st ++ rest) (screenWord H d c) (held-is p (ip .0) (ip .1) i)) ∙ shown-is d c (getD (st .held) (p - 1) 0) (in-range d (H .desks) (y1 .0)) (in-range c (H .screens) (y2 .0))
-    writes-is (Drop d c) e =
+        (λ i. set (encode H st ++ rest) (screenWord H d c) (held-is p (ip .0) (ip .1) i))
+        ∙ shown-is d c (getD (st .held) (p - 1) 0) (in-range d (H .desks) (y1 .0)) (in-range c (H .screens) (y2 .0))
+    written-is (Drop d c) e =
         let y1 = holds (inRange d (H .desks)) _ 5 e in
         let y2 = holds (inRange c (H .screens)) _ 6 (y1 .1) in
         shown-is d c 0 (in-range d (H .desks) (y1 .0)) (in-range c (H .screens) (y2 .0))
-    writes-is (Swap d p w) e =
+    written-is (Swap d p w) e =
         let k = at-desk d _ e in
         let ip = in-range p (H .positions) (holds (inRange p (H .positions)) _ 7 (holds (inRange d (H .desks)) _ 5 e .1) .0) in
         let h : List ℕ = set (st .held) (p - 1) w in
         let o = getD (st .held) (p - 1) 0 in
         let a : List ℕ = H .desks ∷ H .screens ∷ H .positions ∷ (h ++ (st .shown ++ k .front)) in
-        let n : length a ≡ recordStart H d = omega (arith, length-append h (st .shown ++ k .front), length-append (st .shown) (k .front), length-set (st .held) (p - 1) w, v .held, v .formed .screens, k .starts) in
+        let n : length a ≡ recordStart H d =
+        omega
+        (arith, length-append h (st .shown ++ k .front), length-append (st .shown) (k .front), length-set (st .held) (p - 1) w, v .held, v .formed .screens, k .starts) in
         let z : recordStart H d ≡ recordStart H d + 0 = omega arith in
         (λ i. set (put-held p w (ip .0) (ip .1) i) (z i) (held-is p (ip .0) (ip .1) i))
-        ∙ ap (λ (t : List ℕ). set t (recordStart H d + 0) o) (as-record h (st .shown) (k .front) (encodeDesk (allScreens H) (deskOf st d)) (k .back) (joined (map (encodeDesk (allScreens H)) (st .desks))) (k .is))
+        ∙ ap (λ (t : List ℕ). set t (recordStart H d + 0) o)
+        (as-record h (st .shown) (k .front) (encodeDesk (allScreens H) (deskOf st d)) (k .back) (joined (map (encodeDesk (allScreens H)) (st .desks))) (k .is))
         ∙ set-mid a (encodeDesk (allScreens H) (deskOf st d)) (k .back ++ rest) (recordStart H d) n 0 o (omega (arith, k .wide))
-        ∙ sym (as-record h (st .shown) (k .front) (encodeDesk (allScreens H) (owe (deskOf st d) o)) (k .back) (joined (map (encodeDesk (allScreens H)) (set (st .desks) (d - 1) (owe (deskOf st d) o)))) (k .put (owe (deskOf st d) o)))
-    writes-is (Retire d) e = let k = at-desk d _ e in ap (λ (D : Desk). putRecord H (encode H st ++ rest) d (encodeDesk (allScreens H) (retire D))) (got-is d k) ∙ put-is d (retire (deskOf st d)) k
-    writes-is (Collect d) e = let k = at-desk d _ e in (λ i. putRecord H (encode H st ++ rest) d (encodeDesk (allScreens H) (collect (allScreens H) (is-state i .shown) (got-is d k i) .after))) ∙ put-is d (collect (allScreens H) (st .shown) (deskOf st d) .after) k
+        ∙ sym
+        (as-record h (st .shown) (k .front) (encodeDesk (allScreens H) (owe (deskOf st d) o)) (k .back) (joined (map (encodeDesk (allScreens H)) (set (st .desks) (d - 1) (owe (deskOf st d) o)))) (k .put (owe (deskOf st d) o)))
+    written-is (Retire d) e =
+        let k = at-desk d _ e in
+        ap (λ (D : Desk). putRecord H (encode H st ++ rest) d (encodeDesk (allScreens H) (retire D))) (got-is d k) ∙ put-is d (retire (deskOf st d)) k
+    written-is (Collect d) e =
+        let k = at-desk d _ e in
+        (λ i. putRecord H (encode H st ++ rest) d (encodeDesk (allScreens H) (collect (allScreens H) (is-state i .shown) (got-is d k i) .after)))
+        ∙ put-is d (collect (allScreens H) (st .shown) (deskOf st d) .after) k
 
     -- a step on the table is the step of the rules
-    pub is-step : (c : Call) → stepTable (encode H st ++ rest) c ≡ record { answer = step H st c .answer; after = encode H (step H st c .after) ++ rest }
+    pub is-step : (c : Call)
+        → stepTable (encode H st ++ rest) c ≡ record { answer = step H st c .answer; after = encode H (step H st c .after) ++ rest }
     unfolding stepTable
-    is-step c = ap (λ (b : Bool). stepIf b (encode H st ++ rest) c) is-sound ∙ ap (λ (s : State). told s) is-state ∙ go (firstNo (questions H st c)) refl
+    is-step c =
+        ap (λ (b : Bool). stepIf b (encode H st ++ rest) c) is-sound ∙ ap (λ (s : State). told s) is-state ∙ go (firstNo (questions H st c)) refl
       where
         told : State → TableDone
-        told s = let r = step H s c in record { answer = r .answer; after = cond (eqb (r .answer .number) 0) (written (encode H st ++ rest) c) (encode H st ++ rest) }
+        told s =
+            let r = step H s c in
+            record { answer = r .answer; after = cond (eqb (r .answer .number) 0) (written (encode H st ++ rest) c) (encode H st ++ rest) }
 
-        go : (n : ℕ) → firstNo (questions H st c) ≡ n → _≡_ {A = TableDone} (let r = decide n st (perform H st c) in record { answer = r .answer; after = cond (eqb (r .answer .number) 0) (written (encode H st ++ rest) c) (encode H st ++ rest) }) (record { answer = decide n st (perform H st c) .answer; after = encode H (decide n st (perform H st c) .after) ++ rest })
-        go zero e = λ i. record { answer = record { number = 0; session = perform H st c .session }; after = writes-is c e i }
-        go (suc n) e = λ i. record { answer = record { number = suc n; session = 0 }; after = cond (eqb·suc-zero n i) (written (encode H st ++ rest) c) (encode H st ++ rest) }
+        go : (n : ℕ) → firstNo (questions H st c) ≡ n
+            → _≡_ {A = TableDone} (let r = decide n st (perform H st c) in record { answer = r .answer; after = cond (eqb (r .answer .number) 0) (written (encode H st ++ rest) c) (encode H st ++ rest) }) (record { answer = decide n st (perform H st c) .answer; after = encode H (decide n st (perform H st c) .after) ++ rest })
+        go zero e = λ i. record { answer = record { number = 0; session = perform H st c .session }; after = written-is c e i }
+        go (suc n) e =
+            λ i. record { answer = record { number = suc n; session = 0 }; after = cond (eqb·suc-zero n i) (written (encode H st ++ rest) c) (encode H st ++ rest) }
 
   pub is-run : (cs : List Call) (st : State) → Valid H st → (rest : List ℕ) → runTable (encode H st ++ rest) cs ≡ run H st cs
   is-run [] st v rest = refl
-  is-run (c ∷ cs) st v rest = ap (λ (r : TableDone). more r) (is-step st v rest c) ∙ ap {B = List Event} (λ es. record { call = c; answer = step H st c .answer } ∷ es) (is-run cs (step H st c .after) (valid-step st c v) rest)
+  is-run (c ∷ cs) st v rest =
+      ap (λ (r : TableDone). more r) (is-step st v rest c)
+      ∙ ap {B = List Event} (λ es. record { call = c; answer = step H st c .answer } ∷ es) (is-run cs (step H st c .after) (valid-step st c v) rest)
     where
       more : TableDone → List Event
       more r = record { call = c; answer = r .answer } ∷ runTable (r .after) cs
 
   pub fresh-valid : Valid H (fresh H)
-  fresh-valid = record { formed = record { desks = length-replicate (H .desks) emptyDesk; screens = length-replicate (allScreens H) 0 }; held = length-replicate (H .positions) 0; desks = all-replicate (Sound (allScreens H)) (H .desks) emptyDesk (clear-sound (allScreens H)) }
+  fresh-valid = record {
+    formed = record { desks = length-replicate (H .desks) emptyDesk; screens = length-replicate (allScreens H) 0 };
+    held = length-replicate (H .positions) 0;
+    desks = all-replicate (Sound (allScreens H)) (H .desks) emptyDesk (clear-sound (allScreens H));
+  }
 
   alike : (m n : ℕ) → m ≡ n → replicate {A = ℕ} m 0 ≡ replicate n 0
   alike m n e = ap (λ (x : ℕ). replicate {A = ℕ} x 0) e
@@ -280,18 +370,23 @@ module _ (H : Hall) (opens : Opens H) where
 
   flat-clear : (n : ℕ) → joined (map (encodeDesk (allScreens H)) (replicate n emptyDesk)) ≡ replicate (n * recordWidth H) 0
   flat-clear zero = alike 0 (0 * recordWidth H) (omega arith)
-  flat-clear (suc n) = ap₂ {C = List ℕ} (λ x y. x ++ y) code-clear (flat-clear n) ∙ replicate-append-replicate (recordWidth H) (n * recordWidth H) 0 ∙ alike (recordWidth H + n * recordWidth H) (suc n * recordWidth H) (omega arith)
+  flat-clear (suc n) =
+      ap₂ {C = List ℕ} (λ x y. x ++ y) code-clear (flat-clear n) ∙ replicate-append-replicate (recordWidth H) (n * recordWidth H) 0
+      ∙ alike (recordWidth H + n * recordWidth H) (suc n * recordWidth H) (omega arith)
 
   -- the table that an accepted opening leaves is that of the fresh state
   pub is-open : (t : List ℕ) → openedTable H t ≡ encode H (fresh H) ++ drop (need H) t
   is-open t = ap {B = List ℕ} (λ l. H .desks ∷ H .screens ∷ H .positions ∷ (l ++ drop (need H) t)) zeros
     where
       zeros : replicate {A = ℕ} (need H - 3) 0 ≡ replicate (H .positions) 0 ++ (replicate (allScreens H) 0 ++ joined (map (encodeDesk (allScreens H)) (replicate (H .desks) emptyDesk)))
-      zeros = sym (ap (λ (l : List ℕ). replicate (H .positions) 0 ++ (replicate (allScreens H) 0 ++ l)) (flat-clear (H .desks)) ∙ ap (λ (l : List ℕ). replicate (H .positions) 0 ++ l) (replicate-append-replicate (allScreens H) (H .desks * recordWidth H) 0) ∙ replicate-append-replicate (H .positions) (allScreens H + H .desks * recordWidth H) 0 ∙ alike (H .positions + (allScreens H + H .desks * recordWidth H)) (need H - 3) (omega arith))
+      zeros =
+          sym
+          (ap (λ (l : List ℕ). replicate (H .positions) 0 ++ (replicate (allScreens H) 0 ++ l)) (flat-clear (H .desks)) ∙ ap (λ (l : List ℕ). replicate (H .positions) 0 ++ l) (replicate-append-replicate (allScreens H) (H .desks * recordWidth H) 0) ∙ replicate-append-replicate (H .positions) (allScreens H + H .desks * recordWidth H) 0 ∙ alike (H .positions + (allScreens H + H .desks * recordWidth H)) (need H - 3) (omega arith))
 
   pub is-end : (cs : List Call) (st : State) → Valid H st → (rest : List ℕ) → endTable (encode H st ++ rest) cs ≡ encode H (end H st cs) ++ rest
   is-end [] st v rest = refl
-  is-end (c ∷ cs) st v rest = ap (λ (r : TableDone). endTable (r .after) cs) (is-step st v rest c) ∙ is-end cs (step H st c .after) (valid-step st c v) rest
+  is-end (c ∷ cs) st v rest =
+      ap (λ (r : TableDone). endTable (r .after) cs) (is-step st v rest c) ∙ is-end cs (step H st c .after) (valid-step st c v) rest
 
   pub valid-end : (cs : List Call) (st : State) → Valid H st → Valid H (end H st cs)
   valid-end [] st v = v
@@ -299,7 +394,9 @@ module _ (H : Hall) (opens : Opens H) where
 
   -- The table stays sound: no step from an opening on is answered 5.
   pub sound-table : (t : List ℕ) (cs : List Call) → sound (endTable (openedTable H t) cs) ≡ true
-  sound-table t cs = rw (is-open t, is-end cs (fresh H) fresh-valid (drop (need H) t)) (is-sound (end H (fresh H) cs) (valid-end cs (fresh H) fresh-valid) (drop (need H) t))
+  sound-table t cs =
+      rw (is-open t, is-end cs (fresh H) fresh-valid (drop (need H) t))
+      (is-sound (end H (fresh H) cs) (valid-end cs (fresh H) fresh-valid) (drop (need H) t))
 
 -- What an accepted opening asked of its hall and its table.
 pub hall-opens : (H : Hall) (t : List ℕ) → firstNo (openQuestions H t) ≡ 0 → Opens H × (need H ≤ length t)

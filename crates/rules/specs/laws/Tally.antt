@@ -35,7 +35,9 @@ refused-step tally event e = by-number (event .answer .number) refl
     by-number : (n : ℕ) → event .answer .number ≡ n → counted tally event ≡ tallyOf (tally .accepted) (oneMore (tally .refused)) (tally .handedBack)
     by-number zero q = let clash : _≡_ {A = ℕ} 0 1 = cc in absurd (omega arith)
     by-number (suc n) q =
-        let none : isHandedBack event ≡ false = ap (λ (m : ℕ). isHandBack (deed (event .call) m (event .answer .session))) q ∙ refused-hands-nothing (event .call) n (event .answer .session) in
+        let none : isHandedBack event ≡ false =
+        ap (λ (m : ℕ). isHandBack (deed (event .call) m (event .answer .session))) q
+        ∙ refused-hands-nothing (event .call) n (event .answer .session) in
         simp (not-true (isAccepted event) e, none)
 
 -- One more, up to the largest, and then the rest.

@@ -116,7 +116,8 @@ module _ (H : Hall) (f : ℕ → Deed) (n : ℕ) where
   tally-start k us e = rw e (tally-none us)
 
   -- One screen more: no more than one retirement more, and none unless the screen shows s.
-  low-step : (d s : ℕ) (st : State) → ScreensAgree H f n st → (us : List ℕ) → ((r : ℕ) → copies r us ≤ 1) → ((r : ℕ) → 1 ≤ copies r us → f r ≡ retires d s) → (k : ℕ) → k < allScreens H
+  low-step : (d s : ℕ) (st : State) → ScreensAgree H f n st → (us : List ℕ) → ((r : ℕ) → copies r us ≤ 1)
+      → ((r : ℕ) → 1 ≤ copies r us → f r ≡ retires d s) → (k : ℕ) → k < allScreens H
       → tally (live H f n (suc k)) us ≤ tally (live H f n k) us + matches s (getD (st .shown) k 0)
   low-step d s st ag us one mine k h = omega (arith, tally-max (live H f n k) (λ r. ties r (link H f k n)) us, go (link H f k n) (ag k h))
     where
@@ -139,21 +140,27 @@ apart s v x h = go (ℕ-discrete s v) (ℕ-discrete s x)
     go (yes a) (no b) = omega (arith, matches-at-most-one s v, matches-other s x b)
     go (no a) c = omega (arith, matches-other s v a, matches-at-most-one s x)
 
-pub mark-finds-a-copy : (s v : ℕ) (ps : List TestedPlace) → min (copies s (markedOf ps) + matches s v) (testedCopies s ps) ≤ copies s (markedOf (mark v ps))
+pub mark-finds-a-copy : (s v : ℕ) (ps : List TestedPlace)
+    → min (copies s (markedOf ps) + matches s v) (testedCopies s ps) ≤ copies s (markedOf (mark v ps))
 mark-finds-a-copy s v [] = omega arith
 mark-finds-a-copy s v (marked x ∷ ps) = omega (arith, mark-finds-a-copy s v ps)
 mark-finds-a-copy s v (unmarked x ∷ ps) = go (eqb v x) refl (mark-finds-a-copy s v ps)
   where
-    go : (b : Bool) → eqb v x ≡ b → min (copies s (markedOf ps) + matches s v) (testedCopies s ps) ≤ copies s (markedOf (mark v ps)) → min (copies s (markedOf ps) + matches s v) (testedCopies s (unmarked x ∷ ps)) ≤ copies s (markedOf (cond b (marked x ∷ ps) (unmarked x ∷ mark v ps)))
+    go : (b : Bool) → eqb v x ≡ b → min (copies s (markedOf ps) + matches s v) (testedCopies s ps) ≤ copies s (markedOf (mark v ps))
+        → min (copies s (markedOf ps) + matches s v) (testedCopies s (unmarked x ∷ ps)) ≤ copies s (markedOf (cond b (marked x ∷ ps) (unmarked x ∷ mark v ps)))
     go true q ih = omega (arith, ap (matches s) (eqb-true v x q))
     go false q ih = omega (arith, apart s v x (eqb-false v x q))
 
-marks-cover-reads : (s : ℕ) (g : ℕ → ℕ) (shown : List ℕ) (m k : ℕ) (ps : List TestedPlace) → ((j : ℕ) → j < length shown → g (suc j) ≤ g j + matches s (getD shown j 0)) → ((j : ℕ) → j ≤ length shown → g j ≤ testedCopies s ps) → k ≤ length shown → g k ≤ copies s (markedOf ps)
+marks-cover-reads : (s : ℕ) (g : ℕ → ℕ) (shown : List ℕ) (m k : ℕ) (ps : List TestedPlace)
+    → ((j : ℕ) → j < length shown → g (suc j) ≤ g j + matches s (getD shown j 0)) → ((j : ℕ) → j ≤ length shown → g j ≤ testedCopies s ps)
+    → k ≤ length shown → g k ≤ copies s (markedOf ps)
     → g (k + length (take m (drop k shown))) ≤ copies s (markedOf (markEach (take m (drop k shown)) ps))
 marks-cover-reads s g shown zero k ps st top hk h = subst (λ (j : ℕ). g j ≤ copies s (markedOf ps)) (omega arith) h
-marks-cover-reads s g shown (suc m) k ps st top hk h = go (decLt k (length shown)) (λ ps′ b. marks-cover-reads s g shown m (suc k) ps′ st (λ j hj. omega (arith, top j hj)))
+marks-cover-reads s g shown (suc m) k ps st top hk h =
+    go (decLt k (length shown)) (λ ps′ b. marks-cover-reads s g shown m (suc k) ps′ st (λ j hj. omega (arith, top j hj)))
   where
-    go : Dec (k < length shown) → ((ps′ : List TestedPlace) → testedCopies s ps′ ≡ testedCopies s ps → suc k ≤ length shown → g (suc k) ≤ copies s (markedOf ps′) → g (suc k + length (take m (drop (suc k) shown))) ≤ copies s (markedOf (markEach (take m (drop (suc k) shown)) ps′)))
+    go : Dec (k < length shown)
+        → ((ps′ : List TestedPlace) → testedCopies s ps′ ≡ testedCopies s ps → suc k ≤ length shown → g (suc k) ≤ copies s (markedOf ps′) → g (suc k + length (take m (drop (suc k) shown))) ≤ copies s (markedOf (markEach (take m (drop (suc k) shown)) ps′)))
         → g (k + length (take (suc m) (drop k shown))) ≤ copies s (markedOf (markEach (take (suc m) (drop k shown)) ps))
     go (yes t) ih =
         let v = getD shown k 0 in
@@ -202,7 +209,14 @@ pick g (r ∷ us) h = go (ℕ-discrete (g r) 0) (pick g us)
     go (yes t) ih = record { it = r; rest = us; none = t; count = λ x. refl; fewer = refl; less = λ g′. omega arith }
     go (no t) ih =
         let p = ih (omega arith) in
-        record { it = p .it; rest = r ∷ p .rest; none = p .none; count = λ x. omega (arith, p .count x); fewer = omega (arith, p .fewer); less = λ g′. omega (arith, p .less g′) }
+        record {
+          it = p .it;
+          rest = r ∷ p .rest;
+          none = p .none;
+          count = λ x. omega (arith, p .count x);
+          fewer = omega (arith, p .fewer);
+          less = λ g′. omega (arith, p .less g′);
+        }
 
 module _ (H : Hall) (f : ℕ → Deed) (d s n : ℕ) (count : ℕ → ℕ) where
   -- (a)
@@ -220,32 +234,45 @@ module _ (H : Hall) (f : ℕ → Deed) (d s n : ℕ) (count : ℕ → ℕ) where
             old = t .old ++ t .new;
             new = [];
             same = λ r. omega (arith, copies-append r (t .old) (t .new), t .same r);
-            held = record { sum = omega (arith, h .sum); tests = omega (arith, h .tests, h .waits); marks = omega (arith, tally-start H f n (D .scanned) (t .old ++ t .new) g); waits = omega arith };
+            held =
+                record { sum = omega (arith, h .sum); tests = omega (arith, h .tests, h .waits); marks = omega (arith, tally-start H f n (D .scanned) (t .old ++ t .new) g); waits = omega arith };
           }
       go (p ∷ ps) e g = t
 
   -- (b) and (c)
-  pub pass-tokens : (st : State) → ScreensAgree H f n st → ((r : ℕ) → count r ≤ 1) → ((r : ℕ) → 1 ≤ count r → f r ≡ retires d s) → 1 ≤ allScreens H → length (st .shown) ≡ allScreens H → (A : Desk) → Scanning (allScreens H) (A .scanned) (A .tested) → Tokens H f s n A count → Tokens H f s n (settle (allScreens H) (scan (st .shown) A)) count
+  pub pass-tokens : (st : State) → ScreensAgree H f n st → ((r : ℕ) → count r ≤ 1) → ((r : ℕ) → 1 ≤ count r → f r ≡ retires d s) → 1 ≤ allScreens H
+      → length (st .shown) ≡ allScreens H → (A : Desk) → Scanning (allScreens H) (A .scanned) (A .tested) → Tokens H f s n A count
+      → Tokens H f s n (settle (allScreens H) (scan (st .shown) A)) count
   pass-tokens st ag one mine hS hl A g t = by-scan (λ (X : Desk). Tokens H f s n X count) (allScreens H) (st .shown) A hS hl g (λ e. t) on over
     where
-      read : A .scanned ≤ allScreens H → tally (live H f n (A .scanned + length (nextScreens (st .shown) A))) (t .old) ≤ copies s (markedOf (markEach (nextScreens (st .shown) A) (A .tested)))
+      read : A .scanned ≤ allScreens H
+          → tally (live H f n (A .scanned + length (nextScreens (st .shown) A))) (t .old) ≤ copies s (markedOf (markEach (nextScreens (st .shown) A) (A .tested)))
       read hk = marks-cover-reads s (λ j. tally (live H f n j) (t .old)) (st .shown) 2 (A .scanned) (A .tested)
           (λ j hj. low-step H f n d s st ag (t .old) (λ r. omega (arith, one r, t .same r)) (λ r q. mine r (omega (arith, t .same r))) j (omega arith))
           (λ j hj. let u = tally-le (live H f n j) (live H f n (allScreens H)) (t .old) (λ r q. live-up H f n (allScreens H) j r (omega arith)) in omega (arith, t .held .tests))
           (omega arith) (t .held .marks)
 
-      on : 1 ≤ length (A .tested) → length (nextScreens (st .shown) A) ≡ 2 → A .scanned + 2 < allScreens H → Tokens H f s n (readScreens (nextScreens (st .shown) A) A) count
+      on : 1 ≤ length (A .tested) → length (nextScreens (st .shown) A) ≡ 2 → A .scanned + 2 < allScreens H
+          → Tokens H f s n (readScreens (nextScreens (st .shown) A) A) count
       on h1 h2 h3 =
           let b = tested-copies-mark-each s (nextScreens (st .shown) A) (A .tested) in
           let h = t .held in
-          record { old = t .old; new = t .new; same = t .same; held = record { sum = omega (arith, h .sum); tests = omega (arith, h .tests); marks = read (omega arith); waits = h .waits } }
+          record {
+            old = t .old;
+            new = t .new;
+            same = t .same;
+            held = record { sum = omega (arith, h .sum); tests = omega (arith, h .tests); marks = read (omega arith); waits = h .waits };
+          }
 
-      over : 1 ≤ length (A .tested) → A .scanned < allScreens H → allScreens H ≤ A .scanned + 2 → A .scanned + length (nextScreens (st .shown) A) ≡ allScreens H → Tokens H f s n (settleIf true (readScreens (nextScreens (st .shown) A) A)) count
+      over : 1 ≤ length (A .tested) → A .scanned < allScreens H → allScreens H ≤ A .scanned + 2
+          → A .scanned + length (nextScreens (st .shown) A) ≡ allScreens H
+          → Tokens H f s n (settleIf true (readScreens (nextScreens (st .shown) A) A)) count
       over h1 h2 h3 h4 =
           let ps = markEach (nextScreens (st .shown) A) (A .tested) in
           let b = tested-copies-mark-each s (nextScreens (st .shown) A) (A .tested) in
           let h = t .held in
-          let rd : tally (live H f n (allScreens H)) (t .old) ≤ copies s (markedOf ps) = subst (λ (j : ℕ). tally (live H f n j) (t .old) ≤ copies s (markedOf ps)) h4 (read (omega arith)) in
+          let rd : tally (live H f n (allScreens H)) (t .old) ≤ copies s (markedOf ps) =
+          subst (λ (j : ℕ). tally (live H f n j) (t .old) ≤ copies s (markedOf ps)) h4 (read (omega arith)) in
           let la = length-append (t .old) (t .new) in
           let ca = copies-append s (A .ready) (unmarkedOf ps) in
           let cb = copies-append s (markedOf ps) (A .waiting) in
@@ -259,7 +286,12 @@ module _ (H : Hall) (f : ℕ → Deed) (d s n : ℕ) (count : ℕ → ℕ) where
 
   -- (d): another session, or none
   pub hand-other : (X : Desk) → (s ≡ 0 → ⊥) → (s ≡ getD (X .ready) 0 0 → ⊥) → Tokens H f s n X count → Tokens H f s n (handBack X .after) count
-  hand-other X nz ne t = record { old = t .old; new = t .new; same = t .same; held = record { sum = omega (arith, t .held .sum, left (X .ready) ne); tests = t .held .tests; marks = t .held .marks; waits = t .held .waits } }
+  hand-other X nz ne t = record {
+    old = t .old;
+    new = t .new;
+    same = t .same;
+    held = record { sum = omega (arith, t .held .sum, left (X .ready) ne); tests = t .held .tests; marks = t .held .marks; waits = t .held .waits };
+  }
     where
       left : (r : List ℕ) → (s ≡ getD r 0 0 → ⊥) → copies s (drop 1 r) ≡ copies s r
       left [] q = refl
@@ -283,7 +315,8 @@ module _ (H : Hall) (f : ℕ → Deed) (d s n : ℕ) (count : ℕ → ℕ) where
             old = p .rest;
             new = t .new;
             same = λ r. omega (arith, p .count r, t .same r);
-            held = record { sum = omega (arith, p .fewer, h .sum, left (X .ready) e); tests = omega (arith, p .less (live H f n (allScreens H)), h .tests); marks = omega (arith, p .less (live H f n (X .scanned)), h .marks); waits = h .waits };
+            held =
+                record { sum = omega (arith, p .fewer, h .sum, left (X .ready) e); tests = omega (arith, p .less (live H f n (allScreens H)), h .tests); marks = omega (arith, p .less (live H f n (X .scanned)), h .marks); waits = h .waits };
           }
       go (no l) =
           let h = t .held in
@@ -294,5 +327,6 @@ module _ (H : Hall) (f : ℕ → Deed) (d s n : ℕ) (count : ℕ → ℕ) where
             old = t .old;
             new = p .rest;
             same = λ r. omega (arith, p .count r, t .same r);
-            held = record { sum = omega (arith, p .fewer, h .sum, left (X .ready) e); tests = h .tests; marks = h .marks; waits = omega (arith, p .less (live H f n (allScreens H)), h .waits) };
+            held =
+                record { sum = omega (arith, p .fewer, h .sum, left (X .ready) e); tests = h .tests; marks = h .marks; waits = omega (arith, p .less (live H f n (allScreens H)), h .waits) };
           }

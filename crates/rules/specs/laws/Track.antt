@@ -8,7 +8,8 @@ use lib.ListN.{take, drop}
 use lib.Dec.{eqb}
 use borrow.Author.Tests.{eqb-true, eqb-false, eq-eqb, ne-eqb}
 use Rattle.rules.specs.Hall.{Hall, screenIndex}
-use Rattle.rules.specs.History.{Deed, DroppedBefore, NextDrop, NextRetire, NextSwap, collects, drops, handsBack, lacksRoom, nothing, retires, swaps, takes}
+use Rattle.rules.specs.History.{Deed, DroppedBefore, NextDrop, NextRetire, NextSwap, collects, drops, handsBack, lacksRoom, nothing, retires}
+use Rattle.rules.specs.History.{swaps, takes}
 use Rattle.rules.specs.laws.Links.{Link, Range, beforeRetire, beforeSwap, link, linkedTo, next, unlinked}
 use Rattle.rules.specs.laws.ScreenIndex.{screen-same}
 
@@ -22,15 +23,25 @@ data Track (H : Hall) (f : ℕ → Deed) (i d c p e j r n : ℕ) : Type 0 where
   gone : (q : ℕ) → NextDrop f i d c q → q < n → Track H f i d c p e j r n
   on : ((m : ℕ) → i < m → m < n → f m ≡ drops d c → ⊥) → Stage H f (screenIndex H d c) p e j r n → Track H f i d c p e j r n
 
-module _ (H : Hall) (f : ℕ → Deed) (sane : (m : ℕ) → Range H (f m)) (i d c p v e j s r : ℕ) (tk : f i ≡ takes d c p v) (sw : NextSwap f i p e j) (re : NextRetire f j e s r) where
-  after : (n : ℕ) (D : Deed) (l l′ : Link) → f n ≡ D → link H f (screenIndex H d c) n ≡ l → next H (screenIndex H d c) n D l ≡ l′ → link H f (screenIndex H d c) (suc n) ≡ l′
+module _ (H : Hall) (f : ℕ → Deed) (sane : (m : ℕ) → Range H (f m)) (i d c p v e j s r : ℕ) (tk : f i ≡ takes d c p v) (sw : NextSwap f i p e j)
+    (re : NextRetire f j e s r) where
+  after : (n : ℕ) (D : Deed) (l l′ : Link) → f n ≡ D → link H f (screenIndex H d c) n ≡ l → next H (screenIndex H d c) n D l ≡ l′
+      → link H f (screenIndex H d c) (suc n) ≡ l′
   after n D l l′ q a b = rw (q, a) b
 
   -- the deed at n is neither the swap nor the retirement
-  plain : (n : ℕ) (D : Deed) → f n ≡ D → (swaps e p ≡ D → ⊥) → (retires e s ≡ D → ⊥) → ((l : Link) → (l ≡ unlinked → ⊥) → next H (screenIndex H d c) n D l ≡ l) → Stage H f (screenIndex H d c) p e j r n → Stage H f (screenIndex H d c) p e j r (suc n)
-  plain n D q nj nr same (first a l) = let z : n ≡ j → ⊥ = (λ t. nj (sym (sw .here) ∙ ap f (sym t) ∙ q)) in first (omega arith) (after n D (beforeSwap p) (beforeSwap p) q l (same (beforeSwap p) (λ t. let o : _≡_ {A = ℕ} 0 1 = cc in omega arith)))
-  plain n D q nj nr same (second a b l) = let z : n ≡ r → ⊥ = (λ t. nr (sym (re .here) ∙ ap f (sym t) ∙ q)) in second (omega arith) (omega arith) (after n D (beforeRetire e) (beforeRetire e) q l (same (beforeRetire e) (λ t. let o : _≡_ {A = ℕ} 0 1 = cc in omega arith)))
-  plain n D q nj nr same (third a l) = third (omega arith) (after n D (linkedTo r) (linkedTo r) q l (same (linkedTo r) (λ t. let o : _≡_ {A = ℕ} 0 1 = cc in omega arith)))
+  plain : (n : ℕ) (D : Deed) → f n ≡ D → (swaps e p ≡ D → ⊥) → (retires e s ≡ D → ⊥)
+      → ((l : Link) → (l ≡ unlinked → ⊥) → next H (screenIndex H d c) n D l ≡ l) → Stage H f (screenIndex H d c) p e j r n
+      → Stage H f (screenIndex H d c) p e j r (suc n)
+  plain n D q nj nr same (first a l) =
+      let z : n ≡ j → ⊥ = (λ t. nj (sym (sw .here) ∙ ap f (sym t) ∙ q)) in
+      first (omega arith) (after n D (beforeSwap p) (beforeSwap p) q l (same (beforeSwap p) (λ t. let o : _≡_ {A = ℕ} 0 1 = cc in omega arith)))
+  plain n D q nj nr same (second a b l) =
+      let z : n ≡ r → ⊥ = (λ t. nr (sym (re .here) ∙ ap f (sym t) ∙ q)) in
+      second (omega arith) (omega arith)
+      (after n D (beforeRetire e) (beforeRetire e) q l (same (beforeRetire e) (λ t. let o : _≡_ {A = ℕ} 0 1 = cc in omega arith)))
+  plain n D q nj nr same (third a l) =
+      third (omega arith) (after n D (linkedTo r) (linkedTo r) q l (same (linkedTo r) (λ t. let o : _≡_ {A = ℕ} 0 1 = cc in omega arith)))
 
   keep-take : (n a b w x : ℕ) (l : Link) → (l ≡ unlinked → ⊥) → next H (screenIndex H d c) n (takes a b w x) l ≡ l
   keep-take n a b w x unlinked z = absurd (z refl)
@@ -90,33 +101,53 @@ module _ (H : Hall) (f : ℕ → Deed) (sane : (m : ℕ) → Range H (f m)) (i d
   step n hi (on undropped st) = go (f n) refl
     where
       go : (D : Deed) → f n ≡ D → Track H f i d c p e j r (suc n)
-      go (takes a b w x) q = on (more n (λ t. let k : takes a b w x ≡ drops d c = sym q ∙ t in let o : _≡_ {A = ℕ} 0 1 = cc in omega arith) undropped) (plain n (takes a b w x) q (λ t. let o : _≡_ {A = ℕ} 0 1 = cc in omega arith) (λ t. let o : _≡_ {A = ℕ} 0 1 = cc in omega arith) (keep-take n a b w x) st)
+      go (takes a b w x) q =
+          on (more n (λ t. let k : takes a b w x ≡ drops d c = sym q ∙ t in let o : _≡_ {A = ℕ} 0 1 = cc in omega arith) undropped)
+          (plain n (takes a b w x) q (λ t. let o : _≡_ {A = ℕ} 0 1 = cc in omega arith) (λ t. let o : _≡_ {A = ℕ} 0 1 = cc in omega arith) (keep-take n a b w x) st)
       go (drops a b) q = at (eqb (screenIndex H a b) (screenIndex H d c)) refl
         where
           at : (y : Bool) → eqb (screenIndex H a b) (screenIndex H d c) ≡ y → Track H f i d c p e j r (suc n)
           at true t =
-              let k = screen-same H a b d c (subst (Range H) q (sane n)) (subst (Range H) tk (sane i)) (eqb-true (screenIndex H a b) (screenIndex H d c) t) in
+              let k =
+              screen-same H a b d c (subst (Range H) q (sane n)) (subst (Range H) tk (sane i))
+              (eqb-true (screenIndex H a b) (screenIndex H d c) t) in
               gone n (record { later = hi; here = q ∙ (λ z. drops (k .0 z) (k .1 z)); first = undropped }) (omega arith)
           at false t =
               let ne = eqb-false (screenIndex H a b) (screenIndex H d c) t in
-              on (more n (λ u. let k : drops a b ≡ drops d c = sym q ∙ u in ne (let ad : a ≡ d = cc in let bc : b ≡ c = cc in (λ z. screenIndex H (ad z) (bc z)))) undropped)
+              on
+              (more n (λ u. let k : drops a b ≡ drops d c = sym q ∙ u in ne (let ad : a ≡ d = cc in let bc : b ≡ c = cc in (λ z. screenIndex H (ad z) (bc z)))) undropped)
               (plain n (drops a b) q (λ u. let o : _≡_ {A = ℕ} 0 1 = cc in omega arith) (λ u. let o : _≡_ {A = ℕ} 0 1 = cc in omega arith) (λ l z. ap (λ (y : Bool). cond y unlinked l) t) st)
-      go (swaps a b) q = on (more n (λ t. let k : swaps a b ≡ drops d c = sym q ∙ t in let o : _≡_ {A = ℕ} 0 1 = cc in omega arith) undropped) (on-swap n a b hi q st)
-      go (retires a b) q = on (more n (λ t. let k : retires a b ≡ drops d c = sym q ∙ t in let o : _≡_ {A = ℕ} 0 1 = cc in omega arith) undropped) (on-retire n a b hi q st)
-      go (lacksRoom a) q = on (more n (λ t. let k : lacksRoom a ≡ drops d c = sym q ∙ t in let o : _≡_ {A = ℕ} 0 1 = cc in omega arith) undropped) (plain n (lacksRoom a) q (λ t. let o : _≡_ {A = ℕ} 0 1 = cc in omega arith) (λ t. let o : _≡_ {A = ℕ} 0 1 = cc in omega arith) (λ l z. refl) st)
-      go (collects a) q = on (more n (λ t. let k : collects a ≡ drops d c = sym q ∙ t in let o : _≡_ {A = ℕ} 0 1 = cc in omega arith) undropped) (plain n (collects a) q (λ t. let o : _≡_ {A = ℕ} 0 1 = cc in omega arith) (λ t. let o : _≡_ {A = ℕ} 0 1 = cc in omega arith) (λ l z. refl) st)
-      go (handsBack a b) q = on (more n (λ t. let k : handsBack a b ≡ drops d c = sym q ∙ t in let o : _≡_ {A = ℕ} 0 1 = cc in omega arith) undropped) (plain n (handsBack a b) q (λ t. let o : _≡_ {A = ℕ} 0 1 = cc in omega arith) (λ t. let o : _≡_ {A = ℕ} 0 1 = cc in omega arith) (λ l z. refl) st)
-      go nothing q = on (more n (λ t. let k : nothing ≡ drops d c = sym q ∙ t in let o : _≡_ {A = ℕ} 0 1 = cc in omega arith) undropped) (plain n nothing q (λ t. let o : _≡_ {A = ℕ} 0 1 = cc in omega arith) (λ t. let o : _≡_ {A = ℕ} 0 1 = cc in omega arith) (λ l z. refl) st)
+      go (swaps a b) q =
+          on (more n (λ t. let k : swaps a b ≡ drops d c = sym q ∙ t in let o : _≡_ {A = ℕ} 0 1 = cc in omega arith) undropped)
+          (on-swap n a b hi q st)
+      go (retires a b) q =
+          on (more n (λ t. let k : retires a b ≡ drops d c = sym q ∙ t in let o : _≡_ {A = ℕ} 0 1 = cc in omega arith) undropped)
+          (on-retire n a b hi q st)
+      go (lacksRoom a) q =
+          on (more n (λ t. let k : lacksRoom a ≡ drops d c = sym q ∙ t in let o : _≡_ {A = ℕ} 0 1 = cc in omega arith) undropped)
+          (plain n (lacksRoom a) q (λ t. let o : _≡_ {A = ℕ} 0 1 = cc in omega arith) (λ t. let o : _≡_ {A = ℕ} 0 1 = cc in omega arith) (λ l z. refl) st)
+      go (collects a) q =
+          on (more n (λ t. let k : collects a ≡ drops d c = sym q ∙ t in let o : _≡_ {A = ℕ} 0 1 = cc in omega arith) undropped)
+          (plain n (collects a) q (λ t. let o : _≡_ {A = ℕ} 0 1 = cc in omega arith) (λ t. let o : _≡_ {A = ℕ} 0 1 = cc in omega arith) (λ l z. refl) st)
+      go (handsBack a b) q =
+          on (more n (λ t. let k : handsBack a b ≡ drops d c = sym q ∙ t in let o : _≡_ {A = ℕ} 0 1 = cc in omega arith) undropped)
+          (plain n (handsBack a b) q (λ t. let o : _≡_ {A = ℕ} 0 1 = cc in omega arith) (λ t. let o : _≡_ {A = ℕ} 0 1 = cc in omega arith) (λ l z. refl) st)
+      go nothing q =
+          on (more n (λ t. let k : nothing ≡ drops d c = sym q ∙ t in let o : _≡_ {A = ℕ} 0 1 = cc in omega arith) undropped)
+          (plain n nothing q (λ t. let o : _≡_ {A = ℕ} 0 1 = cc in omega arith) (λ t. let o : _≡_ {A = ℕ} 0 1 = cc in omega arith) (λ l z. refl) st)
 
   track : link H f (screenIndex H d c) i ≡ unlinked → (m : ℕ) → Track H f i d c p e j r (suc m + i)
   track calm zero = subst (λ (n : ℕ). Track H f i d c p e j r n) (omega arith) start
     where
       start : Track H f i d c p e j r (suc i)
-      start = on (λ m a b q. absurd (omega arith)) (first (omega (arith, sw .later)) (after i (takes d c p v) unlinked (beforeSwap p) tk calm (rw (eq-eqb (screenIndex H d c) (screenIndex H d c) refl))))
+      start =
+          on (λ m a b q. absurd (omega arith))
+          (first (omega (arith, sw .later)) (after i (takes d c p v) unlinked (beforeSwap p) tk calm (rw (eq-eqb (screenIndex H d c) (screenIndex H d c) refl))))
   track calm (suc m) = subst (λ (n : ℕ). Track H f i d c p e j r n) (omega arith) (step (suc m + i) (omega arith) (track calm m))
 
   -- the tie
-  pub linked-tied : link H f (screenIndex H d c) i ≡ unlinked → (n : ℕ) → r < n → (link H f (screenIndex H d c) n ≡ linkedTo r → ⊥) → DroppedBefore f i n
+  pub linked-tied : link H f (screenIndex H d c) i ≡ unlinked → (n : ℕ) → r < n → (link H f (screenIndex H d c) n ≡ linkedTo r → ⊥)
+      → DroppedBefore f i n
   linked-tied calm n h nt = go (subst (λ (m : ℕ). Track H f i d c p e j r m) (omega (arith, sw .later, re .later)) (track calm (n - suc i)))
     where
       go : Track H f i d c p e j r n → DroppedBefore f i n

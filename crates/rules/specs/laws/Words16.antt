@@ -12,7 +12,9 @@ use Rattle.rules.specs.Demands.{refusals}
 use Rattle.rules.specs.Hall.{Desk, Hall, State, TestedPlace, allScreens, deskOf, emptyDesk, screenIndex, usedPlaces}
 use Rattle.rules.specs.History.{copies}
 use Rattle.rules.specs.Steps.{Call, Collect, Drop, Question, Retire, Swap, Take, collect, decide, firstNo, inRange, perform, questions, retire}
-use Rattle.rules.specs.Table.{TableDone, decode, decodeDesk, encode, encodeDesk, every, hallIn, listOf, marksIn, marksOf, need, openQuestions, openTable, openedTable, placesOf, positionWord, putRecord, recordOf, recordStart, recordWidth, screenWord, sound, stepTable, wordOfBits, wordsOfBits, written}
+use Rattle.rules.specs.Table.{TableDone, decode, decodeDesk, encode, encodeDesk, every, hallIn, listOf, marksIn, marksOf, need, openQuestions}
+use Rattle.rules.specs.Table.{openTable, openedTable, placesOf, positionWord, putRecord, recordOf, recordStart, recordWidth, screenWord, sound}
+use Rattle.rules.specs.Table.{stepTable, wordOfBits, wordsOfBits, written}
 use Rattle.rules.specs.laws.Collect.{collect-copies, copiesOn, retire-copies}
 use Rattle.rules.specs.laws.Decoding.{and-1, and-2, small-drop, small-take}
 use Rattle.rules.specs.laws.Effect.{in-range, yes3}
@@ -21,7 +23,8 @@ use Rattle.rules.specs.laws.Lists.{matches, matches-other, matches-same}
 use Rattle.rules.specs.laws.Marks.{testedCopies}
 use Rattle.rules.specs.laws.Sound.{ScanFits, Sound, collect-sound, copies-list, retire-sound, sound-orderly}
 use Rattle.rules.specs.laws.SoundTables.{encoded, known-opens, valid}
-use Rattle.rules.specs.laws.TableSteps.{Known, accepted-open, accepted-step, asked, desk-word, known, owed-word, refused-open, refused-step, unsound-step}
+use Rattle.rules.specs.laws.TableSteps.{Known, accepted-open, accepted-step, asked, desk-word, known, owed-word, refused-open, refused-step}
+use Rattle.rules.specs.laws.TableSteps.{unsound-step}
 use Rattle.rules.specs.laws.Tables.{Opens, Valid, all-get, clear-sound, hall-opens, length-table, some-screens, valid-step}
 
 -- ---- Small numbers in lists.
@@ -90,7 +93,9 @@ record-words S D h k = at
     bits = marksOf (D .tested) ++ replicate (128 - length (D .tested)) false
 
     rest : Words16 (listOf D ++ replicate (2 * S - length (listOf D)) 0)
-    rest = below-append 65536 (listOf D) (replicate (2 * S - length (listOf D)) 0) (words-if-no-large-copies (listOf D) (λ s l. copies-list s D ∙ k .sessions s l)) (words-zeros (2 * S - length (listOf D)))
+    rest =
+        below-append 65536 (listOf D) (replicate (2 * S - length (listOf D)) 0)
+        (words-if-no-large-copies (listOf D) (λ s l. copies-list s D ∙ k .sessions s l)) (words-zeros (2 * S - length (listOf D)))
 
     at : Words16 (D .owed ∷ D .scanned ∷ length (D .ready) ∷ length (D .tested) ∷ length (D .waiting) ∷ (wordsOfBits 8 (marksOf (D .tested) ++ replicate (128 - length (D .tested)) false) ++ (listOf D ++ replicate (2 * S - length (listOf D)) 0)))
     at zero = k .owed
@@ -98,7 +103,8 @@ record-words S D h k = at
     at (suc (suc zero)) = omega (arith, k .sound .total)
     at (suc (suc (suc zero))) = omega (arith, k .sound .total)
     at (suc (suc (suc (suc zero)))) = omega (arith, k .sound .total)
-    at (suc (suc (suc (suc (suc i))))) = below-append 65536 (wordsOfBits 8 bits) (listOf D ++ replicate (2 * S - length (listOf D)) 0) (mark-words 8 bits) rest i
+    at (suc (suc (suc (suc (suc i))))) =
+        below-append 65536 (wordsOfBits 8 bits) (listOf D ++ replicate (2 * S - length (listOf D)) 0) (mark-words 8 bits) rest i
 
 -- as it is read
 copies-on-places : (s : ℕ) (xs : List ℕ) (bits : List Bool) → testedCopies s (placesOf xs bits) ≡ copies s xs
@@ -115,20 +121,29 @@ no-large-sessions r h s l =
     let c = getD r 4 0 in
     let list : List ℕ = drop 13 r in
     let g = small-drop 13 r h in
-    omega (arith, no-large-copies s (take a list) l (small-take a list g), copies-on-places s (take b (drop a list)) (take b (marksIn r)), no-large-copies s (take b (drop a list)) l (small-take b (drop a list) (small-drop a list g)), no-large-copies s (take c (drop (a + b) list)) l (small-take c (drop (a + b) list) (small-drop (a + b) list g)))
+    omega
+    (arith, no-large-copies s (take a list) l (small-take a list g), copies-on-places s (take b (drop a list)) (take b (marksIn r)), no-large-copies s (take b (drop a list)) l (small-take b (drop a list) (small-drop a list g)), no-large-copies s (take c (drop (a + b) list)) l (small-take c (drop (a + b) list) (small-drop (a + b) list g)))
 
-desk-read : (t : List ℕ) (d : ℕ) → Words16 t → Known t → (1 ≤ d) × (d ≤ hallIn t .desks) → Desk16 (allScreens (hallIn t)) (deskOf (decode (hallIn t) t) d)
+desk-read : (t : List ℕ) (d : ℕ) → Words16 t → Known t → (1 ≤ d) × (d ≤ hallIn t .desks)
+    → Desk16 (allScreens (hallIn t)) (deskOf (decode (hallIn t) t) d)
 desk-read t d h k r =
     let H : Hall = hallIn t in
     record {
       sound = all-get (Sound (allScreens H)) (decode H t .desks) (d - 1) emptyDesk (clear-sound (allScreens H)) (valid t k .desks);
       owed = rw (owed-word t d (r .0) (r .1)) (h (recordStart H d));
-      sessions = λ s l. ap (copiesOn s) (desk-word t d (r .0) (r .1)) ∙ no-large-sessions (recordOf H t d) (small-take (recordWidth H) (drop (recordStart H d) t) (small-drop (recordStart H d) t h)) s l;
+      sessions =
+          λ s l. ap (copiesOn s) (desk-word t d (r .0) (r .1))
+          ∙ no-large-sessions (recordOf H t d) (small-take (recordWidth H) (drop (recordStart H d) t) (small-drop (recordStart H d) t h)) s l;
     }
 
 -- retire and collect keep it
 retire-16 : (S : ℕ) (D : Desk) → (D .owed ≡ 0 → ⊥) → usedPlaces D < 2 * S → Desk16 S D → Desk16 S (retire D)
-retire-16 S D z l k = record { sound = retire-sound S D z l (k .sound); owed = omega arith; sessions = λ s g. omega (arith, retire-copies s (D .owed) D refl, k .sessions s g, k .owed, matches-other s (D .owed) (λ q. omega (arith, k .owed))) }
+retire-16 S D z l k = record {
+  sound = retire-sound S D z l (k .sound);
+  owed = omega arith;
+  sessions =
+      λ s g. omega (arith, retire-copies s (D .owed) D refl, k .sessions s g, k .owed, matches-other s (D .owed) (λ q. omega (arith, k .owed)));
+}
 
 module _ (S : ℕ) (shown : List ℕ) (D : Desk) (some : 1 ≤ S) (all : length shown ≡ S) (k : Desk16 S D) where
   collect-16 : Desk16 S (collect S shown D .after)
@@ -140,7 +155,9 @@ module _ (S : ℕ) (shown : List ℕ) (D : Desk) (some : 1 ≤ S) (all : length 
       }
 
   collected-small : collect S shown D .session < 65536
-  collected-small = small-if-not-large (collect S shown D .session) (λ l. let s = collect S shown D .session in omega (arith, collect-copies s S shown D some all (sound-orderly S D (k .sound)) (λ q. omega arith), k .sessions s l, matches-same s))
+  collected-small =
+      small-if-not-large (collect S shown D .session)
+      (λ l. let s = collect S shown D .session in omega (arith, collect-copies s S shown D some all (sound-orderly S D (k .sound)) (λ q. omega arith), k .sessions s l, matches-same s))
 
 -- ---- A step, by its three cases.
 pub by-step : (Q : TableDone → Type 0) (t : List ℕ) (c : Call)
@@ -175,7 +192,8 @@ pub first-no-is-asked : (qs : List Question) (n : ℕ) → firstNo qs ≡ suc n 
 first-no-is-asked [] n h = absurd (omega arith)
 first-no-is-asked (q ∷ qs) n h = go (q .yes?) h (first-no-is-asked qs n)
   where
-    go : (b : Bool) → cond b (firstNo qs) (q .number) ≡ suc n → (firstNo qs ≡ suc n → 1 ≤ copies (suc n) (map (λ p. p .number) qs)) → 1 ≤ copies (suc n) (q .number ∷ map (λ p. p .number) qs)
+    go : (b : Bool) → cond b (firstNo qs) (q .number) ≡ suc n → (firstNo qs ≡ suc n → 1 ≤ copies (suc n) (map (λ p. p .number) qs))
+        → 1 ≤ copies (suc n) (q .number ∷ map (λ p. p .number) qs)
     go true e later = omega (arith, later e)
     go false e later = omega (arith, ap (matches (suc n)) e, matches-same (suc n))
 
@@ -202,14 +220,19 @@ asked-at-most H st (Retire d) = first-no-at-most 14 (questions H st (Retire d)) 
 asked-at-most H st (Collect d) = first-no-at-most 14 (questions H st (Collect d)) refl
 
 pub step-number : (t : List ℕ) (c : Call) → stepTable t c .answer .number ≤ 14
-step-number t c = by-step (λ r. r .answer .number ≤ 14) t c (omega arith) (λ n q. omega (arith, asked-at-most (hallIn t) (decode (hallIn t) t) c)) (λ s q. omega arith)
+step-number t c =
+    by-step (λ r. r .answer .number ≤ 14) t c (omega arith) (λ n q. omega (arith, asked-at-most (hallIn t) (decode (hallIn t) t) c))
+    (λ s q. omega arith)
 
 pub open-number : (H : Hall) (t : List ℕ) → openTable H t .answer .number ≤ 4
 open-number H t = by-open (λ r. r .answer .number ≤ 4) H t (λ n q. omega (arith, first-no-at-most 4 (openQuestions H t) refl)) (λ q. omega arith)
 
 -- "A refused call gives its number from document 01 and session 0, and every lent word .. keeps its content."
-pub step-refused : (t : List ℕ) (c : Call) (n : ℕ) → stepTable t c .answer .number ≡ suc n → (1 ≤ copies (suc n) (refusals c)) × (stepTable t c .answer .session ≡ 0) × (stepTable t c .after ≡ t)
-step-refused t c = by-step (λ r. (n : ℕ) → r .answer .number ≡ suc n → (1 ≤ copies (suc n) (refusals c)) × (r .answer .session ≡ 0) × (r .after ≡ t)) t c (λ n e. (unsound n e, refl, refl)) (λ m q n e. (asks m q n e, refl, refl)) (λ s q n e. absurd (omega arith))
+pub step-refused : (t : List ℕ) (c : Call) (n : ℕ) → stepTable t c .answer .number ≡ suc n
+    → (1 ≤ copies (suc n) (refusals c)) × (stepTable t c .answer .session ≡ 0) × (stepTable t c .after ≡ t)
+step-refused t c =
+    by-step (λ r. (n : ℕ) → r .answer .number ≡ suc n → (1 ≤ copies (suc n) (refusals c)) × (r .answer .session ≡ 0) × (r .after ≡ t)) t c
+    (λ n e. (unsound n e, refl, refl)) (λ m q n e. (asks m q n e, refl, refl)) (λ s q n e. absurd (omega arith))
   where
     numbers : List ℕ
     numbers = map (λ q. q .number) (questions (hallIn t) (decode (hallIn t) t) c)
@@ -230,10 +253,14 @@ desk-asked b m e = holds b m 5 e .0
 
 performed-small : (t : List ℕ) (c : Call) → Words16 t → Known t → asked t c ≡ 0 → perform (hallIn t) (decode (hallIn t) t) c .session < 65536
 performed-small t (Take d c p) h k q = small-take (hallIn t .positions) (drop 3 t) (small-drop 3 t h) (p - 1)
-performed-small t (Drop d c) h k q = small-take (allScreens (hallIn t)) (drop (hallIn t .positions) (drop 3 t)) (small-drop (hallIn t .positions) (drop 3 t) (small-drop 3 t h)) (screenIndex (hallIn t) d c)
+performed-small t (Drop d c) h k q =
+    small-take (allScreens (hallIn t)) (drop (hallIn t .positions) (drop 3 t)) (small-drop (hallIn t .positions) (drop 3 t) (small-drop 3 t h))
+    (screenIndex (hallIn t) d c)
 performed-small t (Swap d p w) h k q = small-take (hallIn t .positions) (drop 3 t) (small-drop 3 t h) (p - 1)
 performed-small t (Retire d) h k q = desk-read t d h k (in-range d (hallIn t .desks) (desk-asked (inRange d (hallIn t .desks)) _ q)) .owed
-performed-small t (Collect d) h k q = collected-small (allScreens (hallIn t)) (decode (hallIn t) t .shown) (deskOf (decode (hallIn t) t) d) (some-screens (hallIn t) (known-opens t k)) (valid t k .formed .screens) (desk-read t d h k (in-range d (hallIn t .desks) (desk-asked (inRange d (hallIn t .desks)) _ q)))
+performed-small t (Collect d) h k q =
+    collected-small (allScreens (hallIn t)) (decode (hallIn t) t .shown) (deskOf (decode (hallIn t) t) d) (some-screens (hallIn t) (known-opens t k))
+    (valid t k .formed .screens) (desk-read t d h k (in-range d (hallIn t .desks) (desk-asked (inRange d (hallIn t .desks)) _ q)))
 
 pub step-session : (t : List ℕ) (c : Call) → Words16 t → stepTable t c .answer .session < 65536
 step-session t c h = by-step (λ r. r .answer .session < 65536) t c (omega arith) (λ n q. omega arith) (λ s q. performed-small t c h (known t s) q)
@@ -245,20 +272,25 @@ open-session H t = by-open (λ r. r .answer .session ≡ 0) H t (λ n q. refl) (
 put-words : (H : Hall) (t : List ℕ) (d : ℕ) (words : List ℕ) → Words16 t → Words16 words → Words16 (putRecord H t d words)
 put-words H t d words h g =
     let start = recordStart H d in
-    below-append 65536 (take start t) (words ++ drop (recordWidth H) (drop start t)) (small-take start t h) (below-append 65536 words (drop (recordWidth H) (drop start t)) g (small-drop (recordWidth H) (drop start t) (small-drop start t h)))
+    below-append 65536 (take start t) (words ++ drop (recordWidth H) (drop start t)) (small-take start t h)
+    (below-append 65536 words (drop (recordWidth H) (drop start t)) g (small-drop (recordWidth H) (drop start t) (small-drop start t h)))
 
 written-words : (t : List ℕ) (c : Call) → Words16 t → Call16 c → Known t → asked t c ≡ 0 → Words16 (written t c)
 written-words t (Take d c p) h w k q = words-set t (screenWord (hallIn t) d c) (getD t (positionWord p) 0) (h (positionWord p)) h
 written-words t (Drop d c) h w k q = words-set t (screenWord (hallIn t) d c) 0 (omega arith) h
-written-words t (Swap d p v) h w k q = words-set (set t (positionWord p) v) (recordStart (hallIn t) d) (getD t (positionWord p) 0) (h (positionWord p)) (words-set t (positionWord p) v (w .2) h)
+written-words t (Swap d p v) h w k q =
+    words-set (set t (positionWord p) v) (recordStart (hallIn t) d) (getD t (positionWord p) 0) (h (positionWord p))
+    (words-set t (positionWord p) v (w .2) h)
 written-words t (Retire d) h w k q =
     let H : Hall = hallIn t in
     let D : Desk = deskOf (decode H t) d in
     let S : ℕ = allScreens H in
     let y = yes3 (inRange d (H .desks)) (not (eqb (D .owed) 0)) (ltb (usedPlaces D) (2 * S)) q in
     let r = in-range d (H .desks) (y .0) in
-    let k16 = retire-16 S D (eqb-false (D .owed) 0 (not-true (eqb (D .owed) 0) (y .1))) (ltb-true (usedPlaces D) (2 * S) (y .2)) (desk-read t d h k r) in
-    put-words H t d (encodeDesk S (retire (decodeDesk (recordOf H t d)))) h (subst (λ (E : Desk). Words16 (encodeDesk S (retire E))) (desk-word t d (r .0) (r .1)) (record-words S (retire D) (k .most) k16))
+    let k16 =
+    retire-16 S D (eqb-false (D .owed) 0 (not-true (eqb (D .owed) 0) (y .1))) (ltb-true (usedPlaces D) (2 * S) (y .2)) (desk-read t d h k r) in
+    put-words H t d (encodeDesk S (retire (decodeDesk (recordOf H t d)))) h
+    (subst (λ (E : Desk). Words16 (encodeDesk S (retire E))) (desk-word t d (r .0) (r .1)) (record-words S (retire D) (k .most) k16))
 written-words t (Collect d) h w k q =
     let H : Hall = hallIn t in
     let st : State = decode H t in
@@ -266,7 +298,8 @@ written-words t (Collect d) h w k q =
     let S : ℕ = allScreens H in
     let r = in-range d (H .desks) (desk-asked (inRange d (H .desks)) _ q) in
     let k16 = collect-16 S (st .shown) D (some-screens (hallIn t) (known-opens t k)) (valid t k .formed .screens) (desk-read t d h k r) in
-    put-words H t d (encodeDesk S (collect S (st .shown) (decodeDesk (recordOf H t d)) .after)) h (subst (λ (E : Desk). Words16 (encodeDesk S (collect S (st .shown) E .after))) (desk-word t d (r .0) (r .1)) (record-words S (collect S (st .shown) D .after) (k .most) k16))
+    put-words H t d (encodeDesk S (collect S (st .shown) (decodeDesk (recordOf H t d)) .after)) h
+    (subst (λ (E : Desk). Words16 (encodeDesk S (collect S (st .shown) E .after))) (desk-word t d (r .0) (r .1)) (record-words S (collect S (st .shown) D .after) (k .most) k16))
 
 pub step-words : (t : List ℕ) (c : Call) → Words16 t → Call16 c → Words16 (stepTable t c .after)
 step-words t c h w = by-step (λ r. Words16 (r .after)) t c h (λ n q. h) (λ s q. written-words t c h w (known t s) q)
@@ -276,7 +309,8 @@ opened-words : (H : Hall) (t : List ℕ) → Words16 t → Opens H → Words16 (
 opened-words H t h o zero = omega (arith, o .desks)
 opened-words H t h o (suc zero) = omega (arith, o .screens)
 opened-words H t h o (suc (suc zero)) = omega (arith, o .positions)
-opened-words H t h o (suc (suc (suc i))) = below-append 65536 (replicate (need H - 3) 0) (drop (need H) t) (words-zeros (need H - 3)) (small-drop (need H) t h) i
+opened-words H t h o (suc (suc (suc i))) =
+    below-append 65536 (replicate (need H - 3) 0) (drop (need H) t) (words-zeros (need H - 3)) (small-drop (need H) t h) i
 
 pub open-words : (H : Hall) (t : List ℕ) → Words16 t → Words16 (openTable H t .after)
 open-words H t h = by-open (λ r. Words16 (r .after)) H t (λ n q. h) (λ q. opened-words H t h (hall-opens H t q .0))
@@ -290,10 +324,13 @@ written-length t c h s q =
     let o = known-opens t k in
     let after : State = perform H st c .after in
     let v : Valid H after = subst (λ (n : ℕ). Valid H (decide n st (perform H st c) .after)) q (valid-step H o st c (valid t k)) in
-    ap length (encoded t c h s q) ∙ omega (arith, length-append (encode H after) (drop (need H) t), length-table H o after v [], length-drop (need H) t, k .long)
+    ap length (encoded t c h s q)
+    ∙ omega (arith, length-append (encode H after) (drop (need H) t), length-table H o after v [], length-drop (need H) t, k .long)
 
 pub step-length : (t : List ℕ) (c : Call) → Words16 t → length (stepTable t c .after) ≡ length t
 step-length t c h = by-step (λ r. length (r .after) ≡ length t) t c refl (λ n q. refl) (λ s q. written-length t c h s q)
 
 pub open-length : (H : Hall) (t : List ℕ) → length (openTable H t .after) ≡ length t
-open-length H t = by-open (λ r. length (r .after) ≡ length t) H t (λ n q. refl) (λ q. omega (arith, hall-opens H t q .1, length-append (H .desks ∷ H .screens ∷ H .positions ∷ replicate (need H - 3) 0) (drop (need H) t), length-replicate {A = ℕ} (need H - 3) 0, length-drop (need H) t))
+open-length H t =
+    by-open (λ r. length (r .after) ≡ length t) H t (λ n q. refl)
+    (λ q. omega (arith, hall-opens H t q .1, length-append (H .desks ∷ H .screens ∷ H .positions ∷ replicate (need H - 3) 0) (drop (need H) t), length-replicate {A = ℕ} (need H - 3) 0, length-drop (need H) t))
