@@ -162,7 +162,7 @@ refuses-marked-twice =
     (2, linked-at-once (deedAt markedTwice) 2 1 1 1 5 1 5 refl refl refl)
     (5, linked-at-once (deedAt markedTwice) 5 2 1 2 5 1 5 refl refl refl) r (ap (isRetirementOf 5) e))
 
--- ---- A pairing need not go in order: the first of two retirements of 5 is linked to a take that still shows it, so the hand-back
+-- ---- A pairing need not go in order: the first of two retirements of 5 is linked to a take that guard-kept shows it, so the hand-back
 -- is paired with the second.
 abbrev outOfOrder : List Call
 outOfOrder = Swap 1 1 5 ∷ Take 2 1 1 ∷ Swap 1 1 0 ∷ Retire 1 ∷ Swap 1 1 5 ∷ Swap 1 1 0 ∷ Retire 1 ∷ Collect 1 ∷ []

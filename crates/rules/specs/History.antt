@@ -75,10 +75,6 @@ abbrev pub deedsOf : ℕ → List Event → List Deed
 deedsOf d [] = []
 deedsOf d (event ∷ history) = own d (deed (event .call) (event .answer .number) (event .answer .session)) ∷ deedsOf d history
 
--- one of desk d's
-abbrev pub ownAt : List Event → ℕ → ℕ → Deed
-ownAt history d place = own d (deedAt history place)
-
 abbrev pub oneIf : Bool → ℕ
 oneIf true = 1
 oneIf false = 0

@@ -1,3 +1,4 @@
+pub mod Bools
 pub mod Lists
 pub mod Marks
 pub mod Collect

@@ -43,26 +43,26 @@ module _ (d : ℕ) where
     since = λ q j a. (let z : _≡_ {A = ℕ} 0 1 = cc in absurd (omega arith));
   }
   spaced-by-test (e ∷ es) f q =
-      go (isRetireAttempt (own d (deedAt (e ∷ es) 0))) (isCollect (own d (deedAt (e ∷ es) 0))) refl refl f q (spaced-by-test es)
+      by-cases (isRetireAttempt (own d (deedAt (e ∷ es) 0))) (isCollect (own d (deedAt (e ∷ es) 0))) refl refl f q (spaced-by-test es)
     where
-      go : (a c : Bool) → isRetireAttempt (own d (deedAt (e ∷ es) 0)) ≡ a → isCollect (own d (deedAt (e ∷ es) 0)) ≡ c → (f : Bool)
+      by-cases : (a c : Bool) → isRetireAttempt (own d (deedAt (e ∷ es) 0)) ≡ a → isCollect (own d (deedAt (e ∷ es) 0)) ≡ c → (f : Bool)
           → cond a (not f && collectsBetween true (deedsOf d es)) (cond c (collectsBetween false (deedsOf d es)) (collectsBetween f (deedsOf d es))) ≡ true
           → ((f : Bool) → collectsBetween f (deedsOf d es) ≡ true → Spaced d f es) → Spaced d f (e ∷ es)
-      go true c at ct true q ih = let z : _≡_ {A = ℕ} 0 1 = cc in absurd (omega arith)
-      go true c at ct false q ih =
+      by-cases true c at ct true q ih = let z : _≡_ {A = ℕ} 0 1 = cc in absurd (omega arith)
+      by-cases true c at ct false q ih =
           let s = ih true q in
           record {
             between = later-between e es (s .between) (λ j x y. s .since refl j y);
             since = λ z. (let o : _≡_ {A = ℕ} 0 1 = cc in absurd (omega arith));
           }
-      go false true at ct f q ih =
+      by-cases false true at ct f q ih =
           let s = ih false q in
           record { between = later-between e es (s .between) (λ j x y. (let z : _≡_ {A = ℕ} 0 1 = cc in absurd (omega arith))); since = since }
         where
           since : f ≡ true → (j : ℕ) → isRetireAttempt (own d (deedAt (e ∷ es) j)) ≡ true → CollectBefore d (e ∷ es) j
           since z zero x = let o : _≡_ {A = ℕ} 0 1 = cc in absurd (omega arith)
           since z (suc j) x = record { place = 0; before = omega arith; here = ct }
-      go false false at ct f q ih =
+      by-cases false false at ct f q ih =
           let s = ih f q in
           record {
             between = later-between e es (s .between) (λ j x y. (let z : _≡_ {A = ℕ} 0 1 = cc in absurd (omega arith)));
@@ -90,16 +90,16 @@ place-listed test none (e ∷ es) n zero t =
     let here : n + 0 ≡ n = omega arith in
     rw t (omega (arith, ap (λ (k : ℕ). matches k n) here, matches-same n))
 place-listed test none (e ∷ es) n (suc m) t =
-    go (test (deedAt (e ∷ es) 0)) (ap (λ (k : ℕ). copies k (placesWhere test (suc n) es)) next) (place-listed test none es (suc n) m t)
+    by-cases (test (deedAt (e ∷ es) 0)) (ap (λ (k : ℕ). copies k (placesWhere test (suc n) es)) next) (place-listed test none es (suc n) m t)
   where
     next : suc n + m ≡ n + suc m
     next = omega arith
 
-    go : (b : Bool) → copies (suc n + m) (placesWhere test (suc n) es) ≡ copies (n + suc m) (placesWhere test (suc n) es)
+    by-cases : (b : Bool) → copies (suc n + m) (placesWhere test (suc n) es) ≡ copies (n + suc m) (placesWhere test (suc n) es)
         → 1 ≤ copies (suc n + m) (placesWhere test (suc n) es)
         → 1 ≤ copies (n + suc m) (cond b (n ∷ placesWhere test (suc n) es) (placesWhere test (suc n) es))
-    go true q ih = omega arith
-    go false q ih = omega arith
+    by-cases true q ih = omega arith
+    by-cases false q ih = omega arith
 
 pub place-among : (test : Deed → Bool) → test nothing ≡ false → (es : List Event) (places : List ℕ) → placesWhere test 0 es ≡ places → (m : ℕ)
     → test (deedAt es m) ≡ true → 1 ≤ copies m places
@@ -112,11 +112,11 @@ pub nowhere : (test : Deed → Bool) → test nothing ≡ false → (es : List E
 nowhere test none es q m t = omega (arith, place-among test none es [] q m t)
 
 listed-is : (m r : ℕ) → 1 ≤ matches m r → m ≡ r
-listed-is m r h = go (eqb m r) refl h
+listed-is m r h = by-cases (eqb m r) refl h
   where
-    go : (b : Bool) → eqb m r ≡ b → 1 ≤ oneIf b → m ≡ r
-    go true q h = eqb-true m r q
-    go false q h = absurd (omega arith)
+    by-cases : (b : Bool) → eqb m r ≡ b → 1 ≤ oneIf b → m ≡ r
+    by-cases true q h = eqb-true m r q
+    by-cases false q h = absurd (omega arith)
 
 pub only-at : (test : Deed → Bool) → test nothing ≡ false → (es : List Event) (r : ℕ) → placesWhere test 0 es ≡ r ∷ [] → (m : ℕ)
     → test (deedAt es m) ≡ true → m ≡ r
@@ -124,11 +124,11 @@ only-at test none es r q m t = listed-is m r (omega (arith, place-among test non
 
 pub one-of-two : (P : ℕ → Type 0) (test : Deed → Bool) → test nothing ≡ false → (es : List Event) (r r′ : ℕ) → placesWhere test 0 es ≡ r ∷ r′ ∷ []
     → P r → P r′ → (m : ℕ) → test (deedAt es m) ≡ true → P m
-one-of-two P test none es r r′ q p p′ m t = go (decLe 1 (matches m r))
+one-of-two P test none es r r′ q p p′ m t = by-cases (decLe 1 (matches m r))
   where
-    go : Dec (1 ≤ matches m r) → P m
-    go (yes h) = subst P (sym (listed-is m r h)) p
-    go (no h) = subst P (sym (listed-is m r′ (omega (arith, place-among test none es (r ∷ r′ ∷ []) q m t)))) p′
+    by-cases : Dec (1 ≤ matches m r) → P m
+    by-cases (yes h) = subst P (sym (listed-is m r h)) p
+    by-cases (no h) = subst P (sym (listed-is m r′ (omega (arith, place-among test none es (r ∷ r′ ∷ []) q m t)))) p′
 
 abbrev pub isTakeOf : ℕ → Deed → Bool
 isTakeOf s (takes d c p session) = eqb s session

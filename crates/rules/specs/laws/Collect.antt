@@ -68,16 +68,16 @@ going-free S k [] hS h = h
 going-free S k (x ∷ w) hS h = omega arith
 
 pub begin-keeps : (S : ℕ) (D : Desk) → 1 ≤ S → Orderly S D → BeginKeeps S D (begin D)
-begin-keeps S D hS ok = go (D .tested) refl (ok .going)
+begin-keeps S D hS ok = by-cases (D .tested) refl (ok .going)
   where
-    go : (t : List TestedPlace) → D .tested ≡ t → Scanning S (D .scanned) t → BeginKeeps S D (beginAt t D)
-    go [] e g = record {
+    by-cases : (t : List TestedPlace) → D .tested ≡ t → Scanning S (D .scanned) t → BeginKeeps S D (beginAt t D)
+    by-cases [] e g = record {
       total = let le = ap length e in let lm = length-map (D .waiting) unmarked in omega arith;
       copy = λ s. (let be = ap (testedCopies s) e in let bf = tested-copies-begin s (D .waiting) in omega arith);
       ready = refl;
       going = going-free S (D .scanned) (D .waiting) hS g;
     }
-    go (p ∷ ps) e g = record { total = refl; copy = λ s. refl; ready = refl; going = ok .going }
+    by-cases (p ∷ ps) e g = record { total = refl; copy = λ s. refl; ready = refl; going = ok .going }
 
 -- (b) and (c) change no count.
 pub record ScanKeeps (S : ℕ) (A X : Desk) : Type 0 where
@@ -138,11 +138,11 @@ first-leaves-copies s (x ∷ r) h = omega arith
 
 first-leaves-length : (r : List ℕ) → copies 0 r ≡ 0 → length (drop 1 r) + oneIf (isSession (getD r 0 0)) ≡ length r
 first-leaves-length [] h = refl
-first-leaves-length (x ∷ r) h = go (eqb x 0) refl
+first-leaves-length (x ∷ r) h = by-cases (eqb x 0) refl
   where
-    go : (b : Bool) → eqb x 0 ≡ b → length r + oneIf (not b) ≡ suc (length r)
-    go true q = let x0 : x ≡ 0 = eqb-true x 0 q in absurd (omega (arith, rw x0 at h))
-    go false q = omega arith
+    by-cases : (b : Bool) → eqb x 0 ≡ b → length r + oneIf (not b) ≡ suc (length r)
+    by-cases true q = let x0 : x ≡ 0 = eqb-true x 0 q in absurd (omega (arith, rw x0 at h))
+    by-cases false q = omega arith
 
 pub collect-orderly : (S : ℕ) (shown : List ℕ) (D : Desk) → 1 ≤ S → length shown ≡ S → Orderly S D → Orderly S (collect S shown D .after)
 collect-orderly S shown D hS hl ok =

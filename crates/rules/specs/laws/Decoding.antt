@@ -14,6 +14,7 @@ use Rattle.rules.specs.Steps.{inRange}
 use Rattle.rules.specs.Table.{bitValue, bitsOfWord, bitsOfWords, decode, decodeDesk, encode, encodeDesk, every, everyRecord, hallIn, joined}
 use Rattle.rules.specs.Table.{marksOf, need, ones, pieces, placesOf, recordSound, recordWidth, recordsIn, scanSound, sessionsOf, sound}
 use Rattle.rules.specs.Table.{wordOfBits, wordsOfBits}
+use Rattle.rules.specs.laws.Bools.{and-left, and-right}
 use Rattle.rules.specs.laws.Effect.{in-range}
 
 -- bits and words
@@ -26,62 +27,54 @@ length-bits : (n w : ℕ) → length (bitsOfWord n w) ≡ n
 length-bits zero w = refl
 length-bits (suc n) w = ap suc (length-bits n (w / 2))
 
-pub length-unwords : (ws : List ℕ) → length (bitsOfWords ws) ≡ length ws * 16
-length-unwords [] = refl
-length-unwords (w ∷ ws) = omega (arith, length-append (bitsOfWord 16 w) (bitsOfWords ws), length-bits 16 w, length-unwords ws)
+pub length-bits-of-words : (ws : List ℕ) → length (bitsOfWords ws) ≡ length ws * 16
+length-bits-of-words [] = refl
+length-bits-of-words (w ∷ ws) = omega (arith, length-append (bitsOfWord 16 w) (bitsOfWords ws), length-bits 16 w, length-bits-of-words ws)
 
 word-bits : (n w : ℕ) → w < 2 ^ n → wordOfBits (bitsOfWord n w) ≡ w
 word-bits zero w h = omega arith
-word-bits (suc n) w h = go (eqb (w % 2) 1) refl (word-bits n (w / 2) (omega arith))
+word-bits (suc n) w h = by-cases (eqb (w % 2) 1) refl (word-bits n (w / 2) (omega arith))
   where
-    go : (b : Bool) → eqb (w % 2) 1 ≡ b → wordOfBits (bitsOfWord n (w / 2)) ≡ w / 2 → bitValue b + 2 * wordOfBits (bitsOfWord n (w / 2)) ≡ w
-    go true q e = omega (arith, eqb-true (w % 2) 1 q)
-    go false q e = omega (arith, eqb-false (w % 2) 1 q)
+    by-cases : (b : Bool) → eqb (w % 2) 1 ≡ b → wordOfBits (bitsOfWord n (w / 2)) ≡ w / 2 → bitValue b + 2 * wordOfBits (bitsOfWord n (w / 2)) ≡ w
+    by-cases true q e = omega (arith, eqb-true (w % 2) 1 q)
+    by-cases false q e = omega (arith, eqb-false (w % 2) 1 q)
 
 abbrev Small : List ℕ → Type 0
 Small [] = Unit {0}
 Small (w ∷ ws) = (w < 65536) × Small ws
 
-words-unwords : (ws : List ℕ) → Small ws → wordsOfBits (length ws) (bitsOfWords ws) ≡ ws
-words-unwords [] h = refl
-words-unwords (w ∷ ws) h =
-    λ i. (ap wordOfBits (take-at (bitsOfWord 16 w) (bitsOfWords ws) 16 (length-bits 16 w)) ∙ word-bits 16 w (h .0)) i ∷ (ap (wordsOfBits (length ws)) (drop-at (bitsOfWord 16 w) (bitsOfWords ws) 16 (length-bits 16 w)) ∙ words-unwords ws (h .1)) i
+words-of-bits-of-words : (ws : List ℕ) → Small ws → wordsOfBits (length ws) (bitsOfWords ws) ≡ ws
+words-of-bits-of-words [] h = refl
+words-of-bits-of-words (w ∷ ws) h =
+    λ i. (ap wordOfBits (take-at (bitsOfWord 16 w) (bitsOfWords ws) 16 (length-bits 16 w)) ∙ word-bits 16 w (h .0)) i ∷ (ap (wordsOfBits (length ws)) (drop-at (bitsOfWord 16 w) (bitsOfWords ws) 16 (length-bits 16 w)) ∙ words-of-bits-of-words ws (h .1)) i
 
 -- places
-sessions-join : (xs : List ℕ) (bs : List Bool) → sessionsOf (placesOf xs bs) ≡ xs
-sessions-join [] bs = refl
-sessions-join (x ∷ xs) [] = ap {B = List ℕ} (λ r. x ∷ r) (sessions-join xs [])
-sessions-join (x ∷ xs) (true ∷ bs) = ap {B = List ℕ} (λ r. x ∷ r) (sessions-join xs bs)
-sessions-join (x ∷ xs) (false ∷ bs) = ap {B = List ℕ} (λ r. x ∷ r) (sessions-join xs bs)
+sessions-of-places : (xs : List ℕ) (bs : List Bool) → sessionsOf (placesOf xs bs) ≡ xs
+sessions-of-places [] bs = refl
+sessions-of-places (x ∷ xs) [] = ap {B = List ℕ} (λ r. x ∷ r) (sessions-of-places xs [])
+sessions-of-places (x ∷ xs) (true ∷ bs) = ap {B = List ℕ} (λ r. x ∷ r) (sessions-of-places xs bs)
+sessions-of-places (x ∷ xs) (false ∷ bs) = ap {B = List ℕ} (λ r. x ∷ r) (sessions-of-places xs bs)
 
-pub flags-join : (xs : List ℕ) (bs : List Bool) → length xs ≡ length bs → marksOf (placesOf xs bs) ≡ bs
-flags-join [] [] h = refl
-flags-join [] (b ∷ bs) h = absurd (omega arith)
-flags-join (x ∷ xs) [] h = absurd (omega arith)
-flags-join (x ∷ xs) (true ∷ bs) h = ap {B = List Bool} (λ r. true ∷ r) (flags-join xs bs (omega arith))
-flags-join (x ∷ xs) (false ∷ bs) h = ap {B = List Bool} (λ r. false ∷ r) (flags-join xs bs (omega arith))
+pub marks-of-places : (xs : List ℕ) (bs : List Bool) → length xs ≡ length bs → marksOf (placesOf xs bs) ≡ bs
+marks-of-places [] [] h = refl
+marks-of-places [] (b ∷ bs) h = absurd (omega arith)
+marks-of-places (x ∷ xs) [] h = absurd (omega arith)
+marks-of-places (x ∷ xs) (true ∷ bs) h = ap {B = List Bool} (λ r. true ∷ r) (marks-of-places xs bs (omega arith))
+marks-of-places (x ∷ xs) (false ∷ bs) h = ap {B = List Bool} (λ r. false ∷ r) (marks-of-places xs bs (omega arith))
 
-pub length-join : (xs : List ℕ) (bs : List Bool) → length (placesOf xs bs) ≡ length xs
-length-join [] bs = refl
-length-join (x ∷ xs) [] = ap suc (length-join xs [])
-length-join (x ∷ xs) (b ∷ bs) = ap suc (length-join xs bs)
+pub length-places : (xs : List ℕ) (bs : List Bool) → length (placesOf xs bs) ≡ length xs
+length-places [] bs = refl
+length-places (x ∷ xs) [] = ap suc (length-places xs [])
+length-places (x ∷ xs) (b ∷ bs) = ap suc (length-places xs bs)
 
 zeros : (xs : List ℕ) → every (λ x. eqb x 0) xs ≡ true → xs ≡ replicate (length xs) 0
 zeros [] h = refl
-zeros (x ∷ xs) h = go (eqb x 0) refl h (zeros xs)
+zeros (x ∷ xs) h = by-cases (eqb x 0) refl h (zeros xs)
   where
-    go : (b : Bool) → eqb x 0 ≡ b → b && every (λ x. eqb x 0) xs ≡ true → (every (λ x. eqb x 0) xs ≡ true → xs ≡ replicate (length xs) 0)
+    by-cases : (b : Bool) → eqb x 0 ≡ b → b && every (λ x. eqb x 0) xs ≡ true → (every (λ x. eqb x 0) xs ≡ true → xs ≡ replicate (length xs) 0)
         → _≡_ {A = List ℕ} (x ∷ xs) (0 ∷ replicate (length xs) 0)
-    go true q e ih = λ i. eqb-true x 0 q i ∷ ih e i
-    go false q e ih = let z : _≡_ {A = ℕ} 0 1 = cc in absurd (omega arith)
-
-pub and-1 : (a b : Bool) → a && b ≡ true → a ≡ true
-and-1 true b h = refl
-and-1 false b h = h
-
-pub and-2 : (a b : Bool) → a && b ≡ true → b ≡ true
-and-2 true b h = h
-and-2 false b h = let z : _≡_ {A = ℕ} 0 1 = cc in absurd (omega arith)
+    by-cases true q e ih = λ i. eqb-true x 0 q i ∷ ih e i
+    by-cases false q e ih = let z : _≡_ {A = ℕ} 0 1 = cc in absurd (omega arith)
 
 -- A desk's record, in its parts: a ready, b tested and c waiting sessions on the list l, and the 128 bits u.
 module _ (S a b c : ℕ) (l : List ℕ) (u : List Bool) (hl : length l ≡ 2 * S) (hu : length u ≡ 128) (hS : S ≤ 64) (h : a + b + c ≤ 2 * S) where
@@ -94,52 +87,52 @@ module _ (S a b c : ℕ) (l : List ℕ) (u : List Bool) (hl : length l ≡ 2 * S
   abbrev wd : List ℕ
   wd = take c (drop (a + b) l)
 
-  pub part-a : length rd ≡ a
-  part-a = length-take-le a l (omega arith)
+  pub ready-length : length rd ≡ a
+  ready-length = length-take-le a l (omega arith)
 
-  pub part-b : length td ≡ b
-  part-b = length-join (take b (drop a l)) (take b u) ∙ length-take-le b (drop a l) (omega (arith, length-drop a l))
+  pub tested-length : length td ≡ b
+  tested-length = length-places (take b (drop a l)) (take b u) ∙ length-take-le b (drop a l) (omega (arith, length-drop a l))
 
-  pub part-c : length wd ≡ c
-  part-c = length-take-le c (drop (a + b) l) (omega (arith, length-drop (a + b) l))
+  pub waiting-length : length wd ≡ c
+  waiting-length = length-take-le c (drop (a + b) l) (omega (arith, length-drop (a + b) l))
 
-  part-u : ones (drop b u) ≡ 0 → marksOf td ++ replicate (128 - length td) false ≡ u
-  part-u e =
+  marks-again : ones (drop b u) ≡ 0 → marksOf td ++ replicate (128 - length td) false ≡ u
+  marks-again e =
       let f =
-      flags-join (take b (drop a l)) (take b u)
+      marks-of-places (take b (drop a l)) (take b u)
       (omega (arith, length-take-le b (drop a l) (omega (arith, length-drop a l)), length-take-le b u (omega arith))) in
-      let n : length (drop b u) ≡ 128 - length td = omega (arith, length-drop b u, part-b) in
+      let n : length (drop b u) ≡ 128 - length td = omega (arith, length-drop b u, tested-length) in
       ap₂ {C = List Bool} (λ x y. x ++ y) f (ap (λ (m : ℕ). replicate m false) (sym n) ∙ sym (every-one (drop b u) e)) ∙ take-append-drop b u
 
   pub list-parts : rd ++ (sessionsOf td ++ wd) ≡ take (a + b + c) l
   list-parts =
-      ap (λ (x : List ℕ). rd ++ (x ++ wd)) (sessions-join (take b (drop a l)) (take b u))
+      ap (λ (x : List ℕ). rd ++ (x ++ wd)) (sessions-of-places (take b (drop a l)) (take b u))
       ∙ sym (take-add (a + b) c l ∙ ap (λ (x : List ℕ). x ++ wd) (take-add a b l) ∙ append-assoc (take a l) (take b (drop a l)) wd)
 
-  part-l : every (λ x. eqb x 0) (drop (a + b + c) l) ≡ true
+  list-again : every (λ x. eqb x 0) (drop (a + b + c) l) ≡ true
       → (rd ++ (sessionsOf td ++ wd)) ++ replicate (2 * S - length (rd ++ (sessionsOf td ++ wd))) 0 ≡ l
-  part-l e =
+  list-again e =
       let n : length (drop (a + b + c) l) ≡ 2 * S - length (rd ++ (sessionsOf td ++ wd)) =
       omega (arith, length-drop (a + b + c) l, ap length list-parts, length-take-le (a + b + c) l (omega arith)) in
       ap₂ {C = List ℕ} (λ x y. x ++ y) list-parts (ap (λ (m : ℕ). replicate {A = ℕ} m 0) (sym n) ∙ sym (zeros (drop (a + b + c) l) e))
       ∙ take-append-drop (a + b + c) l
 
-pub recode : (S o k a b c m0 m1 m2 m3 m4 m5 m6 m7 : ℕ) (l : List ℕ) → length l ≡ 2 * S → S ≤ 64 → Small (m0 ∷ m1 ∷ m2 ∷ m3 ∷ m4 ∷ m5 ∷ m6 ∷ m7 ∷ [])
+pub record-encoded-again : (S o k a b c m0 m1 m2 m3 m4 m5 m6 m7 : ℕ) (l : List ℕ) → length l ≡ 2 * S → S ≤ 64 → Small (m0 ∷ m1 ∷ m2 ∷ m3 ∷ m4 ∷ m5 ∷ m6 ∷ m7 ∷ [])
     → recordSound S (o ∷ k ∷ a ∷ b ∷ c ∷ m0 ∷ m1 ∷ m2 ∷ m3 ∷ m4 ∷ m5 ∷ m6 ∷ m7 ∷ l) ≡ true
     → encodeDesk S (decodeDesk (o ∷ k ∷ a ∷ b ∷ c ∷ m0 ∷ m1 ∷ m2 ∷ m3 ∷ m4 ∷ m5 ∷ m6 ∷ m7 ∷ l)) ≡ o ∷ k ∷ a ∷ b ∷ c ∷ m0 ∷ m1 ∷ m2 ∷ m3 ∷ m4 ∷ m5 ∷ m6 ∷ m7 ∷ l
 unfolding encodeDesk decodeDesk recordSound
-recode S o k a b c m0 m1 m2 m3 m4 m5 m6 m7 l hl hS sm h =
+record-encoded-again S o k a b c m0 m1 m2 m3 m4 m5 m6 m7 l hl hS sm h =
     let ws : List ℕ = m0 ∷ m1 ∷ m2 ∷ m3 ∷ m4 ∷ m5 ∷ m6 ∷ m7 ∷ [] in
-    let h0 : a + b + c ≤ 2 * S = leb-true (a + b + c) (2 * S) (and-1 (leb (a + b + c) (2 * S)) (n1 ws) h) in
-    let h1 : n1 ws ≡ true = and-2 (leb (a + b + c) (2 * S)) (n1 ws) h in
-    let h2 : n2 ws ≡ true = and-2 (every (λ x. not (eqb x 0)) (take (a + b + c) l)) (n2 ws) h1 in
-    let hz : every (λ x. eqb x 0) (drop (a + b + c) l) ≡ true = and-1 (every (λ x. eqb x 0) (drop (a + b + c) l)) (n3 ws) h2 in
-    let h3 : n3 ws ≡ true = and-2 (every (λ x. eqb x 0) (drop (a + b + c) l)) (n3 ws) h2 in
+    let h0 : a + b + c ≤ 2 * S = leb-true (a + b + c) (2 * S) (and-left (leb (a + b + c) (2 * S)) (n1 ws) h) in
+    let h1 : n1 ws ≡ true = and-right (leb (a + b + c) (2 * S)) (n1 ws) h in
+    let h2 : n2 ws ≡ true = and-right (every (λ x. not (eqb x 0)) (take (a + b + c) l)) (n2 ws) h1 in
+    let hz : every (λ x. eqb x 0) (drop (a + b + c) l) ≡ true = and-left (every (λ x. eqb x 0) (drop (a + b + c) l)) (n3 ws) h2 in
+    let h3 : n3 ws ≡ true = and-right (every (λ x. eqb x 0) (drop (a + b + c) l)) (n3 ws) h2 in
     let ho : ones (drop b (bitsOfWords ws)) ≡ 0 =
-    eqb-true (ones (drop b (bitsOfWords ws))) 0 (and-1 (eqb (ones (drop b (bitsOfWords ws))) 0) (n4 ws) h3) in
-    let hu : length (bitsOfWords ws) ≡ 128 = length-unwords ws in
-    let q : wordsOfBits 8 (bitsOfWords ws) ≡ ws = words-unwords ws sm in
-    (λ i. o ∷ k ∷ part-a S a b c l (bitsOfWords ws) hl hu hS h0 i ∷ part-b S a b c l (bitsOfWords ws) hl hu hS h0 i ∷ part-c S a b c l (bitsOfWords ws) hl hu hS h0 i ∷ (wordsOfBits 8 (part-u S a b c l (bitsOfWords ws) hl hu hS h0 ho i) ++ part-l S a b c l (bitsOfWords ws) hl hu hS h0 hz i))
+    eqb-true (ones (drop b (bitsOfWords ws))) 0 (and-left (eqb (ones (drop b (bitsOfWords ws))) 0) (n4 ws) h3) in
+    let hu : length (bitsOfWords ws) ≡ 128 = length-bits-of-words ws in
+    let q : wordsOfBits 8 (bitsOfWords ws) ≡ ws = words-of-bits-of-words ws sm in
+    (λ i. o ∷ k ∷ ready-length S a b c l (bitsOfWords ws) hl hu hS h0 i ∷ tested-length S a b c l (bitsOfWords ws) hl hu hS h0 i ∷ waiting-length S a b c l (bitsOfWords ws) hl hu hS h0 i ∷ (wordsOfBits 8 (marks-again S a b c l (bitsOfWords ws) hl hu hS h0 ho i) ++ list-again S a b c l (bitsOfWords ws) hl hu hS h0 hz i))
     ∙ ap {B = List ℕ} (λ x. o ∷ k ∷ a ∷ b ∷ c ∷ (x ++ l)) q
   where
     n4 : List ℕ → Bool
@@ -162,12 +155,12 @@ parts r h =
     (drop-cons r 1 0 (omega arith) ∙ ap {B = List ℕ} (λ x. getD r 1 0 ∷ x) (drop-cons r 2 0 (omega arith) ∙ ap {B = List ℕ} (λ x. getD r 2 0 ∷ x) (drop-cons r 3 0 (omega arith) ∙ ap {B = List ℕ} (λ x. getD r 3 0 ∷ x) (drop-cons r 4 0 (omega arith) ∙ ap {B = List ℕ} (λ x. getD r 4 0 ∷ x) (drop-cons r 5 0 (omega arith) ∙ ap {B = List ℕ} (λ x. getD r 5 0 ∷ x) (drop-cons r 6 0 (omega arith) ∙ ap {B = List ℕ} (λ x. getD r 6 0 ∷ x) (drop-cons r 7 0 (omega arith) ∙ ap {B = List ℕ} (λ x. getD r 7 0 ∷ x) (drop-cons r 8 0 (omega arith) ∙ ap {B = List ℕ} (λ x. getD r 8 0 ∷ x) (drop-cons r 9 0 (omega arith) ∙ ap {B = List ℕ} (λ x. getD r 9 0 ∷ x) (drop-cons r 10 0 (omega arith) ∙ ap {B = List ℕ} (λ x. getD r 10 0 ∷ x) (drop-cons r 11 0 (omega arith) ∙ ap {B = List ℕ} (λ x. getD r 11 0 ∷ x) (drop-cons r 12 0 (omega arith)))))))))))))
 
 -- Any record of 16-bit words that passes the test.
-pub recode-any : (S : ℕ) (r : List ℕ) → length r ≡ 13 + 2 * S → S ≤ 64 → ((i : ℕ) → getD r i 0 < 65536) → recordSound S r ≡ true
+pub record-again : (S : ℕ) (r : List ℕ) → length r ≡ 13 + 2 * S → S ≤ 64 → ((i : ℕ) → getD r i 0 < 65536) → recordSound S r ≡ true
     → encodeDesk S (decodeDesk r) ≡ r
-recode-any S r hl hS sm h =
+record-again S r hl hS sm h =
     let p = parts r (omega arith) in
     subst (λ (x : List ℕ). encodeDesk S (decodeDesk x) ≡ x) (sym p)
-    (recode S (getD r 0 0) (getD r 1 0) (getD r 2 0) (getD r 3 0) (getD r 4 0) (getD r 5 0) (getD r 6 0) (getD r 7 0) (getD r 8 0) (getD r 9 0) (getD r 10 0) (getD r 11 0) (getD r 12 0) (drop 13 r) (omega (arith, length-drop 13 r)) hS (sm 5, (sm 6, (sm 7, (sm 8, (sm 9, (sm 10, (sm 11, (sm 12, tt)))))))) (subst (λ (x : List ℕ). recordSound S x ≡ true) p h))
+    (record-encoded-again S (getD r 0 0) (getD r 1 0) (getD r 2 0) (getD r 3 0) (getD r 4 0) (getD r 5 0) (getD r 6 0) (getD r 7 0) (getD r 8 0) (getD r 9 0) (getD r 10 0) (getD r 11 0) (getD r 12 0) (drop 13 r) (omega (arith, length-drop 13 r)) hS (sm 5, (sm 6, (sm 7, (sm 8, (sm 9, (sm 10, (sm 11, (sm 12, tt)))))))) (subst (λ (x : List ℕ). recordSound S x ≡ true) p h))
 
 pub small-drop : (n : ℕ) (r : List ℕ) → ((i : ℕ) → getD r i 0 < 65536) → (i : ℕ) → getD (drop n r) i 0 < 65536
 small-drop n r h i = rw (getD-drop n r i 0) (h (n + i))
@@ -188,11 +181,11 @@ records-back S zero x hS hl sm h = ap (λ (m : ℕ). take m x) (nought (13 + 2 *
 records-back S (suc n) x hS hl sm h =
     let w : ℕ = 13 + 2 * S in
     let a =
-    recode-any S (take w x) (length-take-le w x (omega arith)) hS (small-take w x sm)
-    (and-1 (recordSound S (take w x)) (everyRecord (recordSound S) (pieces n w (drop w x))) h) in
+    record-again S (take w x) (length-take-le w x (omega arith)) hS (small-take w x sm)
+    (and-left (recordSound S (take w x)) (everyRecord (recordSound S) (pieces n w (drop w x))) h) in
     let b =
     records-back S n (drop w x) hS (omega (arith, length-drop w x)) (small-drop w x sm)
-    (and-2 (recordSound S (take w x)) (everyRecord (recordSound S) (pieces n w (drop w x))) h) in
+    (and-right (recordSound S (take w x)) (everyRecord (recordSound S) (pieces n w (drop w x))) h) in
     let c : w + n * w ≡ suc n * w = omega arith in
     ap₂ {C = List ℕ} (λ y z. y ++ z) a b ∙ sym (take-add w (n * w) x) ∙ ap (λ (m : ℕ). take m x) c
 
@@ -209,12 +202,12 @@ pub same-table : (t : List ℕ) → ((i : ℕ) → getD t i 0 < 65536) → sound
 unfolding sound
 same-table t sm h =
     let H : Hall = hallIn t in
-    let h1 = and-2 (inRange (H .desks) 16) (s1 H) h in
-    let h2 = and-2 (inRange (H .screens) 4) (s2 H) h1 in
-    let h3 = and-2 (inRange (H .positions) 64) (s3 H) h2 in
-    let ra = in-range (H .desks) 16 (and-1 (inRange (H .desks) 16) (s1 H) h) in
-    let rb = in-range (H .screens) 4 (and-1 (inRange (H .screens) 4) (s2 H) h1) in
-    let hn : need H ≤ length t = leb-true (need H) (length t) (and-1 (leb (need H) (length t)) (s4 H) h3) in
+    let h1 = and-right (inRange (H .desks) 16) (s1 H) h in
+    let h2 = and-right (inRange (H .screens) 4) (s2 H) h1 in
+    let h3 = and-right (inRange (H .positions) 64) (s3 H) h2 in
+    let ra = in-range (H .desks) 16 (and-left (inRange (H .desks) 16) (s1 H) h) in
+    let rb = in-range (H .screens) 4 (and-left (inRange (H .screens) 4) (s2 H) h1) in
+    let hn : need H ≤ length t = leb-true (need H) (length t) (and-left (leb (need H) (length t)) (s4 H) h3) in
     let hS : allScreens H ≤ 64 = mul-le-mul (ra .1) (rb .1) in
     let x : List ℕ = drop (allScreens H) (drop (H .positions) (drop 3 t)) in
     let lx : length x ≡ length t - 3 - H .positions - allScreens H =
@@ -222,7 +215,7 @@ same-table t sm h =
     let fb =
     records-back (allScreens H) (H .desks) x hS (omega arith)
     (small-drop (allScreens H) (drop (H .positions) (drop 3 t)) (small-drop (H .positions) (drop 3 t) (small-drop 3 t sm)))
-    (and-2 (leb (need H) (length t)) (s4 H) h3) in
+    (and-right (leb (need H) (length t)) (s4 H) h3) in
     let dn : drop (need H) t ≡ drop (H .desks * recordWidth H) x =
     sym
     (drop-drop (H .desks * recordWidth H) (allScreens H) (drop (H .positions) (drop 3 t)) ∙ drop-drop (allScreens H + H .desks * recordWidth H) (H .positions) (drop 3 t) ∙ drop-drop (H .positions + (allScreens H + H .desks * recordWidth H)) 3 t) in

@@ -19,13 +19,15 @@ use Rattle.rules.specs.Steps.{Call, Collect, Done, Drop, Retire, Swap, T
 use Rattle.rules.specs.Table.{TableDone, decode, decodeDesk, encodeDesk, endTable, hallIn, listOf, listPlace, markWords, marksOf, need}
 use Rattle.rules.specs.Table.{openQuestions, openedTable, positionWord, putRecord, recordOf, recordSound, recordStart, recordWidth, runTable}
 use Rattle.rules.specs.Table.{screenWord, sessionsOf, sound, stepTable, usedIn, waitingPlace, wordsOfBits, written}
-use Rattle.rules.specs.laws.Decoding.{recode-any, small-drop, small-take}
+use Rattle.rules.specs.laws.Decoding.{record-again, small-drop, small-take}
+use Rattle.rules.specs.laws.Fresh.{get-same}
 use Rattle.rules.specs.laws.Links.{desk-fact, owed-collect, retire-facts, retire-room-fact, swap-facts}
 use Rattle.rules.specs.laws.Parts.{get-mid}
 use Rattle.rules.specs.laws.Sound.{Sound, collect-sound, length-list, retire-sound}
 use Rattle.rules.specs.laws.SoundTables.{desk-sound, encoded, known-opens, valid}
+use Rattle.rules.specs.laws.TableHistories.{counts-encoded}
 use Rattle.rules.specs.laws.TableSteps.{Known, accepted-step, asked, desk-word, known, owed-word, record-sound, refused-step}
-use Rattle.rules.specs.laws.Tables.{Opens, Valid, hall-opens, is-sound, length-encoded, some-screens, sound-table, valid-step}
+use Rattle.rules.specs.laws.Tables.{Opens, Valid, encode-is-sound, hall-opens, length-encoded, some-screens, sound-table, valid-step}
 use Rattle.rules.specs.laws.Words16.{by-open, by-step, first-no-is-asked, open-length, step-length, step-refused}
 
 -- ---- One record replaced: the words outside it, and those inside.
@@ -56,25 +58,20 @@ module _ (t w : List ℕ) (a n : ℕ) (fits : a + n ≤ length t) (wide : length
 
   -- the same everywhere, where the words inside are
   put-same : (i : ℕ) → ((j : ℕ) → j < n → a + j ≡ i → getD w j 0 ≡ getD t i 0) → getD put i 0 ≡ getD t i 0
-  put-same i h = go (decLt i a) (decLt i (a + n))
+  put-same i h = by-cases (decLt i a) (decLt i (a + n))
     where
-      go : Dec (i < a) → Dec (i < a + n) → getD put i 0 ≡ getD t i 0
-      go (yes l) m = put-before i l
-      go (no l) (yes m) =
+      by-cases : Dec (i < a) → Dec (i < a + n) → getD put i 0 ≡ getD t i 0
+      by-cases (yes l) m = put-before i l
+      by-cases (no l) (yes m) =
           let e : a + (i - a) ≡ i = omega arith in
           ap (λ (k : ℕ). getD put k 0) (sym e) ∙ put-inside (i - a) (omega arith) ∙ h (i - a) (omega arith) e
-      go (no l) (no m) = put-after i (omega arith)
+      by-cases (no l) (no m) = put-after i (omega arith)
 
 -- ---- What a retire leaves of its record.
 get-behind : (a x y : List ℕ) (i : ℕ) → ((j : ℕ) → length a + j ≡ i → getD x j 0 ≡ getD y j 0) → getD (a ++ x) i 0 ≡ getD (a ++ y) i 0
 get-behind [] x y i h = h i (omega arith)
 get-behind (v ∷ a) x y zero h = refl
 get-behind (v ∷ a) x y (suc i) h = get-behind a x y i (λ j e. h j (omega arith))
-
-zero-anywhere : (n i : ℕ) → getD (replicate {A = ℕ} n 0) i 0 ≡ 0
-zero-anywhere zero i = refl
-zero-anywhere (suc n) zero = refl
-zero-anywhere (suc n) (suc i) = zero-anywhere n i
 
 -- one more session on the list, in the place of a zero
 list-longer : (l : List ℕ) (v n m i : ℕ) → (i ≡ length l → ⊥) → getD ((l ++ (v ∷ [])) ++ replicate n 0) i 0 ≡ getD (l ++ replicate m 0) i 0
@@ -83,7 +80,7 @@ list-longer l v n m i ne =
   where
     after : (j : ℕ) → length l + j ≡ i → getD (v ∷ replicate n 0) j 0 ≡ getD (replicate m 0) j 0
     after zero e = absurd (ne (omega arith))
-    after (suc j) e = zero-anywhere n j ∙ sym (zero-anywhere m (suc j))
+    after (suc j) e = get-same n j 0 ∙ sym (get-same m (suc j) 0)
 
 -- the words of a record, with the owed word, the count of waiting and the list changed
 words-kept : (o o′ k r t w w′ : ℕ) (m x y : List ℕ) (j : ℕ) → (j ≡ 0 → ⊥) → (j ≡ 4 → ⊥) → ((i : ℕ) → 5 + (length m + i) ≡ j → getD x i 0 ≡ getD y i 0)
@@ -113,10 +110,6 @@ retire-keeps S D j n0 n4 nl =
 owed-first : (S : ℕ) (D : Desk) → getD (encodeDesk S D) 0 0 ≡ D .owed
 unfolding encodeDesk
 owed-first S D = refl
-
-counts-first : (S : ℕ) (D : Desk) → usedIn (encodeDesk S D) ≡ usedPlaces D
-unfolding encodeDesk
-counts-first S D = refl
 
 or-no : (a b : Bool) → or a b ≡ false → (a ≡ false) × (b ≡ false)
 or-no true b e = let z : _≡_ {A = ℕ} 0 1 = cc in absurd (omega arith)
@@ -151,7 +144,7 @@ module _ (t : List ℕ) (small : Words16 t) (s : sound t ≡ true) where
 
     again : encodeDesk (allScreens (hallIn t)) (decodeDesk (recordOf (hallIn t) t d)) ≡ recordOf (hallIn t) t d
     again =
-        recode-any (allScreens (hallIn t)) (recordOf (hallIn t) t d) wide (k .most)
+        record-again (allScreens (hallIn t)) (recordOf (hallIn t) t d) wide (k .most)
         (small-take (recordWidth (hallIn t)) (drop (recordStart (hallIn t) d) t) (small-drop (recordStart (hallIn t) d) t small)) passes
 
     word-inside : (j : ℕ) → j < recordWidth (hallIn t)
@@ -173,7 +166,7 @@ module _ (t : List ℕ) (small : Words16 t) (s : sound t ≡ true) where
   written-keeps (Take d c p) e i q =
       getD-set-other t (screenWord (hallIn t) d c) i (getD t (positionWord p) 0) 0 (λ z. eqb-false i (screenWord (hallIn t) d c) q z)
   written-keeps (Drop d c) e i q = getD-set-other t (screenWord (hallIn t) d c) i 0 0 (λ z. eqb-false i (screenWord (hallIn t) d c) q z)
-  written-keeps (Swap d p new) e i q = go (eqb i (recordStart (hallIn t) d)) refl
+  written-keeps (Swap d p new) e i q = by-cases (eqb i (recordStart (hallIn t) d)) refl
     where
       facts : (1 ≤ d) × (d ≤ hallIn t .desks) × (1 ≤ p) × (deskOf (decode (hallIn t) t) d .owed ≡ 0)
       facts = swap-facts (hallIn t) (decode (hallIn t) t) (v .formed) d p new e
@@ -188,9 +181,9 @@ module _ (t : List ℕ) (small : Words16 t) (s : sound t ≡ true) where
       none true t0 z = eqb-true (getD t (positionWord p) 0) 0 t0
       none false t0 z = let o : _≡_ {A = ℕ} 0 1 = cc in absurd (omega arith)
 
-      go : (b : Bool) → eqb i (recordStart (hallIn t) d) ≡ b
+      by-cases : (b : Bool) → eqb i (recordStart (hallIn t) d) ≡ b
           → getD (set (set t (positionWord p) new) (recordStart (hallIn t) d) (getD t (positionWord p) 0)) i 0 ≡ getD t i 0
-      go true z =
+      by-cases true z =
           let is : i ≡ recordStart (hallIn t) d = eqb-true i (recordStart (hallIn t) d) z in
           let old : getD t (positionWord p) 0 ≡ 0 =
           none (eqb (getD t (positionWord p) 0) 0) refl (ap (λ (b : Bool). b && isSession (getD t (positionWord p) 0)) (sym z) ∙ parts .1) in
@@ -199,7 +192,7 @@ module _ (t : List ℕ) (small : Words16 t) (s : sound t ≡ true) where
           ∙ getD-set-same (set t (positionWord p) new) (recordStart (hallIn t) d) (getD t (positionWord p) 0) 0
           (omega (arith, fits d (facts .0, facts .1), length-set t (positionWord p) new))
           ∙ old ∙ sym owed ∙ ap (λ (n : ℕ). getD t n 0) (sym is)
-      go false z =
+      by-cases false z =
           getD-set-other (set t (positionWord p) new) (recordStart (hallIn t) d) i (getD t (positionWord p) 0) 0
           (λ y. eqb-false i (recordStart (hallIn t) d) z y)
           ∙ elsewhere
@@ -217,7 +210,7 @@ module _ (t : List ℕ) (small : Words16 t) (s : sound t ≡ true) where
       or-no (eqb i (recordStart (hallIn t) d + waitingPlace)) (eqb i (recordStart (hallIn t) d + (listPlace + usedIn (recordOf (hallIn t) t d))))
       (n1 .1) in
       let u : usedIn (recordOf (hallIn t) t d) ≡ usedPlaces (decodeDesk (recordOf (hallIn t) t d)) =
-      ap usedIn (sym (again d r)) ∙ counts-first (allScreens (hallIn t)) (decodeDesk (recordOf (hallIn t) t d)) in
+      ap usedIn (sym (again d r)) ∙ counts-encoded (allScreens (hallIn t)) (decodeDesk (recordOf (hallIn t) t d)) in
       let x0 = eqb-false i (recordStart (hallIn t) d) (n1 .0) in
       let x4 = eqb-false i (recordStart (hallIn t) d + waitingPlace) (n2 .0) in
       let xl = eqb-false i (recordStart (hallIn t) d + (listPlace + usedIn (recordOf (hallIn t) t d))) (n2 .1) in
@@ -254,7 +247,7 @@ module _ (t : List ℕ) (small : Words16 t) (s : sound t ≡ true) where
   written-sound : (c : Call) → asked t c ≡ 0 → sound (written t c) ≡ true
   written-sound c e =
       rw (encoded t c small s e)
-      (is-sound (hallIn t) ok (perform (hallIn t) (decode (hallIn t) t) c .after) (after-valid c e) (drop (need (hallIn t)) t))
+      (encode-is-sound (hallIn t) ok (perform (hallIn t) (decode (hallIn t) t) c .after) (after-valid c e) (drop (need (hallIn t)) t))
 
 -- ---- Every step.
 pub demand1 : (t : List ℕ) → Words16 t → (c : Call) → Demand1 t c
@@ -277,11 +270,11 @@ not-five H st (Retire d) e = omega (arith, first-no-is-asked (questions H st (Re
 not-five H st (Collect d) e = omega (arith, first-no-is-asked (questions H st (Collect d)) 4 e)
 
 never-five-step : (t : List ℕ) (c : Call) → sound t ≡ true → stepTable t c .answer .number ≡ 5 → ⊥
-never-five-step t c s e = go (asked t c) refl
+never-five-step t c s e = by-cases (asked t c) refl
   where
-    go : (m : ℕ) → asked t c ≡ m → ⊥
-    go zero a = omega (arith, ap (λ (r : TableDone). r .answer .number) (accepted-step t c s a))
-    go (suc m) a = not-five (hallIn t) (decode (hallIn t) t) c (omega (arith, ap (λ (r : TableDone). r .answer .number) (refused-step t c m s a)))
+    by-cases : (m : ℕ) → asked t c ≡ m → ⊥
+    by-cases zero a = omega (arith, ap (λ (r : TableDone). r .answer .number) (accepted-step t c s a))
+    by-cases (suc m) a = not-five (hallIn t) (decode (hallIn t) t) c (omega (arith, ap (λ (r : TableDone). r .answer .number) (refused-step t c m s a)))
 
 pub never-five : (cs : List Call) (t : List ℕ) → ((i : ℕ) → sound (endTable t (take i cs)) ≡ true) → (i : ℕ) → numberAt (runTable t cs) i ≡ 5 → ⊥
 never-five [] t s i e = omega arith

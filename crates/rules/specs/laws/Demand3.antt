@@ -65,7 +65,7 @@ module _ (H : Hall) (some : 1 ≤ allScreens H) (cs : List Call) (B : ℕ) (enou
       omega (arith, fresh-copies H d s)
 
   pub back-in-time : BackWithin B (run H (fresh H) cs)
-  back-in-time d s r h q hc unshown = go (decLt h r)
+  back-in-time d s r h q hc unshown = by-cases (decLt h r)
     where
       range : (1 ≤ d) × (d ≤ H .desks) × (s ≡ 0 → ⊥)
       range = subst (Range H) q (range-run H cs (fresh H) (fresh-formed H) r)
@@ -83,13 +83,13 @@ module _ (H : Hall) (some : 1 ≤ allScreens H) (cs : List Call) (B : ℕ) (enou
       collected : (n : ℕ) → collectsOf d (take n (run H (fresh H) cs)) ≡ collectsOf d (run H (fresh H) (take n cs))
       collected n = ap (collectsOf d) (run-take H n cs (fresh H))
 
-      go : Dec (h < r) → retirementsOf d s (take (suc r) (run H (fresh H) cs)) ≤ handBacksOf d s (take (suc h) (run H (fresh H) cs))
-      go (yes l) =
+      by-cases : Dec (h < r) → retirementsOf d s (take (suc r) (run H (fresh H) cs)) ≤ handBacksOf d s (take (suc h) (run H (fresh H) cs))
+      by-cases (yes l) =
           let e : suc h + (r - h) ≡ suc r = omega arith in
           let c = count-split isCollect d H (suc h) (r - h) cs (fresh H) in
           let c′ = ap (λ (m : ℕ). collectsOf d (run H (fresh H) (take m cs))) e in
           absurd (omega (arith, collected (suc h), collected (suc r)))
-      go (no l) =
+      by-cases (no l) =
           let e : suc r + (h - r) ≡ suc h = omega arith in
           let c = count-split isCollect d H (suc r) (h - r) cs (fresh H) in
           let c′ = ap (λ (m : ℕ). collectsOf d (run H (fresh H) (take m cs))) e in

@@ -11,6 +11,7 @@ use borrow.Author.Tests.{eqb-true, eqb-false, ltb-true, ltb-false, leb-true, not
 use Rattle.rules.specs.Hall.{Desk, Hall, State, allScreens, deskOf, emptyDesk, screenIndex, usedPlaces}
 use Rattle.rules.specs.History.{Deed, collects, deed, drops, handsBack, lacksRoom, nothing, own, retires, swaps, takes}
 use Rattle.rules.specs.Steps.{Call, Collect, Drop, Retire, Swap, Take, collect, decide, firstNo, inRange, owe, perform, questions, retire, step}
+use Rattle.rules.specs.laws.Bools.{and-true}
 
 pub record Formed (H : Hall) (st : State) : Type 0 where
   pub desks : length (st .desks) ≡ H .desks
@@ -49,40 +50,36 @@ same : (D : Desk) → Same D D
 same D = record { owed = D .owed; after = refl }
 
 pub in-range : (n m : ℕ) → inRange n m ≡ true → (1 ≤ n) × (n ≤ m)
-in-range n m h = go (leb 1 n) (leb n m) refl refl h
+in-range n m h = by-cases (leb 1 n) (leb n m) refl refl h
   where
-    go : (a b : Bool) → leb 1 n ≡ a → leb n m ≡ b → a && b ≡ true → (1 ≤ n) × (n ≤ m)
-    go true true p q e = (leb-true 1 n p, leb-true n m q)
-    go true false p q e = let z : _≡_ {A = ℕ} 0 1 = cc in absurd (omega arith)
-    go false b p q e = let z : _≡_ {A = ℕ} 0 1 = cc in absurd (omega arith)
+    by-cases : (a b : Bool) → leb 1 n ≡ a → leb n m ≡ b → a && b ≡ true → (1 ≤ n) × (n ≤ m)
+    by-cases true true p q e = (leb-true 1 n p, leb-true n m q)
+    by-cases true false p q e = let z : _≡_ {A = ℕ} 0 1 = cc in absurd (omega arith)
+    by-cases false b p q e = let z : _≡_ {A = ℕ} 0 1 = cc in absurd (omega arith)
 
 pub out-of-range : (n m : ℕ) → inRange n m ≡ false → (1 ≤ n) × (n ≤ m) → ⊥
 out-of-range n m e r =
-    let t : inRange n m ≡ true = and-yes (leb 1 n) (leb n m) (le-leb 1 n (r .0)) (le-leb n m (r .1)) in let z : _≡_ {A = ℕ} 0 1 = cc in omega arith
-  where
-    and-yes : (a b : Bool) → a ≡ true → b ≡ true → a && b ≡ true
-    and-yes true b p q = q
-    and-yes false b p q = p
+    let t : inRange n m ≡ true = and-true (leb 1 n) (leb n m) (le-leb 1 n (r .0)) (le-leb n m (r .1)) in let z : _≡_ {A = ℕ} 0 1 = cc in omega arith
 
-yes1 : (a : Bool) (n : ℕ) → cond a 0 (suc n) ≡ 0 → a ≡ true
-yes1 true n e = refl
-yes1 false n e = absurd (omega arith)
+one-question : (a : Bool) (n : ℕ) → cond a 0 (suc n) ≡ 0 → a ≡ true
+one-question true n e = refl
+one-question false n e = absurd (omega arith)
 
-pub yes3 : (a b c : Bool) → cond {A = ℕ} a (cond {A = ℕ} b (cond {A = ℕ} c 0 14) 13) 6 ≡ 0 → (a ≡ true) × (b ≡ true) × (c ≡ true)
-yes3 true true true e = (refl, refl, refl)
-yes3 true true false e = absurd (omega arith)
-yes3 true false c e = absurd (omega arith)
-yes3 false b c e = absurd (omega arith)
+pub retire-questions : (a b c : Bool) → cond {A = ℕ} a (cond {A = ℕ} b (cond {A = ℕ} c 0 14) 13) 6 ≡ 0 → (a ≡ true) × (b ≡ true) × (c ≡ true)
+retire-questions true true true e = (refl, refl, refl)
+retire-questions true true false e = absurd (omega arith)
+retire-questions true false c e = absurd (omega arith)
+retire-questions false b c e = absurd (omega arith)
 
-full3 : (a b c : Bool) → cond {A = ℕ} a (cond {A = ℕ} b (cond {A = ℕ} c 0 14) 13) 6 ≡ 14 → c ≡ false
-full3 true true true e = absurd (omega arith)
-full3 true true false e = refl
-full3 true false c e = absurd (omega arith)
-full3 false b c e = absurd (omega arith)
+retire-refused-full : (a b c : Bool) → cond {A = ℕ} a (cond {A = ℕ} b (cond {A = ℕ} c 0 14) 13) 6 ≡ 14 → c ≡ false
+retire-refused-full true true true e = absurd (omega arith)
+retire-refused-full true true false e = refl
+retire-refused-full true false c e = absurd (omega arith)
+retire-refused-full false b c e = absurd (omega arith)
 
-swap3 : (a b c : Bool) → cond {A = ℕ} a (cond {A = ℕ} b (cond {A = ℕ} c 0 12) 8) 6 ≡ 0 → a ≡ true
-swap3 true b c e = refl
-swap3 false b c e = absurd (omega arith)
+swap-desk-question : (a b c : Bool) → cond {A = ℕ} a (cond {A = ℕ} b (cond {A = ℕ} c 0 12) 8) 6 ≡ 0 → a ≡ true
+swap-desk-question true b c e = refl
+swap-desk-question false b c e = absurd (omega arith)
 
 module _ (H : Hall) (st : State) (d : ℕ) (formed : Formed H st) (hd : 1 ≤ d) where
   abbrev here : Desk
@@ -105,11 +102,11 @@ module _ (H : Hall) (st : State) (d : ℕ) (formed : Formed H st) (hd : 1 ≤ d)
   }
     where
       ys : (inRange d (H .desks) ≡ true) × (not (eqb (here .owed) 0) ≡ true) × (ltb (usedPlaces here) (2 * allScreens H) ≡ true)
-      ys = yes3 (inRange d (H .desks)) (not (eqb (here .owed) 0)) (ltb (usedPlaces here) (2 * allScreens H)) e
+      ys = retire-questions (inRange d (H .desks)) (not (eqb (here .owed) 0)) (ltb (usedPlaces here) (2 * allScreens H)) e
 
   full-own : firstNo (questions H st (Retire d)) ≡ 14 → LacksRoom (allScreens H) here here
   full-own e = record {
-    room = ltb-false _ _ (full3 (inRange d (H .desks)) (not (eqb (here .owed) 0)) (ltb (usedPlaces here) (2 * allScreens H)) e);
+    room = ltb-false _ _ (retire-refused-full (inRange d (H .desks)) (not (eqb (here .owed) 0)) (ltb (usedPlaces here) (2 * allScreens H)) e);
     after = refl;
   }
 
@@ -117,57 +114,57 @@ module _ (H : Hall) (st : State) (d : ℕ) (formed : Formed H st) (hd : 1 ≤ d)
       → Collects (allScreens H) (st .shown) v here (getD (set (st .desks) (d - 1) (collect (allScreens H) (st .shown) here .after)) (d - 1) emptyDesk)
   collect-own e v q = record {
     session = q;
-    after = own-record (collect (allScreens H) (st .shown) here .after) (in-range d (H .desks) (yes1 (inRange d (H .desks)) 5 e) .1);
+    after = own-record (collect (allScreens H) (st .shown) here .after) (in-range d (H .desks) (one-question (inRange d (H .desks)) 5 e) .1);
   }
 
   pub effect : (c : Call)
       → Effect (allScreens H) (st .shown) here (deskOf (step H st c .after) d) (own d (deed c (step H st c .answer .number) (step H st c .answer .session)))
-  effect (Take x c p) = go (firstNo (questions H st (Take x c p)))
+  effect (Take x c p) = by-cases (firstNo (questions H st (Take x c p)))
     where
       either : (b : Bool) (v : ℕ) → Effect (allScreens H) (st .shown) here here (cond b (takes x c p v) nothing)
       either true v = same here
       either false v = same here
 
-      go : (n : ℕ) → let r =
+      by-cases : (n : ℕ) → let r =
           decide n st (perform H st (Take x c p)) in Effect (allScreens H) (st .shown) here (deskOf (r .after) d)
           (own d (deed (Take x c p) (r .answer .number) (r .answer .session)))
-      go zero = either (eqb x d) (getD (st .held) (p - 1) 0)
-      go (suc n) = same here
-  effect (Drop x c) = go (firstNo (questions H st (Drop x c)))
+      by-cases zero = either (eqb x d) (getD (st .held) (p - 1) 0)
+      by-cases (suc n) = same here
+  effect (Drop x c) = by-cases (firstNo (questions H st (Drop x c)))
     where
       either : (b : Bool) → Effect (allScreens H) (st .shown) here here (cond b (drops x c) nothing)
       either true = same here
       either false = same here
 
-      go : (n : ℕ) → let r =
+      by-cases : (n : ℕ) → let r =
           decide n st (perform H st (Drop x c)) in Effect (allScreens H) (st .shown) here (deskOf (r .after) d)
           (own d (deed (Drop x c) (r .answer .number) (r .answer .session)))
-      go zero = either (eqb x d)
-      go (suc n) = same here
-  effect (Swap x p v) = go (firstNo (questions H st (Swap x p v))) refl
+      by-cases zero = either (eqb x d)
+      by-cases (suc n) = same here
+  effect (Swap x p v) = by-cases (firstNo (questions H st (Swap x p v))) refl
     where
-      go : (n : ℕ) → firstNo (questions H st (Swap x p v)) ≡ n → let r =
+      by-cases : (n : ℕ) → firstNo (questions H st (Swap x p v)) ≡ n → let r =
           decide n st (perform H st (Swap x p v)) in Effect (allScreens H) (st .shown) here (deskOf (r .after) d)
           (own d (deed (Swap x p v) (r .answer .number) (r .answer .session)))
-      go zero e = at (eqb x d) refl
+      by-cases zero e = at (eqb x d) refl
         where
           ok : (1 ≤ x) × (x ≤ H .desks)
-          ok = in-range x (H .desks) (swap3 (inRange x (H .desks)) (inRange p (H .positions)) (eqb (deskOf st x .owed) 0) e)
+          ok = in-range x (H .desks) (swap-desk-question (inRange x (H .desks)) (inRange p (H .positions)) (eqb (deskOf st x .owed) 0) e)
 
           at : (b : Bool) → eqb x d ≡ b
               → Effect (allScreens H) (st .shown) here (getD (set (st .desks) (x - 1) (owe (deskOf st x) (getD (st .held) (p - 1) 0))) (d - 1) emptyDesk) (cond b (swaps x p) nothing)
           at true q =
               let xd : x ≡ d = eqb-true x d q in rw xd (record { owed = getD (st .held) (p - 1) 0; after = own-record _ (omega (arith, ok .1)) })
           at false q = rw (other x _ (ok .0) (eqb-false x d q)) (same here)
-      go (suc n) e = same here
-  effect (Retire x) = go (firstNo (questions H st (Retire x))) refl
+      by-cases (suc n) e = same here
+  effect (Retire x) = by-cases (firstNo (questions H st (Retire x))) refl
     where
       accepted : (b : Bool) → eqb x d ≡ b → firstNo (questions H st (Retire x)) ≡ 0
           → Effect (allScreens H) (st .shown) here (getD (set (st .desks) (x - 1) (retire (deskOf st x))) (d - 1) emptyDesk) (cond b (retires x (deskOf st x .owed)) nothing)
       accepted true q e = let xd : x ≡ d = eqb-true x d q in rw xd (retire-own (rw xd at e))
       accepted false q e =
           rw
-          (other x _ (in-range x (H .desks) (yes3 (inRange x (H .desks)) (not (eqb (deskOf st x .owed) 0)) (ltb (usedPlaces (deskOf st x)) (2 * allScreens H)) e .0) .0) (eqb-false x d q))
+          (other x _ (in-range x (H .desks) (retire-questions (inRange x (H .desks)) (not (eqb (deskOf st x .owed) 0)) (ltb (usedPlaces (deskOf st x)) (2 * allScreens H)) e .0) .0) (eqb-false x d q))
           (same here)
 
       full : (b : Bool) → eqb x d ≡ b → firstNo (questions H st (Retire x)) ≡ 14
@@ -180,12 +177,12 @@ module _ (H : Hall) (st : State) (d : ℕ) (formed : Formed H st) (hd : 1 ≤ d)
       refused n true q e = full (eqb x d) refl (e ∙ eqb-true n 14 q)
       refused n false q e = same here
 
-      go : (n : ℕ) → firstNo (questions H st (Retire x)) ≡ n → let r =
+      by-cases : (n : ℕ) → firstNo (questions H st (Retire x)) ≡ n → let r =
           decide n st (perform H st (Retire x)) in Effect (allScreens H) (st .shown) here (deskOf (r .after) d)
           (own d (deed (Retire x) (r .answer .number) (r .answer .session)))
-      go zero e = accepted (eqb x d) refl e
-      go (suc n) e = refused (suc n) (eqb (suc n) 14) refl e
-  effect (Collect x) = go (firstNo (questions H st (Collect x))) refl
+      by-cases zero e = accepted (eqb x d) refl e
+      by-cases (suc n) e = refused (suc n) (eqb (suc n) 14) refl e
+  effect (Collect x) = by-cases (firstNo (questions H st (Collect x))) refl
     where
       v : ℕ
       v = collect (allScreens H) (st .shown) (deskOf st x) .session
@@ -195,7 +192,7 @@ module _ (H : Hall) (st : State) (d : ℕ) (formed : Formed H st) (hd : 1 ≤ d)
 
       far : (x ≡ d → ⊥) → firstNo (questions H st (Collect x)) ≡ 0 → Same here after
       far ne e =
-          rw (other x (collect (allScreens H) (st .shown) (deskOf st x) .after) (in-range x (H .desks) (yes1 (inRange x (H .desks)) 5 e) .0) ne)
+          rw (other x (collect (allScreens H) (st .shown) (deskOf st x) .after) (in-range x (H .desks) (one-question (inRange x (H .desks)) 5 e) .0) ne)
           (same here)
 
       near : x ≡ d → firstNo (questions H st (Collect x)) ≡ 0 → Collects (allScreens H) (st .shown) v here after
@@ -216,29 +213,29 @@ module _ (H : Hall) (st : State) (d : ℕ) (formed : Formed H st) (hd : 1 ≤ d)
       accepted true q e = empty (eqb x d) refl (eqb-true v 0 q) e
       accepted false q e = back (eqb x d) refl (eqb-false v 0 q) e
 
-      go : (n : ℕ) → firstNo (questions H st (Collect x)) ≡ n → let r =
+      by-cases : (n : ℕ) → firstNo (questions H st (Collect x)) ≡ n → let r =
           decide n st (perform H st (Collect x)) in Effect (allScreens H) (st .shown) here (deskOf (r .after) d)
           (own d (deed (Collect x) (r .answer .number) (r .answer .session)))
-      go zero e = accepted (eqb v 0) refl e
-      go (suc n) e = same here
+      by-cases zero e = accepted (eqb v 0) refl e
+      by-cases (suc n) e = same here
 
   -- the records stay as many, and the screens are what the calls and answers tell
   pub formed-step : (c : Call) → Formed H (step H st c .after)
-  formed-step c = go (firstNo (questions H st c)) c
+  formed-step c = by-cases (firstNo (questions H st c)) c
     where
-      go : (n : ℕ) (c : Call) → Formed H (decide n st (perform H st c) .after)
-      go zero (Take x c p) = record {
+      by-cases : (n : ℕ) (c : Call) → Formed H (decide n st (perform H st c) .after)
+      by-cases zero (Take x c p) = record {
         desks = formed .desks;
         screens = length-set (st .shown) (screenIndex H x c) (getD (st .held) (p - 1) 0) ∙ formed .screens;
       }
-      go zero (Drop x c) = record { desks = formed .desks; screens = length-set (st .shown) (screenIndex H x c) 0 ∙ formed .screens }
-      go zero (Swap x p v) = record {
+      by-cases zero (Drop x c) = record { desks = formed .desks; screens = length-set (st .shown) (screenIndex H x c) 0 ∙ formed .screens }
+      by-cases zero (Swap x p v) = record {
         desks = length-set (st .desks) (x - 1) (owe (deskOf st x) (getD (st .held) (p - 1) 0)) ∙ formed .desks;
         screens = formed .screens;
       }
-      go zero (Retire x) = record { desks = length-set (st .desks) (x - 1) (retire (deskOf st x)) ∙ formed .desks; screens = formed .screens }
-      go zero (Collect x) = record {
+      by-cases zero (Retire x) = record { desks = length-set (st .desks) (x - 1) (retire (deskOf st x)) ∙ formed .desks; screens = formed .screens }
+      by-cases zero (Collect x) = record {
         desks = length-set (st .desks) (x - 1) (collect (allScreens H) (st .shown) (deskOf st x) .after) ∙ formed .desks;
         screens = formed .screens;
       }
-      go (suc n) c = formed
+      by-cases (suc n) c = formed

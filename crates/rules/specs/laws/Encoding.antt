@@ -47,10 +47,10 @@ length-marks [] = refl
 length-marks (unmarked x ∷ ps) = ap suc (length-marks ps)
 length-marks (marked x ∷ ps) = ap suc (length-marks ps)
 
-pub places-again : (ps : List TestedPlace) → placesOf (sessionsOf ps) (marksOf ps) ≡ ps
-places-again [] = refl
-places-again (unmarked x ∷ ps) = ap {B = List TestedPlace} (λ r. unmarked x ∷ r) (places-again ps)
-places-again (marked x ∷ ps) = ap {B = List TestedPlace} (λ r. marked x ∷ r) (places-again ps)
+pub places-of-parts : (ps : List TestedPlace) → placesOf (sessionsOf ps) (marksOf ps) ≡ ps
+places-of-parts [] = refl
+places-of-parts (unmarked x ∷ ps) = ap {B = List TestedPlace} (λ r. unmarked x ∷ r) (places-of-parts ps)
+places-of-parts (marked x ∷ ps) = ap {B = List TestedPlace} (λ r. marked x ∷ r) (places-of-parts ps)
 
 pub ones-marks : (ps : List TestedPlace) → ones (marksOf ps) ≡ markCount ps
 ones-marks [] = refl
@@ -58,16 +58,16 @@ ones-marks (unmarked x ∷ ps) = omega (arith, ones-marks ps)
 ones-marks (marked x ∷ ps) = omega (arith, ones-marks ps)
 
 module _ {A : Type 0} (a b c z : List A) where
-  part-1 : take (length a) ((a ++ (b ++ c)) ++ z) ≡ a
-  part-1 = ap (take (length a)) (append-assoc a (b ++ c) z) ∙ take-append-seam a ((b ++ c) ++ z)
+  first-part : take (length a) ((a ++ (b ++ c)) ++ z) ≡ a
+  first-part = ap (take (length a)) (append-assoc a (b ++ c) z) ∙ take-append-seam a ((b ++ c) ++ z)
 
-  part-2 : (n : ℕ) → length b ≡ n → take n (drop (length a) ((a ++ (b ++ c)) ++ z)) ≡ b
-  part-2 n h =
+  second-part : (n : ℕ) → length b ≡ n → take n (drop (length a) ((a ++ (b ++ c)) ++ z)) ≡ b
+  second-part n h =
       ap (λ (l : List A). take n (drop (length a) l)) (append-assoc a (b ++ c) z) ∙ ap (take n) (drop-append-seam a ((b ++ c) ++ z))
       ∙ ap (take n) (append-assoc b c z) ∙ take-at b (c ++ z) n h
 
-  part-3 : (n : ℕ) → length b ≡ n → take (length c) (drop (length a + n) ((a ++ (b ++ c)) ++ z)) ≡ c
-  part-3 n h =
+  third-part : (n : ℕ) → length b ≡ n → take (length c) (drop (length a + n) ((a ++ (b ++ c)) ++ z)) ≡ c
+  third-part n h =
       ap (λ (l : List A). take (length c) (drop (length a + n) l)) (append-assoc a (b ++ c) z)
       ∙ ap (take (length c)) (drop-append-add a ((b ++ c) ++ z) n) ∙ ap (λ (l : List A). take (length c) (drop n l)) (append-assoc b c z)
       ∙ ap (take (length c)) (drop-at b (c ++ z) n h) ∙ take-append-seam c z
@@ -86,16 +86,16 @@ desk-read-back S D h = λ i. record { owed = D .owed; scanned = D .scanned; read
     z = replicate (2 * S - length (listOf D)) 0
 
     rd : decodeDesk (encodeDesk S D) .ready ≡ D .ready
-    rd = part-1 (D .ready) (sessionsOf (D .tested)) (D .waiting) (replicate (2 * S - length (listOf D)) 0)
+    rd = first-part (D .ready) (sessionsOf (D .tested)) (D .waiting) (replicate (2 * S - length (listOf D)) 0)
 
     td : decodeDesk (encodeDesk S D) .tested ≡ D .tested
     td =
         ap₂ placesOf
-        (part-2 (D .ready) (sessionsOf (D .tested)) (D .waiting) (replicate (2 * S - length (listOf D)) 0) (length (D .tested)) (length-sessions (D .tested)))
+        (second-part (D .ready) (sessionsOf (D .tested)) (D .waiting) (replicate (2 * S - length (listOf D)) 0) (length (D .tested)) (length-sessions (D .tested)))
         (ap (take (length (D .tested))) (marks-read-back (D .tested) h) ∙ take-at (marksOf (D .tested)) _ (length (D .tested)) (length-marks (D .tested)))
-        ∙ places-again (D .tested)
+        ∙ places-of-parts (D .tested)
 
     wd : decodeDesk (encodeDesk S D) .waiting ≡ D .waiting
     wd =
-        part-3 (D .ready) (sessionsOf (D .tested)) (D .waiting) (replicate (2 * S - length (listOf D)) 0) (length (D .tested))
+        third-part (D .ready) (sessionsOf (D .tested)) (D .waiting) (replicate (2 * S - length (listOf D)) 0) (length (D .tested))
         (length-sessions (D .tested))

@@ -11,7 +11,7 @@ use Rattle.rules.specs.laws.Room.{Room}
 use Rattle.rules.specs.laws.Screens.{AllShown}
 use Rattle.rules.specs.laws.Sound.{Sound}
 
-get-same : {A : Type 0} (n i : ℕ) (x : A) → getD (replicate n x) i x ≡ x
+pub get-same : {A : Type 0} (n i : ℕ) (x : A) → getD (replicate n x) i x ≡ x
 get-same zero i x = refl
 get-same (suc n) zero x = refl
 get-same (suc n) (suc i) x = get-same n i x

@@ -11,7 +11,7 @@ use Rattle.rules.specs.History.{Deed, collects, deedAt, drops, handsBack
 use Rattle.rules.specs.Steps.{Call, end, run, step}
 use Rattle.rules.specs.laws.Fresh.{fresh-copies, fresh-formed, fresh-sound}
 use Rattle.rules.specs.laws.Links.{Range, ScreensAgree, link, unlinked}
-use Rattle.rules.specs.laws.Pairing.{Good, Guard, calm-run, guard-run, sane-run}
+use Rattle.rules.specs.laws.Pairing.{Good, Guard, guard-along, in-range-run, takes-find-unlinked}
 
 -- past the end nothing is done
 past : (H : Hall) (cs : List Call) (st : State) (a : ℕ) → length cs ≤ a → deedAt (run H st cs) a ≡ nothing
@@ -35,16 +35,16 @@ module _ (H : Hall) (some : 1 ≤ allScreens H) (cs : List Call) where
   start i = let e : 0 + i ≡ i = omega arith in ap f e
 
   sane : (m : ℕ) → Range H (f m)
-  sane = sane-run H cs (fresh H) (fresh-formed H)
+  sane = in-range-run H cs (fresh H) (fresh-formed H)
 
   calm : (i x c p v : ℕ) → f i ≡ takes x c p v → link H f (screenIndex H x c) i ≡ unlinked
   calm i x c p v t =
       let e : 0 + i ≡ i = omega arith in
       subst (λ (k : ℕ). link H f (screenIndex H x c) k ≡ unlinked) e
-      (calm-run H f cs (fresh H) 0 start (fresh-formed H) agree0 i x c p v (ap f e ∙ t))
+      (takes-find-unlinked H f cs (fresh H) 0 start (fresh-formed H) agree0 i x c p v (ap f e ∙ t))
 
   guard : (d s : ℕ) → 1 ≤ d → d ≤ H .desks → (s ≡ 0 → ⊥) → Guard H f d s (0 + length cs) (deskOf (end H (fresh H) cs) d)
-  guard d s h h′ hs = guard-run H f sane calm some d s h hs cs (fresh H) 0 start (fresh-formed H) (fresh-sound H d) agree0
+  guard d s h h′ hs = guard-along H f sane calm some d s h hs cs (fresh H) 0 start (fresh-formed H) (fresh-sound H d) agree0
       (record {
         count = λ r. 0;
         tokens =
@@ -58,11 +58,11 @@ module _ (H : Hall) (some : 1 ≤ allScreens H) (cs : List Call) where
       })
 
   within-end : (a d s : ℕ) → f a ≡ handsBack d s → a < 0 + length cs
-  within-end a d s q = go (decLt a (length cs))
+  within-end a d s q = by-cases (decLt a (length cs))
     where
-      go : Dec (a < length cs) → a < 0 + length cs
-      go (yes h) = omega arith
-      go (no h) =
+      by-cases : Dec (a < length cs) → a < 0 + length cs
+      by-cases (yes h) = omega arith
+      by-cases (no h) =
           let k : nothing ≡ handsBack d s = sym (past H cs (fresh H) a (omega arith)) ∙ q in let z : _≡_ {A = ℕ} 0 1 = cc in absurd (omega arith)
 
   choose : (d s : ℕ) → Dec (1 ≤ d) → Dec (d ≤ H .desks) → Dec (s ≡ 0) → ℕ → ℕ
@@ -76,15 +76,15 @@ module _ (H : Hall) (some : 1 ≤ allScreens H) (cs : List Call) where
 
   works : (d s : ℕ) → 1 ≤ d → d ≤ H .desks → (s ≡ 0 → ⊥) → Works f d s (pairOf d s)
   unfolding pairOf choose
-  works d s h h′ hs = go (decLe 1 d) (decLe d (H .desks)) (ℕ-discrete s 0)
+  works d s h h′ hs = by-cases (decLe 1 d) (decLe d (H .desks)) (ℕ-discrete s 0)
     where
-      go : (x : Dec (1 ≤ d)) (y : Dec (d ≤ H .desks)) (z : Dec (s ≡ 0)) → Works f d s (choose d s x y z)
-      go (yes x) (yes y) (no z) =
+      by-cases : (x : Dec (1 ≤ d)) (y : Dec (d ≤ H .desks)) (z : Dec (s ≡ 0)) → Works f d s (choose d s x y z)
+      by-cases (yes x) (yes y) (no z) =
           let g = guard d s x y z in
           record { good = λ a q. g .good a (within-end a d s q) q; once = λ a b q q′. g .once a b (within-end a d s q) (within-end b d s q′) q q′ }
-      go (yes x) (yes y) (yes z) = absurd (hs z)
-      go (yes x) (no y) z = absurd (y h′)
-      go (no x) y z = absurd (x h)
+      by-cases (yes x) (yes y) (yes z) = absurd (hs z)
+      by-cases (yes x) (no y) z = absurd (y h′)
+      by-cases (no x) y z = absurd (x h)
 
   partner : ℕ → Deed → ℕ
   partner a (takes d c p v) = 0

@@ -1,4 +1,4 @@
--- The hand-back at thisReading desk: how many collects a retired session still takes.
+-- The hand-back at thisReading desk: how many collects a retired session guard-kept takes.
 use Prim.Native.Nat.{_%_, ℕ, suc, _+_, _*_, _≤_, _<_}
 use native.Mathlib.Omega.{arith}
 use mathlib.Core.Path.{_≡_, refl, sym, ap, _∙_}
@@ -30,11 +30,11 @@ pub data Due (S s B m : ℕ) (D : Desk) : Type 0 where
 
 -- At the retire, with enough collects ahead.
 pub due-start : (S s B m : ℕ) (D : Desk) → 1 ≤ S → exactBound S ≤ B → ScanFits S (D .scanned) (D .tested) → Due S s B m D
-due-start S s B m D hS hB fits = go (D .tested) refl fits
+due-start S s B m D hS hB fits = by-cases (D .tested) refl fits
   where
-    go : (t : List TestedPlace) → D .tested ≡ t → ScanFits S (D .scanned) t → Due S s B m D
-    go [] e f = noReading e (omega arith)
-    go (p ∷ ps) e f = thisReading (omega (arith, ap length e)) (f .0) (omega arith)
+    by-cases : (t : List TestedPlace) → D .tested ≡ t → ScanFits S (D .scanned) t → Due S s B m D
+    by-cases [] e f = noReading e (omega arith)
+    by-cases (p ∷ ps) e f = thisReading (omega (arith, ap length e)) (f .0) (omega arith)
 
 -- With none ahead.
 pub due-end : (S s m : ℕ) (D : Desk) → 1 ≤ S → Orderly S D → Due S s 0 m D → copiesOn s D ≤ m

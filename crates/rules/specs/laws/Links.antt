@@ -89,18 +89,18 @@ module _ (f : ℕ → Deed) (hs : List ℕ) (ds : List Desk) (v : ℕ) where
   swap-agree : (e p w : ℕ) (l : Link) → 1 ≤ p → 1 ≤ e → e ≤ length ds → getD ds (e - 1) emptyDesk .owed ≡ 0 → Agree f hs ds v l
       → Agree f (set hs (p - 1) w) (set ds (e - 1) (owe (getD ds (e - 1) emptyDesk) (getD hs (p - 1) 0))) v (onSwap e p l)
   swap-agree e p w unlinked hp he le z a = a
-  swap-agree e p w (beforeSwap q) hp he le z a = go (eqb p q) refl
+  swap-agree e p w (beforeSwap q) hp he le z a = by-cases (eqb p q) refl
     where
-      go : (b : Bool) → eqb p q ≡ b
+      by-cases : (b : Bool) → eqb p q ≡ b
           → Agree f (set hs (p - 1) w) (set ds (e - 1) (owe (getD ds (e - 1) emptyDesk) (getD hs (p - 1) 0))) v (cond b (beforeRetire e) (beforeSwap q))
-      go true t =
+      by-cases true t =
           (a .0, he, a .2 ∙ ap (λ (m : ℕ). getD hs (m - 1) 0) (sym (eqb-true p q t)) ∙ sym (ap (λ (D : Desk). D .owed) (getD-set-same ds (e - 1) (owe (getD ds (e - 1) emptyDesk) (getD hs (p - 1) 0)) emptyDesk (omega arith))))
-      go false t = let ne = eqb-false p q t in (a .0, a .1, a .2 ∙ sym (getD-set-other hs (p - 1) (q - 1) w 0 (λ m. ne (omega (arith, a .1)))))
-  swap-agree e p w (beforeRetire q) hp he le z a = go (ℕ-discrete e q)
+      by-cases false t = let ne = eqb-false p q t in (a .0, a .1, a .2 ∙ sym (getD-set-other hs (p - 1) (q - 1) w 0 (λ m. ne (omega (arith, a .1)))))
+  swap-agree e p w (beforeRetire q) hp he le z a = by-cases (ℕ-discrete e q)
     where
-      go : Dec (e ≡ q) → Agree f (set hs (p - 1) w) (set ds (e - 1) (owe (getD ds (e - 1) emptyDesk) (getD hs (p - 1) 0))) v (beforeRetire q)
-      go (yes t) = absurd (a .0 (a .2 ∙ ap (λ (m : ℕ). getD ds (m - 1) emptyDesk .owed) (sym t) ∙ z))
-      go (no t) =
+      by-cases : Dec (e ≡ q) → Agree f (set hs (p - 1) w) (set ds (e - 1) (owe (getD ds (e - 1) emptyDesk) (getD hs (p - 1) 0))) v (beforeRetire q)
+      by-cases (yes t) = absurd (a .0 (a .2 ∙ ap (λ (m : ℕ). getD ds (m - 1) emptyDesk .owed) (sym t) ∙ z))
+      by-cases (no t) =
           (a .0, a .1, a .2 ∙ sym (ap (λ (D : Desk). D .owed) (getD-set-other ds (e - 1) (q - 1) (owe (getD ds (e - 1) emptyDesk) (getD hs (p - 1) 0)) emptyDesk (λ m. t (omega (arith, a .1))))))
   swap-agree e p w (linkedTo r) hp he le z a = a
 
@@ -108,14 +108,14 @@ module _ (f : ℕ → Deed) (hs : List ℕ) (ds : List Desk) (v : ℕ) where
       → Agree f hs (set ds (e - 1) (retire (getD ds (e - 1) emptyDesk))) v (onRetire e n l)
   retire-agree e n unlinked he q a = a
   retire-agree e n (beforeSwap p) he q a = a
-  retire-agree e n (beforeRetire x) he q a = go (eqb e x) refl
+  retire-agree e n (beforeRetire x) he q a = by-cases (eqb e x) refl
     where
       told : (d s : ℕ) → e ≡ x → f n ≡ retires d s → v ≡ s
       told d s t g = let o : v ≡ getD ds (e - 1) emptyDesk .owed = a .2 ∙ ap (λ (m : ℕ). getD ds (m - 1) emptyDesk .owed) (sym t) in cc
 
-      go : (b : Bool) → eqb e x ≡ b → Agree f hs (set ds (e - 1) (retire (getD ds (e - 1) emptyDesk))) v (cond b (linkedTo n) (beforeRetire x))
-      go true t = (a .0, λ d s. told d s (eqb-true e x t))
-      go false t =
+      by-cases : (b : Bool) → eqb e x ≡ b → Agree f hs (set ds (e - 1) (retire (getD ds (e - 1) emptyDesk))) v (cond b (linkedTo n) (beforeRetire x))
+      by-cases true t = (a .0, λ d s. told d s (eqb-true e x t))
+      by-cases false t =
           let ne = eqb-false e x t in
           (a .0, a .1, a .2 ∙ sym (ap (λ (D : Desk). D .owed) (getD-set-other ds (e - 1) (x - 1) (retire (getD ds (e - 1) emptyDesk)) emptyDesk (λ m. ne (omega (arith, a .1))))))
   retire-agree e n (linkedTo r) he q a = a
@@ -141,22 +141,22 @@ collect-agree : (f : ℕ → Deed) (hs : List ℕ) (ds : List Desk) (v : ℕ) (e
     → Agree f hs ds v l → Agree f hs (set ds (e - 1) (collect S shown (getD ds (e - 1) emptyDesk) .after)) v l
 collect-agree f hs ds v e S shown unlinked he le a = a
 collect-agree f hs ds v e S shown (beforeSwap p) he le a = a
-collect-agree f hs ds v e S shown (beforeRetire q) he le a = go (ℕ-discrete e q)
+collect-agree f hs ds v e S shown (beforeRetire q) he le a = by-cases (ℕ-discrete e q)
   where
-    go : Dec (e ≡ q) → Agree f hs (set ds (e - 1) (collect S shown (getD ds (e - 1) emptyDesk) .after)) v (beforeRetire q)
-    go (yes t) =
+    by-cases : Dec (e ≡ q) → Agree f hs (set ds (e - 1) (collect S shown (getD ds (e - 1) emptyDesk) .after)) v (beforeRetire q)
+    by-cases (yes t) =
         (a .0, a .1, a .2 ∙ ap (λ (m : ℕ). getD ds (m - 1) emptyDesk .owed) (sym t) ∙ sym (owed-collect S shown (getD ds (e - 1) emptyDesk)) ∙ sym (ap (λ (D : Desk). D .owed) (getD-set-same ds (e - 1) (collect S shown (getD ds (e - 1) emptyDesk) .after) emptyDesk (omega arith))) ∙ ap (λ (m : ℕ). getD (set ds (e - 1) (collect S shown (getD ds (e - 1) emptyDesk) .after)) (m - 1) emptyDesk .owed) t)
-    go (no t) =
+    by-cases (no t) =
         (a .0, a .1, a .2 ∙ sym (ap (λ (D : Desk). D .owed) (getD-set-other ds (e - 1) (q - 1) (collect S shown (getD ds (e - 1) emptyDesk) .after) emptyDesk (λ m. t (omega (arith, a .1))))))
 collect-agree f hs ds v e S shown (linkedTo r) he le a = a
 
 -- a screen after a store
 pub set-at : (shown : List ℕ) (y x w : ℕ) → y < length shown → getD (set shown y w) x 0 ≡ cond (eqb y x) w (getD shown x 0)
-set-at shown y x w h = go (eqb y x) refl
+set-at shown y x w h = by-cases (eqb y x) refl
   where
-    go : (b : Bool) → eqb y x ≡ b → getD (set shown y w) x 0 ≡ cond b w (getD shown x 0)
-    go true t = ap (λ (m : ℕ). getD (set shown y w) m 0) (sym (eqb-true y x t)) ∙ getD-set-same shown y w 0 h
-    go false t = let ne = eqb-false y x t in getD-set-other shown y x w 0 (λ m. ne (sym m))
+    by-cases : (b : Bool) → eqb y x ≡ b → getD (set shown y w) x 0 ≡ cond b w (getD shown x 0)
+    by-cases true t = ap (λ (m : ℕ). getD (set shown y w) m 0) (sym (eqb-true y x t)) ∙ getD-set-same shown y w 0 h
+    by-cases false t = let ne = eqb-false y x t in getD-set-other shown y x w 0 (λ m. ne (sym m))
 
 pub holds : (b : Bool) (m n : ℕ) → cond {A = ℕ} b m (suc n) ≡ 0 → (b ≡ true) × (m ≡ 0)
 holds true m n e = (refl, e)
@@ -223,7 +223,7 @@ module _ (H : Hall) (st : State) (formed : Formed H st) where
   desk-fact d m e = in-range d (H .desks) (holds (inRange d (H .desks)) m 5 e .0)
 
   pub range-step : (c : Call) → Range H (deed c (step H st c .answer .number) (step H st c .answer .session))
-  range-step c = go (firstNo (questions H st c)) c refl
+  range-step c = by-cases (firstNo (questions H st c)) c refl
     where
       back : (d s : ℕ) (b : Bool) → (1 ≤ d) × (d ≤ H .desks) → eqb s 0 ≡ b → Range H (cond b (collects d) (handsBack d s))
       back d s true a q = a
@@ -239,20 +239,20 @@ module _ (H : Hall) (st : State) (formed : Formed H st) where
               (omega (arith, ap (λ (y : Bool). cond {A = ℕ} y (firstNo (retireQuestions (allScreens H) (deskOf st d))) 6) r, e, eqb-true m 14 q))
       full d m false e q = tt
 
-      go : (m : ℕ) (c : Call) → firstNo (questions H st c) ≡ m
+      by-cases : (m : ℕ) (c : Call) → firstNo (questions H st c) ≡ m
           → Range H (deed c (decide m st (perform H st c) .answer .number) (decide m st (perform H st c) .answer .session))
-      go zero (Take d c p) e = let t = take-facts d c p e in (t .0, t .1, t .2, t .3)
-      go zero (Drop d c) e = drop-facts d c e
-      go zero (Swap d p v) e = let t = swap-facts d p v e in (t .0, t .1)
-      go zero (Retire d) e = retire-facts d e
-      go zero (Collect d) e =
+      by-cases zero (Take d c p) e = let t = take-facts d c p e in (t .0, t .1, t .2, t .3)
+      by-cases zero (Drop d c) e = drop-facts d c e
+      by-cases zero (Swap d p v) e = let t = swap-facts d p v e in (t .0, t .1)
+      by-cases zero (Retire d) e = retire-facts d e
+      by-cases zero (Collect d) e =
           back d (collect (allScreens H) (st .shown) (deskOf st d) .session) (eqb (collect (allScreens H) (st .shown) (deskOf st d) .session) 0)
           (desk-fact d _ e) refl
-      go (suc m) (Take d c p) e = tt
-      go (suc m) (Drop d c) e = tt
-      go (suc m) (Swap d p v) e = tt
-      go (suc m) (Retire d) e = full d (suc m) (eqb (suc m) 14) e refl
-      go (suc m) (Collect d) e = tt
+      by-cases (suc m) (Take d c p) e = tt
+      by-cases (suc m) (Drop d c) e = tt
+      by-cases (suc m) (Swap d p v) e = tt
+      by-cases (suc m) (Retire d) e = full d (suc m) (eqb (suc m) 14) e refl
+      by-cases (suc m) (Collect d) e = tt
 
   module _ (f : ℕ → Deed) (n : ℕ) (ag : ScreensAgree H f n st) where
     back-agree : (x : ℕ) → x < allScreens H → (d s : ℕ) (b : Bool) → (1 ≤ d) × (d ≤ H .desks) → f n ≡ cond b (collects d) (handsBack d s)
@@ -266,45 +266,45 @@ module _ (H : Hall) (st : State) (formed : Formed H st) where
 
     pub agree-step : (c : Call) → f n ≡ deed c (step H st c .answer .number) (step H st c .answer .session)
         → ScreensAgree H f (suc n) (step H st c .after)
-    agree-step c q x hx = go (firstNo (questions H st c)) c refl q
+    agree-step c q x hx = by-cases (firstNo (questions H st c)) c refl q
       where
         full : (d : ℕ) (b : Bool) → f n ≡ cond b (lacksRoom d) nothing → Agree f (st .held) (st .desks) (getD (st .shown) x 0) (link H f x (suc n))
         full d true q = rw q (ag x hx)
         full d false q = rw q (ag x hx)
 
-        go : (m : ℕ) (c : Call) → firstNo (questions H st c) ≡ m
+        by-cases : (m : ℕ) (c : Call) → firstNo (questions H st c) ≡ m
             → f n ≡ deed c (decide m st (perform H st c) .answer .number) (decide m st (perform H st c) .answer .session)
             → Agree f (decide m st (perform H st c) .after .held) (decide m st (perform H st c) .after .desks) (getD (decide m st (perform H st c) .after .shown) x 0) (link H f x (suc n))
-        go zero (Take d c p) e q =
+        by-cases zero (Take d c p) e q =
             let t = take-facts d c p e in
             let y = screenIndex H d c in
             let w = getD (st .held) (p - 1) 0 in
             rw (q, set-at (st .shown) y x w (omega (arith, formed .screens, screen-in H d c (t .0) (t .1) (t .2) (t .3))))
             (take-agree f (st .held) (st .desks) (getD (st .shown) x 0) (eqb y x) p w (link H f x n) (λ z. ap (λ (m : ℕ). getD (st .shown) m 0) (sym (eqb-true y x z)) ∙ t .5) (t .6) (t .4) refl (ag x hx))
-        go zero (Drop d c) e q =
+        by-cases zero (Drop d c) e q =
             let t = drop-facts d c e in
             let y = screenIndex H d c in
             rw (q, set-at (st .shown) y x 0 (omega (arith, formed .screens, screen-in H d c (t .0) (t .1) (t .2) (t .3))))
             (drop-agree f (st .held) (st .desks) (getD (st .shown) x 0) (eqb y x) (link H f x n) (ag x hx))
-        go zero (Swap d p v) e q =
+        by-cases zero (Swap d p v) e q =
             let t = swap-facts d p v e in
             rw q
             (swap-agree f (st .held) (st .desks) (getD (st .shown) x 0) d p v (link H f x n) (t .2) (t .0) (omega (arith, formed .desks, t .1)) (t .3) (ag x hx))
-        go zero (Retire d) e q =
+        by-cases zero (Retire d) e q =
             rw q (retire-agree f (st .held) (st .desks) (getD (st .shown) x 0) d n (link H f x n) (desk-fact d _ e .0) q (ag x hx))
-        go zero (Collect d) e q =
+        by-cases zero (Collect d) e q =
             back-agree x hx d (collect (allScreens H) (st .shown) (deskOf st d) .session)
             (eqb (collect (allScreens H) (st .shown) (deskOf st d) .session) 0) (desk-fact d _ e) q
-        go (suc m) (Take d c p) e q = rw q (ag x hx)
-        go (suc m) (Drop d c) e q = rw q (ag x hx)
-        go (suc m) (Swap d p v) e q = rw q (ag x hx)
-        go (suc m) (Retire d) e q = full d (eqb (suc m) 14) q
-        go (suc m) (Collect d) e q = rw q (ag x hx)
+        by-cases (suc m) (Take d c p) e q = rw q (ag x hx)
+        by-cases (suc m) (Drop d c) e q = rw q (ag x hx)
+        by-cases (suc m) (Swap d p v) e q = rw q (ag x hx)
+        by-cases (suc m) (Retire d) e q = full d (eqb (suc m) 14) q
+        by-cases (suc m) (Collect d) e q = rw q (ag x hx)
 
     -- an accepted take finds its screen unlinked
-    pub calm-step : (c : Call) → f n ≡ deed c (step H st c .answer .number) (step H st c .answer .session) → (d s p v : ℕ) → f n ≡ takes d s p v
+    pub take-finds-unlinked : (c : Call) → f n ≡ deed c (step H st c .answer .number) (step H st c .answer .session) → (d s p v : ℕ) → f n ≡ takes d s p v
         → link H f (screenIndex H d s) n ≡ unlinked
-    calm-step c q d s p v t = go (firstNo (questions H st c)) c refl (sym q ∙ t)
+    take-finds-unlinked c q d s p v t = by-cases (firstNo (questions H st c)) c refl (sym q ∙ t)
       where
         none : (b : Bool) (x w : ℕ) → cond b (collects x) (handsBack x w) ≡ takes d s p v → link H f (screenIndex H d s) n ≡ unlinked
         none true x w e = let z : _≡_ {A = ℕ} 0 1 = cc in absurd (omega arith)
@@ -314,23 +314,23 @@ module _ (H : Hall) (st : State) (formed : Formed H st) where
         full true x e = let z : _≡_ {A = ℕ} 0 1 = cc in absurd (omega arith)
         full false x e = let z : _≡_ {A = ℕ} 0 1 = cc in absurd (omega arith)
 
-        go : (m : ℕ) (c : Call) → firstNo (questions H st c) ≡ m
+        by-cases : (m : ℕ) (c : Call) → firstNo (questions H st c) ≡ m
             → deed c (decide m st (perform H st c) .answer .number) (decide m st (perform H st c) .answer .session) ≡ takes d s p v
             → link H f (screenIndex H d s) n ≡ unlinked
-        go zero (Take x y w) e q =
+        by-cases zero (Take x y w) e q =
             let t = take-facts x y w e in
             let xd : x ≡ d = cc in
             let ys : y ≡ s = cc in
             let fit = screen-in H x y (t .0) (t .1) (t .2) (t .3) in
             rw (← xd, ← ys)
             (unlinked-of f (st .held) (st .desks) (getD (st .shown) (screenIndex H x y) 0) (link H f (screenIndex H x y) n) (ag (screenIndex H x y) fit) (t .5))
-        go zero (Drop x y) e q = let z : _≡_ {A = ℕ} 0 1 = cc in absurd (omega arith)
-        go zero (Swap x y w) e q = let z : _≡_ {A = ℕ} 0 1 = cc in absurd (omega arith)
-        go zero (Retire x) e q = let z : _≡_ {A = ℕ} 0 1 = cc in absurd (omega arith)
-        go zero (Collect x) e q =
+        by-cases zero (Drop x y) e q = let z : _≡_ {A = ℕ} 0 1 = cc in absurd (omega arith)
+        by-cases zero (Swap x y w) e q = let z : _≡_ {A = ℕ} 0 1 = cc in absurd (omega arith)
+        by-cases zero (Retire x) e q = let z : _≡_ {A = ℕ} 0 1 = cc in absurd (omega arith)
+        by-cases zero (Collect x) e q =
             none (eqb (collect (allScreens H) (st .shown) (deskOf st x) .session) 0) x (collect (allScreens H) (st .shown) (deskOf st x) .session) q
-        go (suc m) (Take x y w) e q = let z : _≡_ {A = ℕ} 0 1 = cc in absurd (omega arith)
-        go (suc m) (Drop x y) e q = let z : _≡_ {A = ℕ} 0 1 = cc in absurd (omega arith)
-        go (suc m) (Swap x y w) e q = let z : _≡_ {A = ℕ} 0 1 = cc in absurd (omega arith)
-        go (suc m) (Retire x) e q = full (eqb (suc m) 14) x q
-        go (suc m) (Collect x) e q = let z : _≡_ {A = ℕ} 0 1 = cc in absurd (omega arith)
+        by-cases (suc m) (Take x y w) e q = let z : _≡_ {A = ℕ} 0 1 = cc in absurd (omega arith)
+        by-cases (suc m) (Drop x y) e q = let z : _≡_ {A = ℕ} 0 1 = cc in absurd (omega arith)
+        by-cases (suc m) (Swap x y w) e q = let z : _≡_ {A = ℕ} 0 1 = cc in absurd (omega arith)
+        by-cases (suc m) (Retire x) e q = full (eqb (suc m) 14) x q
+        by-cases (suc m) (Collect x) e q = let z : _≡_ {A = ℕ} 0 1 = cc in absurd (omega arith)

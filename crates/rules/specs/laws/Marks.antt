@@ -19,11 +19,11 @@ markCount ps = length (markedOf ps)
 pub length-mark : (v : ℕ) (ps : List TestedPlace) → length (mark v ps) ≡ length ps
 length-mark v [] = refl
 length-mark v (marked x ∷ ps) = ap suc (length-mark v ps)
-length-mark v (unmarked x ∷ ps) = go (eqb v x) (length-mark v ps)
+length-mark v (unmarked x ∷ ps) = by-cases (eqb v x) (length-mark v ps)
   where
-    go : (b : Bool) → length (mark v ps) ≡ length ps → length (cond b (marked x ∷ ps) (unmarked x ∷ mark v ps)) ≡ suc (length ps)
-    go true e = refl
-    go false e = ap suc e
+    by-cases : (b : Bool) → length (mark v ps) ≡ length ps → length (cond b (marked x ∷ ps) (unmarked x ∷ mark v ps)) ≡ suc (length ps)
+    by-cases true e = refl
+    by-cases false e = ap suc e
 
 pub length-mark-each : (vs : List ℕ) (ps : List TestedPlace) → length (markEach vs ps) ≡ length ps
 length-mark-each [] ps = refl
@@ -32,11 +32,11 @@ length-mark-each (v ∷ vs) ps = length-mark-each vs (mark v ps) ∙ length-mark
 pub mark-count-mark : (v : ℕ) (ps : List TestedPlace) → markCount (mark v ps) ≤ markCount ps + 1
 mark-count-mark v [] = omega arith
 mark-count-mark v (marked x ∷ ps) = omega (arith, mark-count-mark v ps)
-mark-count-mark v (unmarked x ∷ ps) = go (eqb v x) (mark-count-mark v ps)
+mark-count-mark v (unmarked x ∷ ps) = by-cases (eqb v x) (mark-count-mark v ps)
   where
-    go : (b : Bool) → markCount (mark v ps) ≤ markCount ps + 1 → markCount (cond b (marked x ∷ ps) (unmarked x ∷ mark v ps)) ≤ markCount ps + 1
-    go true e = omega arith
-    go false e = e
+    by-cases : (b : Bool) → markCount (mark v ps) ≤ markCount ps + 1 → markCount (cond b (marked x ∷ ps) (unmarked x ∷ mark v ps)) ≤ markCount ps + 1
+    by-cases true e = omega arith
+    by-cases false e = e
 
 pub mark-count-mark-each : (vs : List ℕ) (ps : List TestedPlace) → markCount (markEach vs ps) ≤ markCount ps + length vs
 mark-count-mark-each [] ps = omega arith
@@ -66,12 +66,12 @@ marked-copies-begin s (x ∷ w) = marked-copies-begin s w
 pub tested-copies-mark : (s v : ℕ) (ps : List TestedPlace) → testedCopies s (mark v ps) ≡ testedCopies s ps
 tested-copies-mark s v [] = refl
 tested-copies-mark s v (marked x ∷ ps) = omega (arith, tested-copies-mark s v ps)
-tested-copies-mark s v (unmarked x ∷ ps) = go (eqb v x) (tested-copies-mark s v ps)
+tested-copies-mark s v (unmarked x ∷ ps) = by-cases (eqb v x) (tested-copies-mark s v ps)
   where
-    go : (b : Bool) → testedCopies s (mark v ps) ≡ testedCopies s ps
+    by-cases : (b : Bool) → testedCopies s (mark v ps) ≡ testedCopies s ps
         → testedCopies s (cond b (marked x ∷ ps) (unmarked x ∷ mark v ps)) ≡ testedCopies s (unmarked x ∷ ps)
-    go true e = omega arith
-    go false e = omega arith
+    by-cases true e = omega arith
+    by-cases false e = omega arith
 
 pub tested-copies-mark-each : (s : ℕ) (vs : List ℕ) (ps : List TestedPlace) → testedCopies s (markEach vs ps) ≡ testedCopies s ps
 tested-copies-mark-each s [] ps = refl
@@ -81,12 +81,12 @@ tested-copies-mark-each s (v ∷ vs) ps = tested-copies-mark-each s vs (mark v p
 pub marked-copies-mark : (s v : ℕ) (ps : List TestedPlace) → matches s v ≡ 0 → copies s (markedOf (mark v ps)) ≡ copies s (markedOf ps)
 marked-copies-mark s v [] h = refl
 marked-copies-mark s v (marked x ∷ ps) h = omega (arith, marked-copies-mark s v ps h)
-marked-copies-mark s v (unmarked x ∷ ps) h = go (eqb v x) refl (marked-copies-mark s v ps h)
+marked-copies-mark s v (unmarked x ∷ ps) h = by-cases (eqb v x) refl (marked-copies-mark s v ps h)
   where
-    go : (b : Bool) → eqb v x ≡ b → copies s (markedOf (mark v ps)) ≡ copies s (markedOf ps)
+    by-cases : (b : Bool) → eqb v x ≡ b → copies s (markedOf (mark v ps)) ≡ copies s (markedOf ps)
         → copies s (markedOf (cond b (marked x ∷ ps) (unmarked x ∷ mark v ps))) ≡ copies s (markedOf ps)
-    go true q e = let vx : v ≡ x = eqb-true v x q in let h2 : matches s x ≡ 0 = rw vx at h in omega arith
-    go false q e = e
+    by-cases true q e = let vx : v ≡ x = eqb-true v x q in let h2 : matches s x ≡ 0 = rw vx at h in omega arith
+    by-cases false q e = e
 
 pub marked-copies-mark-each : (s : ℕ) (vs : List ℕ) (ps : List TestedPlace) → copies s vs ≡ 0
     → copies s (markedOf (markEach vs ps)) ≡ copies s (markedOf ps)

@@ -31,23 +31,23 @@ own-hands-back d s = ap (λ (b : Bool). cond b (handsBack d s) nothing) (eq-eqb 
 
 -- an own retirement, and an own hand-back, are by the desk
 pub own-retires : (d by v : ℕ) (D : Deed) → own d D ≡ retires by v → D ≡ retires d v
-own-retires d by v D q = go (own-cases d D)
+own-retires d by v D q = by-cases (own-cases d D)
   where
     at : (b : Bool) → eqb by d ≡ b → cond b (retires by v) nothing ≡ retires by v → retires by v ≡ retires d v
     at true t e = ap (λ (x : ℕ). retires x v) (eqb-true by d t)
     at false t e = let z : _≡_ {A = ℕ} 0 1 = cc in absurd (omega arith)
 
-    go : Own d D → D ≡ retires d v
-    go (othersDeed e) = let z : _≡_ {A = ℕ} 0 1 = cc in absurd (omega arith)
-    go (ownDeed e) = let k : D ≡ retires by v = sym e ∙ q in k ∙ at (eqb by d) refl (sym (ap (own d) k) ∙ q)
+    by-cases : Own d D → D ≡ retires d v
+    by-cases (othersDeed e) = let z : _≡_ {A = ℕ} 0 1 = cc in absurd (omega arith)
+    by-cases (ownDeed e) = let k : D ≡ retires by v = sym e ∙ q in k ∙ at (eqb by d) refl (sym (ap (own d) k) ∙ q)
 
 pub own-handed : (d by v : ℕ) (D : Deed) → own d D ≡ handsBack by v → D ≡ handsBack d v
-own-handed d by v D q = go (own-cases d D)
+own-handed d by v D q = by-cases (own-cases d D)
   where
     at : (b : Bool) → eqb by d ≡ b → cond b (handsBack by v) nothing ≡ handsBack by v → handsBack by v ≡ handsBack d v
     at true t e = ap (λ (x : ℕ). handsBack x v) (eqb-true by d t)
     at false t e = let z : _≡_ {A = ℕ} 0 1 = cc in absurd (omega arith)
 
-    go : Own d D → D ≡ handsBack d v
-    go (othersDeed e) = let z : _≡_ {A = ℕ} 0 1 = cc in absurd (omega arith)
-    go (ownDeed e) = let k : D ≡ handsBack by v = sym e ∙ q in k ∙ at (eqb by d) refl (sym (ap (own d) k) ∙ q)
+    by-cases : Own d D → D ≡ handsBack d v
+    by-cases (othersDeed e) = let z : _≡_ {A = ℕ} 0 1 = cc in absurd (omega arith)
+    by-cases (ownDeed e) = let k : D ≡ handsBack by v = sym e ∙ q in k ∙ at (eqb by d) refl (sym (ap (own d) k) ∙ q)

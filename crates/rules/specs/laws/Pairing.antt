@@ -1,4 +1,4 @@
--- The pairing of hand-backs with retirements, of one session by one desk, built as the calls go on.
+-- The pairing of hand-backs with retirements, of one session by one desk, built as the calls by-cases on.
 use Prim.Native.Nat.{ℕ, zero, suc, _+_, _≤_, _<_}
 use native.Mathlib.Omega.{arith}
 use native.Mathlib.Decide.{ℕ-discrete, decLe}
@@ -14,15 +14,15 @@ use Rattle.rules.specs.History.{swaps, takes}
 use Rattle.rules.specs.Steps.{Call, begin, collect, end, owe, retire, run, step}
 use Rattle.rules.specs.laws.Collect.{Orderly, beforeHandBack, begin-keeps}
 use Rattle.rules.specs.laws.Effect.{Effect, Formed, effect, formed-step}
-use Rattle.rules.specs.laws.Links.{Link, Range, ScreensAgree, agree-step, beforeRetire, beforeSwap, calm-step, link, linkedTo, range-step}
-use Rattle.rules.specs.laws.Links.{unlinked}
+use Rattle.rules.specs.laws.Links.{Link, Range, ScreensAgree, agree-step, beforeRetire, beforeSwap, link, linkedTo, range-step}
+use Rattle.rules.specs.laws.Links.{take-finds-unlinked, unlinked}
 use Rattle.rules.specs.laws.Lists.{copies-append, matches, matches-at-most-one, matches-other, matches-same}
 use Rattle.rules.specs.laws.OwnDeeds.{own-handed, own-hands-back, own-retires}
 use Rattle.rules.specs.laws.Runs.{sound-step}
 use Rattle.rules.specs.laws.ScreenIndex.{screen-in}
 use Rattle.rules.specs.laws.Sound.{Sound, sound-orderly}
-use Rattle.rules.specs.laws.Tokens.{Leaves, Tokens, hand-other, hand-same, live, live-at, live-next, open-tokens, pass-tokens, tally, tally-le}
-use Rattle.rules.specs.laws.Tokens.{ties}
+use Rattle.rules.specs.laws.Tokens.{Leaves, Tokens, begin-tokens, hand-back-other, hand-back-same, live, live-at, live-next, scan-tokens}
+use Rattle.rules.specs.laws.Tokens.{sum-le, sumOver, ties}
 use Rattle.rules.specs.laws.Track.{linked-tied}
 
 -- A hand-back at place a, of session s to desk d, may be paired with the retirement at place r.
@@ -44,19 +44,19 @@ pub record Guard (H : Hall) (f : ℕ → Deed) (d s n : ℕ) (D : Desk) : Type 0
 
 live-one : (H : Hall) (f : ℕ → Deed) (n k r : ℕ) → live H f n k r ≤ 1
 live-one H f n zero r = omega arith
-live-one H f n (suc k) r = omega (arith, live-one H f n k r, go (link H f k n))
+live-one H f n (suc k) r = omega (arith, live-one H f n k r, by-cases (link H f k n))
   where
-    go : (l : Link) → ties r l ≤ 1
-    go unlinked = omega arith
-    go (beforeSwap p) = omega arith
-    go (beforeRetire e) = omega arith
-    go (linkedTo q) = matches-at-most-one q r
+    by-cases : (l : Link) → ties r l ≤ 1
+    by-cases unlinked = omega arith
+    by-cases (beforeSwap p) = omega arith
+    by-cases (beforeRetire e) = omega arith
+    by-cases (linkedTo q) = matches-at-most-one q r
 
 module _ (H : Hall) (f : ℕ → Deed) (d s n : ℕ) where
   -- the next place
-  later : (D E : Desk) (count : ℕ → ℕ) → ((r : ℕ) → 1 ≤ count r → r < n) → E .scanned ≡ D .scanned → E .ready ≡ D .ready → E .tested ≡ D .tested
+  tokens-later : (D E : Desk) (count : ℕ → ℕ) → ((r : ℕ) → 1 ≤ count r → r < n) → E .scanned ≡ D .scanned → E .ready ≡ D .ready → E .tested ≡ D .tested
       → E .waiting ≡ D .waiting → Tokens H f s n D count → Tokens H f s (suc n) E count
-  later D E count low ek er et ew t = record {
+  tokens-later D E count low ek er et ew t = record {
     old = t .old;
     new = t .new;
     same = t .same;
@@ -68,12 +68,12 @@ module _ (H : Hall) (f : ℕ → Deed) (d s n : ℕ) where
     };
   }
     where
-      down : (k : ℕ) (us : List ℕ) → ((r : ℕ) → 1 ≤ copies r us → r < n) → tally (live H f (suc n) k) us ≤ tally (live H f n k) us
-      down k us h = tally-le (live H f (suc n) k) (live H f n k) us (λ r q. live-next H f n k r (h r q))
+      down : (k : ℕ) (us : List ℕ) → ((r : ℕ) → 1 ≤ copies r us → r < n) → sumOver (live H f (suc n) k) us ≤ sumOver (live H f n k) us
+      down k us h = sum-le (live H f (suc n) k) (live H f n k) us (λ r q. live-next H f n k r (h r q))
 
   -- no hand-back of s to d is at place n
-  still : (D E : Desk) → (f n ≡ handsBack d s → ⊥) → (g : Guard H f d s n D) → Tokens H f s (suc n) E (g .count) → Guard H f d s (suc n) E
-  still D E ne g t = record {
+  guard-kept : (D E : Desk) → (f n ≡ handsBack d s → ⊥) → (g : Guard H f d s n D) → Tokens H f s (suc n) E (g .count) → Guard H f d s (suc n) E
+  guard-kept D E ne g t = record {
     count = g .count;
     tokens = t;
     single = g .single;
@@ -85,15 +85,15 @@ module _ (H : Hall) (f : ℕ → Deed) (d s n : ℕ) where
   }
     where
       under : (a : ℕ) → a < suc n → f a ≡ handsBack d s → a < n
-      under a h q = go (ℕ-discrete a n)
+      under a h q = by-cases (ℕ-discrete a n)
         where
-          go : Dec (a ≡ n) → a < n
-          go (yes t) = absurd (ne (ap f (sym t) ∙ q))
-          go (no t) = omega arith
+          by-cases : Dec (a ≡ n) → a < n
+          by-cases (yes t) = absurd (ne (ap f (sym t) ∙ q))
+          by-cases (no t) = omega arith
 
   -- the desk retires s at place n
-  gives : (D : Desk) → D .owed ≡ s → f n ≡ retires d s → Guard H f d s n D → Guard H f d s (suc n) (retire D)
-  gives D o e g = record {
+  guard-retire : (D : Desk) → D .owed ≡ s → f n ≡ retires d s → Guard H f d s n D → Guard H f d s (suc n) (retire D)
+  guard-retire D o e g = record {
     count = λ r. matches r n + g .count r;
     tokens = record {
       old = t .old;
@@ -111,17 +111,17 @@ module _ (H : Hall) (f : ℕ → Deed) (d s n : ℕ) where
   }
     where
       t : Tokens H f s (suc n) D (g .count)
-      t = later D D (g .count) (λ r q. g .mine r q .0) refl refl refl refl (g .tokens)
+      t = tokens-later D D (g .count) (λ r q. g .mine r q .0) refl refl refl refl (g .tokens)
 
       wait : copies s (D .waiting ++ (D .owed ∷ [])) ≡ copies s (D .waiting) + 1
       wait = omega (arith, copies-append s (D .waiting) (D .owed ∷ []), ap (matches s) o, matches-same s)
 
       none : g .count n ≡ 0
-      none = go (decLe 1 (g .count n))
+      none = by-cases (decLe 1 (g .count n))
         where
-          go : Dec (1 ≤ g .count n) → g .count n ≡ 0
-          go (yes q) = absurd (omega (arith, g .mine n q .0))
-          go (no q) = omega arith
+          by-cases : Dec (1 ≤ g .count n) → g .count n ≡ 0
+          by-cases (yes q) = absurd (omega (arith, g .mine n q .0))
+          by-cases (no q) = omega arith
 
       one : (r : ℕ) → Dec (r ≡ n) → matches r n + g .count r ≤ 1
       one r (yes q) = rw q (omega (arith, none, matches-at-most-one n n))
@@ -132,23 +132,23 @@ module _ (H : Hall) (f : ℕ → Deed) (d s n : ℕ) where
       own r h (no q) = let m = g .mine r (omega (arith, matches-other r n q)) in (omega (arith, m .0), m .1)
 
       under : (a : ℕ) → a < suc n → f a ≡ handsBack d s → a < n
-      under a h q = go (ℕ-discrete a n)
+      under a h q = by-cases (ℕ-discrete a n)
         where
-          go : Dec (a ≡ n) → a < n
-          go (yes t) = let k : retires d s ≡ handsBack d s = sym e ∙ ap f (sym t) ∙ q in let z : _≡_ {A = ℕ} 0 1 = cc in absurd (omega arith)
-          go (no t) = omega arith
+          by-cases : Dec (a ≡ n) → a < n
+          by-cases (yes t) = let k : retires d s ≡ handsBack d s = sym e ∙ ap f (sym t) ∙ q in let z : _≡_ {A = ℕ} 0 1 = cc in absurd (omega arith)
+          by-cases (no t) = omega arith
 
       apart : (a r : ℕ) → a < n → f a ≡ handsBack d s → 1 ≤ matches r n + g .count r → g .pair a ≡ r → Dec (r ≡ n) → ⊥
       apart a r h q c z (yes w) = omega (arith, g .good a h q .earlier)
       apart a r h q c z (no w) = g .unused a r h q (omega (arith, matches-other r n w)) z
 
   -- s is handed back to the desk at place n
-  backs : (D E : Desk) → ((m : ℕ) → Range H (f m)) → ((i x c p v : ℕ) → f i ≡ takes x c p v → link H f (screenIndex H x c) i ≡ unlinked)
+  guard-hand-back : (D E : Desk) → ((m : ℕ) → Range H (f m)) → ((i x c p v : ℕ) → f i ≡ takes x c p v → link H f (screenIndex H x c) i ≡ unlinked)
       → f n ≡ handsBack d s → (g : Guard H f d s n D) → Leaves H f s n E (g .count) → Guard H f d s (suc n) E
-  backs D E sane calm e g l = record {
+  guard-hand-back D E sane calm e g l = record {
     count = left;
     tokens =
-        later E E left (λ r q. g .mine r (omega (arith, l .same r)) .0) refl refl refl refl
+        tokens-later E E left (λ r q. g .mine r (omega (arith, l .same r)) .0) refl refl refl refl
         (record { old = l .old; new = l .new; same = λ r. refl; held = l .held });
     single = λ r. omega (arith, l .same r, g .single r);
     mine = λ r q. (omega (arith, g .mine r (omega (arith, l .same r)) .0), g .mine r (omega (arith, l .same r)) .1);
@@ -211,7 +211,7 @@ module _ (H : Hall) (f : ℕ → Deed) (sane : (m : ℕ) → Range H (f m))
       → f n ≡ deed c (step H st c .answer .number) (step H st c .answer .session)
       → Guard H f d s n (deskOf st d) → Guard H f d s (suc n) (deskOf (step H st c .after) d)
   guard-step n st c formed ok ag q g =
-      go (own d (f n)) refl
+      by-cases (own d (f n)) refl
       (subst (λ (D : Deed). Effect (allScreens H) (st .shown) (deskOf st d) (deskOf (step H st c .after) d) (own d D)) (sym q) (effect H st d formed hd c))
     where
       below : (r : ℕ) → 1 ≤ g .count r → r < n
@@ -225,13 +225,13 @@ module _ (H : Hall) (f : ℕ → Deed) (sane : (m : ℕ) → Range H (f m))
       same-list : (D : Deed) → own d (f n) ≡ D → (handsBack d s ≡ D → ⊥) → (o : ℕ) → deskOf (step H st c .after) d ≡ owe (deskOf st d) o
           → Guard H f d s (suc n) (deskOf (step H st c .after) d)
       same-list D p ne o e =
-          rw e (still H f d s n (deskOf st d) (owe (deskOf st d) o) (no-hand-back D p ne) g
-          (later H f d s n (deskOf st d) (owe (deskOf st d) o) (g .count) below refl refl refl refl (g .tokens)))
+          rw e (guard-kept H f d s n (deskOf st d) (owe (deskOf st d) o) (no-hand-back D p ne) g
+          (tokens-later H f d s n (deskOf st d) (owe (deskOf st d) o) (g .count) below refl refl refl refl (g .tokens)))
 
       -- another session is retired
       wider : (v : ℕ) → deskOf st d .owed ≡ v → (s ≡ v → ⊥) → Tokens H f s (suc n) (retire (deskOf st d)) (g .count)
       wider v o ne =
-          let t = later H f d s n (deskOf st d) (deskOf st d) (g .count) below refl refl refl refl (g .tokens) in
+          let t = tokens-later H f d s n (deskOf st d) (deskOf st d) (g .count) below refl refl refl refl (g .tokens) in
           let w = copies-append s (deskOf st d .waiting) (deskOf st d .owed ∷ []) in
           let z : matches s (deskOf st d .owed) ≡ 0 = ap (matches s) o ∙ matches-other s v ne in
           record {
@@ -244,13 +244,13 @@ module _ (H : Hall) (f : ℕ → Deed) (sane : (m : ℕ) → Range H (f m))
 
       passed : Tokens H f s n (beforeHandBack (allScreens H) (st .shown) (deskOf st d)) (g .count)
       passed =
-          pass-tokens H f d s n (g .count) st ag (g .single) (λ r h. g .mine r h .1) hS (formed .screens) (begin (deskOf st d))
-          (begin-keeps (allScreens H) (deskOf st d) hS ok .going) (open-tokens H f d s n (g .count) (deskOf st d) (ok .going) (g .tokens))
+          scan-tokens H f d s n (g .count) st ag (g .single) (λ r h. g .mine r h .1) hS (formed .screens) (begin (deskOf st d))
+          (begin-keeps (allScreens H) (deskOf st d) hS ok .going) (begin-tokens H f d s n (g .count) (deskOf st d) (ok .going) (g .tokens))
 
       retiring : (v : ℕ) → deskOf st d .owed ≡ v → f n ≡ retires d v → Dec (s ≡ v) → Guard H f d s (suc n) (retire (deskOf st d))
-      retiring v o y (yes t) = gives H f d s n (deskOf st d) (o ∙ sym t) (y ∙ ap (retires d) (sym t)) g
+      retiring v o y (yes t) = guard-retire H f d s n (deskOf st d) (o ∙ sym t) (y ∙ ap (retires d) (sym t)) g
       retiring v o y (no t) =
-          still H f d s n (deskOf st d) (retire (deskOf st d))
+          guard-kept H f d s n (deskOf st d) (retire (deskOf st d))
           (λ u. let k : retires d v ≡ handsBack d s = sym y ∙ u in let z : _≡_ {A = ℕ} 0 1 = cc in omega arith) g (wider v o t)
 
       -- a collect that replies another session, or 0
@@ -258,55 +258,55 @@ module _ (H : Hall) (f : ℕ → Deed) (sane : (m : ℕ) → Range H (f m))
           → Guard H f d s (suc n) (collect (allScreens H) (st .shown) (deskOf st d) .after)
       collecting v e ne other =
           let E = collect (allScreens H) (st .shown) (deskOf st d) .after in
-          still H f d s n (deskOf st d) E other g
-          (later H f d s n E E (g .count) below refl refl refl refl (hand-other H f d s n (g .count) (beforeHandBack (allScreens H) (st .shown) (deskOf st d)) hs (λ u. ne (u ∙ e)) passed))
+          guard-kept H f d s n (deskOf st d) E other g
+          (tokens-later H f d s n E E (g .count) below refl refl refl refl (hand-back-other H f d s n (g .count) (beforeHandBack (allScreens H) (st .shown) (deskOf st d)) hs (λ u. ne (u ∙ e)) passed))
 
       handing : (v : ℕ) → collect (allScreens H) (st .shown) (deskOf st d) .session ≡ v → f n ≡ handsBack d v → Dec (s ≡ v)
           → Guard H f d s (suc n) (collect (allScreens H) (st .shown) (deskOf st d) .after)
       handing v e y (yes t) =
-          backs H f d s n (deskOf st d) (collect (allScreens H) (st .shown) (deskOf st d) .after) sane calm (y ∙ ap (handsBack d) (sym t)) g
-          (hand-same H f d s n (g .count) (beforeHandBack (allScreens H) (st .shown) (deskOf st d)) hs (t ∙ sym e) passed)
+          guard-hand-back H f d s n (deskOf st d) (collect (allScreens H) (st .shown) (deskOf st d) .after) sane calm (y ∙ ap (handsBack d) (sym t)) g
+          (hand-back-same H f d s n (g .count) (beforeHandBack (allScreens H) (st .shown) (deskOf st d)) hs (t ∙ sym e) passed)
       handing v e y (no t) = collecting v e t (λ u. let k : handsBack d v ≡ handsBack d s = sym y ∙ u in t (cc))
 
-      go : (D : Deed) → own d (f n) ≡ D → Effect (allScreens H) (st .shown) (deskOf st d) (deskOf (step H st c .after) d) D
+      by-cases : (D : Deed) → own d (f n) ≡ D → Effect (allScreens H) (st .shown) (deskOf st d) (deskOf (step H st c .after) d) D
           → Guard H f d s (suc n) (deskOf (step H st c .after) d)
-      go (takes by x p v) o e = same-list (takes by x p v) o (λ t. let z : _≡_ {A = ℕ} 0 1 = cc in omega arith) (e .owed) (e .after)
-      go (drops by x) o e = same-list (drops by x) o (λ t. let z : _≡_ {A = ℕ} 0 1 = cc in omega arith) (e .owed) (e .after)
-      go (swaps by p) o e = same-list (swaps by p) o (λ t. let z : _≡_ {A = ℕ} 0 1 = cc in omega arith) (e .owed) (e .after)
-      go (retires by v) o e = rw (e .after) (retiring v (e .owed) (own-retires d by v (f n) o) (ℕ-discrete s v))
-      go (lacksRoom by) o e = same-list (lacksRoom by) o (λ t. let z : _≡_ {A = ℕ} 0 1 = cc in omega arith) (deskOf st d .owed) (e .after)
-      go (collects by) o e =
+      by-cases (takes by x p v) o e = same-list (takes by x p v) o (λ t. let z : _≡_ {A = ℕ} 0 1 = cc in omega arith) (e .owed) (e .after)
+      by-cases (drops by x) o e = same-list (drops by x) o (λ t. let z : _≡_ {A = ℕ} 0 1 = cc in omega arith) (e .owed) (e .after)
+      by-cases (swaps by p) o e = same-list (swaps by p) o (λ t. let z : _≡_ {A = ℕ} 0 1 = cc in omega arith) (e .owed) (e .after)
+      by-cases (retires by v) o e = rw (e .after) (retiring v (e .owed) (own-retires d by v (f n) o) (ℕ-discrete s v))
+      by-cases (lacksRoom by) o e = same-list (lacksRoom by) o (λ t. let z : _≡_ {A = ℕ} 0 1 = cc in omega arith) (deskOf st d .owed) (e .after)
+      by-cases (collects by) o e =
           rw (e .after) (collecting 0 (e .session) hs (no-hand-back (collects by) o (λ t. let z : _≡_ {A = ℕ} 0 1 = cc in omega arith)))
-      go (handsBack by v) o e = rw (e .1 .after) (handing v (e .1 .session) (own-handed d by v (f n) o) (ℕ-discrete s v))
-      go nothing o e = same-list nothing o (λ t. let z : _≡_ {A = ℕ} 0 1 = cc in omega arith) (e .owed) (e .after)
+      by-cases (handsBack by v) o e = rw (e .1 .after) (handing v (e .1 .session) (own-handed d by v (f n) o) (ℕ-discrete s v))
+      by-cases nothing o e = same-list nothing o (λ t. let z : _≡_ {A = ℕ} 0 1 = cc in omega arith) (e .owed) (e .after)
 
   -- A list of calls: the list of events stands in f from place n on.
-  pub guard-run : (cs : List Call) (st : State) (n : ℕ) → ((i : ℕ) → f (n + i) ≡ deedAt (run H st cs) i) → Formed H st
+  pub guard-along : (cs : List Call) (st : State) (n : ℕ) → ((i : ℕ) → f (n + i) ≡ deedAt (run H st cs) i) → Formed H st
       → Sound (allScreens H) (deskOf st d) → ScreensAgree H f n st
       → Guard H f d s n (deskOf st d) → Guard H f d s (n + length cs) (deskOf (end H st cs) d)
-  guard-run [] st n sh formed ok ag g = subst (λ (m : ℕ). Guard H f d s m (deskOf st d)) (omega arith) g
-  guard-run (c ∷ cs) st n sh formed ok ag g =
+  guard-along [] st n sh formed ok ag g = subst (λ (m : ℕ). Guard H f d s m (deskOf st d)) (omega arith) g
+  guard-along (c ∷ cs) st n sh formed ok ag g =
       let q : f n ≡ deed c (step H st c .answer .number) (step H st c .answer .session) = shift f n (n + 0) (omega arith) ∙ sh 0 in
       subst (λ (m : ℕ). Guard H f d s m (deskOf (end H (step H st c .after) cs) d)) (omega arith)
-      (guard-run cs (step H st c .after) (suc n) (λ i. shift f (suc n + i) (n + suc i) (omega arith) ∙ sh (suc i)) (formed-step H st d formed hd c) (sound-step H d hS hd st c formed ok) (agree-step H st formed f n ag c q) (guard-step n st c formed (sound-orderly (allScreens H) (deskOf st d) ok) ag q g))
+      (guard-along cs (step H st c .after) (suc n) (λ i. shift f (suc n + i) (n + suc i) (omega arith) ∙ sh (suc i)) (formed-step H st d formed hd c) (sound-step H d hS hd st c formed ok) (agree-step H st formed f n ag c q) (guard-step n st c formed (sound-orderly (allScreens H) (deskOf st d) ok) ag q g))
 
 -- Of the list of events alone.
-pub sane-run : (H : Hall) (cs : List Call) (st : State) → Formed H st → (m : ℕ) → Range H (deedAt (run H st cs) m)
-sane-run H [] st formed m = tt
-sane-run H (c ∷ cs) st formed zero = range-step H st formed c
-sane-run H (c ∷ cs) st formed (suc m) = sane-run H cs (step H st c .after) (formed-step H st 1 formed (omega arith) c) m
+pub in-range-run : (H : Hall) (cs : List Call) (st : State) → Formed H st → (m : ℕ) → Range H (deedAt (run H st cs) m)
+in-range-run H [] st formed m = tt
+in-range-run H (c ∷ cs) st formed zero = range-step H st formed c
+in-range-run H (c ∷ cs) st formed (suc m) = in-range-run H cs (step H st c .after) (formed-step H st 1 formed (omega arith) c) m
 
-pub calm-run : (H : Hall) (f : ℕ → Deed) (cs : List Call) (st : State) (n : ℕ) → ((i : ℕ) → f (n + i) ≡ deedAt (run H st cs) i) → Formed H st
+pub takes-find-unlinked : (H : Hall) (f : ℕ → Deed) (cs : List Call) (st : State) (n : ℕ) → ((i : ℕ) → f (n + i) ≡ deedAt (run H st cs) i) → Formed H st
     → ScreensAgree H f n st → (m x c p v : ℕ) → f (n + m) ≡ takes x c p v → link H f (screenIndex H x c) (n + m) ≡ unlinked
-calm-run H f [] st n sh formed ag m x y p v t =
+takes-find-unlinked H f [] st n sh formed ag m x y p v t =
     let k : nothing ≡ takes x y p v = sym (sh m) ∙ t in let z : _≡_ {A = ℕ} 0 1 = cc in absurd (omega arith)
-calm-run H f (c ∷ cs) st n sh formed ag zero x y p v t =
+takes-find-unlinked H f (c ∷ cs) st n sh formed ag zero x y p v t =
     let e : n ≡ n + 0 = omega arith in
     let q : f n ≡ deed c (step H st c .answer .number) (step H st c .answer .session) = ap f e ∙ sh 0 in
-    subst (λ (k : ℕ). link H f (screenIndex H x y) k ≡ unlinked) e (calm-step H st formed f n ag c q x y p v (ap f e ∙ t))
-calm-run H f (c ∷ cs) st n sh formed ag (suc m) x y p v t =
+    subst (λ (k : ℕ). link H f (screenIndex H x y) k ≡ unlinked) e (take-finds-unlinked H st formed f n ag c q x y p v (ap f e ∙ t))
+takes-find-unlinked H f (c ∷ cs) st n sh formed ag (suc m) x y p v t =
     let e : n ≡ n + 0 = omega arith in
     let u : suc n + m ≡ n + suc m = omega arith in
     let q : f n ≡ deed c (step H st c .answer .number) (step H st c .answer .session) = ap f e ∙ sh 0 in
     subst (λ (k : ℕ). link H f (screenIndex H x y) k ≡ unlinked) u
-    (calm-run H f cs (step H st c .after) (suc n) (λ i. shift f (suc n + i) (n + suc i) (omega arith) ∙ sh (suc i)) (formed-step H st 1 formed (omega arith) c) (agree-step H st formed f n ag c q) m x y p v (ap f u ∙ t))
+    (takes-find-unlinked H f cs (step H st c .after) (suc n) (λ i. shift f (suc n + i) (n + suc i) (omega arith) ∙ sh (suc i)) (formed-step H st 1 formed (omega arith) c) (agree-step H st formed f n ag c q) m x y p v (ap f u ∙ t))

@@ -35,14 +35,14 @@ begun-room S f k [] hS hf hk hw = (hk, refl)
 begun-room S f k (x ∷ w) hS hf hk hw = omega (arith, mark-count-begin w, length-map w unmarked)
 
 pub begin-room : (S f : ℕ) (D : Desk) → 1 ≤ S → f ≤ 1 → Room S f D → RoomBegun S (begin D)
-begin-room S f D hS hf r = go (D .tested) refl (r .pass)
+begin-room S f D hS hf r = by-cases (D .tested) refl (r .pass)
   where
-    go : (t : List TestedPlace) → D .tested ≡ t → ScanRoom S f (D .scanned) t (length (D .waiting)) → RoomBegun S (beginAt t D)
-    go [] e p = record {
+    by-cases : (t : List TestedPlace) → D .tested ≡ t → ScanRoom S f (D .scanned) t (length (D .waiting)) → RoomBegun S (beginAt t D)
+    by-cases [] e p = record {
       total = omega (arith, r .total, ap length e, length-map (D .waiting) unmarked);
       mid = begun-room S f (D .scanned) (D .waiting) hS hf (p .0) (p .1);
     }
-    go (q ∷ qs) e p = record { total = omega (arith, r .total); mid = rw e (omega arith) }
+    by-cases (q ∷ qs) e p = record { total = omega (arith, r .total); mid = rw e (omega arith) }
 
 -- (d): the first ready one leaves.
 hand-back-room : (S : ℕ) (D : Desk) → usedPlaces D ≤ 2 * S → length (D .tested) + length (D .waiting) + 1 ≤ 2 * S
@@ -53,30 +53,30 @@ hand-back-room S D h l p = record { total = omega (arith, length-drop 1 (D .read
 settle-room : (S : ℕ) (D : Desk) → usedPlaces D ≤ 2 * S → 1 ≤ length (D .tested) → D .scanned ≤ S → 2 * length (D .tested) ≤ 3 * S + 1
     → 2 * length (D .waiting) + 1 ≤ D .scanned → (D .scanned < S → 2 * length (D .waiting) + 2 ≤ D .scanned)
     → markCount (D .tested) ≤ D .scanned → Room S 0 (handBack (settle S D) .after)
-settle-room S D h t1 hk ht hw hx hm = go (eqb (D .scanned) S) refl
+settle-room S D h t1 hk ht hw hx hm = by-cases (eqb (D .scanned) S) refl
   where
     busy : (t : List TestedPlace) → D .tested ≡ t → D .scanned < S → 2 * length (D .waiting) + 2 ≤ D .scanned
         → ScanRoom S 0 (D .scanned) t (length (D .waiting))
     busy [] e lt w2 = absurd (omega (arith, ap length e))
     busy (p ∷ ps) e lt w2 = omega (arith, ap length e, ap markCount e)
 
-    go : (b : Bool) → eqb (D .scanned) S ≡ b → Room S 0 (handBack (settleIf b D) .after)
-    go true e =
+    by-cases : (b : Bool) → eqb (D .scanned) S ≡ b → Room S 0 (handBack (settleIf b D) .after)
+    by-cases true e =
         let ks : D .scanned ≡ S = eqb-true (D .scanned) S e in
         let fk = unmarked-and-marked (D .tested) in
         let la = length-append (D .ready) (unmarkedOf (D .tested)) in
         let lb = length-append (markedOf (D .tested)) (D .waiting) in
         hand-back-room S (settleIf true D) (omega arith) (omega arith) (omega arith)
-    go false e =
+    by-cases false e =
         let lt : D .scanned < S = omega (arith, eqb-false (D .scanned) S e) in
         let w2 = hx lt in
         hand-back-room S D h (omega arith) (busy (D .tested) refl lt w2)
 
 pub collect-room : (S f : ℕ) (shown : List ℕ) (D : Desk) → 1 ≤ S → f ≤ 1 → length shown ≡ S → Room S f D → Room S 0 (collect S shown D .after)
-collect-room S f shown D hS hf hl r = go (begin D) (begin-room S f D hS hf r)
+collect-room S f shown D hS hf hl r = by-cases (begin D) (begin-room S f D hS hf r)
   where
-    go : (A : Desk) → RoomBegun S A → Room S 0 (handBack (settle S (scan shown A)) .after)
-    go A o = at (A .tested) refl (o .mid)
+    by-cases : (A : Desk) → RoomBegun S A → Room S 0 (handBack (settle S (scan shown A)) .after)
+    by-cases A o = at (A .tested) refl (o .mid)
       where
         at : (t : List TestedPlace) → A .tested ≡ t → BegunRoom S (A .scanned) t (length (A .waiting))
             → Room S 0 (handBack (settle S (scanAt t (take 2 (drop (A .scanned) shown)) A)) .after)
@@ -100,9 +100,9 @@ collect-room S f shown D hS hf hl r = go (begin D) (begin-room S f D hS hf r)
             (omega arith)
 
 pub retire-room : (S : ℕ) (D : Desk) → Room S 0 D → Room S 1 (retire D)
-retire-room S D r = record { total = omega (arith, r .total, length-append (D .waiting) (D .owed ∷ [])); pass = go (D .tested) (r .pass) }
+retire-room S D r = record { total = omega (arith, r .total, length-append (D .waiting) (D .owed ∷ [])); pass = by-cases (D .tested) (r .pass) }
   where
-    go : (t : List TestedPlace) → ScanRoom S 0 (D .scanned) t (length (D .waiting))
+    by-cases : (t : List TestedPlace) → ScanRoom S 0 (D .scanned) t (length (D .waiting))
         → ScanRoom S 1 (D .scanned) t (length (D .waiting ++ (D .owed ∷ [])))
-    go [] p = omega (arith, length-append (D .waiting) (D .owed ∷ []))
-    go (q ∷ qs) p = omega (arith, length-append (D .waiting) (D .owed ∷ []))
+    by-cases [] p = omega (arith, length-append (D .waiting) (D .owed ∷ []))
+    by-cases (q ∷ qs) p = omega (arith, length-append (D .waiting) (D .owed ∷ []))

@@ -51,7 +51,7 @@ pub record Spaced (d : ℕ) (f : Bool) (es : List Event) : Type 0 where
 
 -- of the events after the first
 spaced-next : (d : ℕ) (f : Bool) (e : Event) (es : List Event) → Spaced d f (e ∷ es) → Spaced d (pending f (own d (deedAt (e ∷ es) 0))) es
-spaced-next d f e es sp = record { between = between; since = go (own d (deedAt (e ∷ es) 0)) refl }
+spaced-next d f e es sp = record { between = between; since = by-cases (own d (deedAt (e ∷ es) 0)) refl }
   where
     down : (i j : ℕ) → CollectBetween (deedAt (e ∷ es)) d (suc i) (suc j) → CollectBetween (deedAt es) d i j
     down i j c = at (c .place) (c .after) (c .before) (c .here)
@@ -82,16 +82,16 @@ spaced-next d f e es sp = record { between = between; since = go (own d (deedAt 
         → CollectBefore d es j
     fromSince z q j b = let c = sp .since q (suc j) b in later j (c .place) (c .before) (c .here) z
 
-    go : (D : Deed) → own d (deedAt (e ∷ es) 0) ≡ D → pending f D ≡ true → (j : ℕ) → isRetireAttempt (own d (deedAt es j)) ≡ true
+    by-cases : (D : Deed) → own d (deedAt (e ∷ es) 0) ≡ D → pending f D ≡ true → (j : ℕ) → isRetireAttempt (own d (deedAt es j)) ≡ true
         → CollectBefore d es j
-    go (takes by c p v) q = fromSince (ap isCollect q)
-    go (drops by c) q = fromSince (ap isCollect q)
-    go (swaps by p) q = fromSince (ap isCollect q)
-    go (retires by v) q = λ z. fromFirst (ap isRetireAttempt q)
-    go (lacksRoom by) q = λ z. fromFirst (ap isRetireAttempt q)
-    go (collects by) q = λ z. (let o : _≡_ {A = ℕ} 0 1 = cc in absurd (omega arith))
-    go (handsBack by v) q = λ z. (let o : _≡_ {A = ℕ} 0 1 = cc in absurd (omega arith))
-    go nothing q = fromSince (ap isCollect q)
+    by-cases (takes by c p v) q = fromSince (ap isCollect q)
+    by-cases (drops by c) q = fromSince (ap isCollect q)
+    by-cases (swaps by p) q = fromSince (ap isCollect q)
+    by-cases (retires by v) q = λ z. fromFirst (ap isRetireAttempt q)
+    by-cases (lacksRoom by) q = λ z. fromFirst (ap isRetireAttempt q)
+    by-cases (collects by) q = λ z. (let o : _≡_ {A = ℕ} 0 1 = cc in absurd (omega arith))
+    by-cases (handsBack by v) q = λ z. (let o : _≡_ {A = ℕ} 0 1 = cc in absurd (omega arith))
+    by-cases nothing q = fromSince (ap isCollect q)
 
 -- a retire refused for want of room is an attempt of that desk
 own-lacks-room : (d : ℕ) (D : Deed) → D ≡ lacksRoom d → own d D ≡ lacksRoom d
@@ -228,26 +228,26 @@ module _ (H : Hall) (d : ℕ) (hS : 1 ≤ allScreens H) (hd : 1 ≤ d) where
           → Due (allScreens H) s B m (deskOf st d) → howMany isCollect (D ∷ ds) ≡ B
           → ((B m : ℕ) → Due (allScreens H) s B m (deskOf (step H st c .after) d) → howMany isCollect ds ≡ B → u ≤ howMany (isRetirementOf s) ds + m)
           → u ≤ howMany (isRetirementOf s) (D ∷ ds) + m
-      at (takes by x p v) e ds u B du hc go =
-          let h = go B m (rw (e .after) (due-owe (allScreens H) s B m (e .owed) (deskOf st d) du)) (omega arith) in omega arith
-      at (drops by x) e ds u B du hc go =
-          let h = go B m (rw (e .after) (due-owe (allScreens H) s B m (e .owed) (deskOf st d) du)) (omega arith) in omega arith
-      at (swaps by p) e ds u B du hc go =
-          let h = go B m (rw (e .after) (due-owe (allScreens H) s B m (e .owed) (deskOf st d) du)) (omega arith) in omega arith
-      at (retires by v) e ds u B du hc go =
-          let h = go B (matches s v + m) (rw (e .after) (due-retire (allScreens H) s v B m (deskOf st d) (e .owed) du)) (omega arith) in omega arith
-      at (lacksRoom by) e ds u B du hc go = let h = go B m (rw (e .after) du) (omega arith) in omega arith
-      at (collects by) e ds u zero du hc go = absurd (omega arith)
-      at (collects by) e ds u (suc B) du hc go =
+      at (takes by x p v) e ds u B du hc by-cases =
+          let h = by-cases B m (rw (e .after) (due-owe (allScreens H) s B m (e .owed) (deskOf st d) du)) (omega arith) in omega arith
+      at (drops by x) e ds u B du hc by-cases =
+          let h = by-cases B m (rw (e .after) (due-owe (allScreens H) s B m (e .owed) (deskOf st d) du)) (omega arith) in omega arith
+      at (swaps by p) e ds u B du hc by-cases =
+          let h = by-cases B m (rw (e .after) (due-owe (allScreens H) s B m (e .owed) (deskOf st d) du)) (omega arith) in omega arith
+      at (retires by v) e ds u B du hc by-cases =
+          let h = by-cases B (matches s v + m) (rw (e .after) (due-retire (allScreens H) s v B m (deskOf st d) (e .owed) du)) (omega arith) in omega arith
+      at (lacksRoom by) e ds u B du hc by-cases = let h = by-cases B m (rw (e .after) du) (omega arith) in omega arith
+      at (collects by) e ds u zero du hc by-cases = absurd (omega arith)
+      at (collects by) e ds u (suc B) du hc by-cases =
           let h =
-          go B m (rw (e .after) (due-collect (allScreens H) s B m (st .shown) (deskOf st d) hS (formed .screens) (hid .0) (orderly st ok) du))
+          by-cases B m (rw (e .after) (due-collect (allScreens H) s B m (st .shown) (deskOf st d) hS (formed .screens) (hid .0) (orderly st ok) du))
           (omega arith) in
           omega arith
-      at (handsBack by v) e ds u zero du hc go = absurd (omega arith)
-      at (handsBack by v) e ds u (suc B) du hc go =
+      at (handsBack by v) e ds u zero du hc by-cases = absurd (omega arith)
+      at (handsBack by v) e ds u (suc B) du hc by-cases =
           let h =
-          go B m (rw (e .1 .after) (due-collect (allScreens H) s B m (st .shown) (deskOf st d) hS (formed .screens) (hid .0) (orderly st ok) du))
+          by-cases B m (rw (e .1 .after) (due-collect (allScreens H) s B m (st .shown) (deskOf st d) hS (formed .screens) (hid .0) (orderly st ok) du))
           (omega arith) in
           omega arith
-      at nothing e ds u B du hc go =
-          let h = go B m (rw (e .after) (due-owe (allScreens H) s B m (e .owed) (deskOf st d) du)) (omega arith) in omega arith
+      at nothing e ds u B du hc by-cases =
+          let h = by-cases B m (rw (e .after) (due-owe (allScreens H) s B m (e .owed) (deskOf st d) du)) (omega arith) in omega arith

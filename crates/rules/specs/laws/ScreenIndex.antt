@@ -15,9 +15,9 @@ screen-less H d c x y h1 h2 h3 h4 =
 
 pub screen-same : (H : Hall) (d c x y : ℕ) → (1 ≤ d) × (d ≤ H .desks) × (1 ≤ c) × (c ≤ H .screens)
     → (1 ≤ x) × (x ≤ H .desks) × (1 ≤ y) × (y ≤ H .screens) → screenIndex H d c ≡ screenIndex H x y → (d ≡ x) × (c ≡ y)
-screen-same H d c x y a b e = go (decLt d x) (decLt x d)
+screen-same H d c x y a b e = by-cases (decLt d x) (decLt x d)
   where
-    go : Dec (d < x) → Dec (x < d) → (d ≡ x) × (c ≡ y)
-    go (yes l) g = absurd (omega (arith, screen-less H d c x y (a .0) l (a .2) (a .3)))
-    go (no l) (yes g) = absurd (omega (arith, screen-less H x y d c (b .0) g (b .2) (b .3)))
-    go (no l) (no g) = let dx : d ≡ x = omega arith in (dx, omega (arith, a .2, b .2, ap (λ (m : ℕ). (m - 1) * H .screens) dx))
+    by-cases : Dec (d < x) → Dec (x < d) → (d ≡ x) × (c ≡ y)
+    by-cases (yes l) g = absurd (omega (arith, screen-less H d c x y (a .0) l (a .2) (a .3)))
+    by-cases (no l) (yes g) = absurd (omega (arith, screen-less H x y d c (b .0) g (b .2) (b .3)))
+    by-cases (no l) (no g) = let dx : d ≡ x = omega arith in (dx, omega (arith, a .2, b .2, ap (λ (m : ℕ). (m - 1) * H .screens) dx))

@@ -40,11 +40,11 @@ still-shown H f n x v k no-drop = record {
 }
   where
     undropped : (m : ℕ) → k .shows .takenAt < m → m < suc n → f m ≡ drops (k .desk) (k .screen) → ⊥
-    undropped m a b q = go (ℕ-discrete m n)
+    undropped m a b q = by-cases (ℕ-discrete m n)
       where
-        go : Dec (m ≡ n) → ⊥
-        go (yes t) = no-drop (ap f (sym t) ∙ q)
-        go (no t) = k .shows .undropped m a (omega arith) q
+        by-cases : Dec (m ≡ n) → ⊥
+        by-cases (yes t) = no-drop (ap f (sym t) ∙ q)
+        by-cases (no t) = k .shows .undropped m a (omega arith) q
 
 module _ (H : Hall) (f : ℕ → Deed) (n : ℕ) (st : State) (formed : Formed H st) (before : AllShown H f n st) where
   -- a deed that is no drop, and no screen changes
@@ -53,7 +53,7 @@ module _ (H : Hall) (f : ℕ → Deed) (n : ℕ) (st : State) (formed : Formed H
 
   after-take : (d c p : ℕ) → firstNo (questions H st (Take d c p)) ≡ 0 → f n ≡ takes d c p (getD (st .held) (p - 1) 0)
       → AllShown H f (suc n) (perform H st (Take d c p) .after)
-  after-take d c p e q x nz = subst (ShownBy H f (suc n) x) (sym value) (go (eqb y x) refl (subst (λ (v : ℕ). v ≡ 0 → ⊥) value nz))
+  after-take d c p e q x nz = subst (ShownBy H f (suc n) x) (sym value) (by-cases (eqb y x) refl (subst (λ (v : ℕ). v ≡ 0 → ⊥) value nz))
     where
       y : ℕ
       y = screenIndex H d c
@@ -69,20 +69,20 @@ module _ (H : Hall) (f : ℕ → Deed) (n : ℕ) (st : State) (formed : Formed H
           set-at (st .shown) (screenIndex H d c) x (getD (st .held) (p - 1) 0)
           (omega (arith, formed .screens, screen-in H d c (facts .0) (facts .1) (facts .2) (facts .3)))
 
-      go : (b : Bool) → eqb (screenIndex H d c) x ≡ b → (cond b (getD (st .held) (p - 1) 0) (getD (st .shown) x 0) ≡ 0 → ⊥)
+      by-cases : (b : Bool) → eqb (screenIndex H d c) x ≡ b → (cond b (getD (st .held) (p - 1) 0) (getD (st .shown) x 0) ≡ 0 → ⊥)
           → ShownBy H f (suc n) x (cond b (getD (st .held) (p - 1) 0) (getD (st .shown) x 0))
-      go true t nz = record {
+      by-cases true t nz = record {
         desk = d;
         screen = c;
         index = eqb-true (screenIndex H d c) x t;
         shows = record { takenAt = n; position = p; earlier = omega arith; take = q; undropped = λ m a b. absurd (omega arith) };
       }
-      go false t nz =
+      by-cases false t nz =
           still-shown H f n x (getD (st .shown) x 0) (before x nz)
           (λ u. let k : takes d c p (getD (st .held) (p - 1) 0) ≡ drops (before x nz .desk) (before x nz .screen) = sym q ∙ u in let z : _≡_ {A = ℕ} 0 1 = cc in omega arith)
 
   after-drop : (d c : ℕ) → firstNo (questions H st (Drop d c)) ≡ 0 → f n ≡ drops d c → AllShown H f (suc n) (perform H st (Drop d c) .after)
-  after-drop d c e q x nz = subst (ShownBy H f (suc n) x) (sym value) (go (eqb (screenIndex H d c) x) refl (subst (λ (v : ℕ). v ≡ 0 → ⊥) value nz))
+  after-drop d c e q x nz = subst (ShownBy H f (suc n) x) (sym value) (by-cases (eqb (screenIndex H d c) x) refl (subst (λ (v : ℕ). v ≡ 0 → ⊥) value nz))
     where
       facts : (1 ≤ d) × (d ≤ H .desks) × (1 ≤ c) × (c ≤ H .screens)
       facts = drop-facts H st formed d c e
@@ -90,10 +90,10 @@ module _ (H : Hall) (f : ℕ → Deed) (n : ℕ) (st : State) (formed : Formed H
       value : getD (set (st .shown) (screenIndex H d c) 0) x 0 ≡ cond (eqb (screenIndex H d c) x) 0 (getD (st .shown) x 0)
       value = set-at (st .shown) (screenIndex H d c) x 0 (omega (arith, formed .screens, screen-in H d c (facts .0) (facts .1) (facts .2) (facts .3)))
 
-      go : (b : Bool) → eqb (screenIndex H d c) x ≡ b → (cond {A = ℕ} b 0 (getD (st .shown) x 0) ≡ 0 → ⊥)
+      by-cases : (b : Bool) → eqb (screenIndex H d c) x ≡ b → (cond {A = ℕ} b 0 (getD (st .shown) x 0) ≡ 0 → ⊥)
           → ShownBy H f (suc n) x (cond b 0 (getD (st .shown) x 0))
-      go true t nz = absurd (nz refl)
-      go false t nz = still-shown H f n x (getD (st .shown) x 0) (before x nz) other
+      by-cases true t nz = absurd (nz refl)
+      by-cases false t nz = still-shown H f n x (getD (st .shown) x 0) (before x nz) other
         where
           other : f n ≡ drops (before x nz .desk) (before x nz .screen) → ⊥
           other u =
@@ -104,35 +104,35 @@ module _ (H : Hall) (f : ℕ → Deed) (n : ℕ) (st : State) (formed : Formed H
 
   pub all-shown-step : (c : Call) → f n ≡ deed c (step H st c .answer .number) (step H st c .answer .session)
       → AllShown H f (suc n) (step H st c .after)
-  all-shown-step c q = go (firstNo (questions H st c)) c refl q
+  all-shown-step c q = by-cases (firstNo (questions H st c)) c refl q
     where
       refused : (c : Call) (m : ℕ) → f n ≡ refusedDeed c (suc m) → (a b : ℕ) → f n ≡ drops a b → ⊥
       refused (Take d c p) m q a b u = let k : nothing ≡ drops a b = sym q ∙ u in let z : _≡_ {A = ℕ} 0 1 = cc in omega arith
       refused (Drop d c) m q a b u = let k : nothing ≡ drops a b = sym q ∙ u in let z : _≡_ {A = ℕ} 0 1 = cc in omega arith
       refused (Swap d p v) m q a b u = let k : nothing ≡ drops a b = sym q ∙ u in let z : _≡_ {A = ℕ} 0 1 = cc in omega arith
-      refused (Retire d) m q a b u = go (eqb (suc m) 14) (sym q ∙ u)
+      refused (Retire d) m q a b u = by-cases (eqb (suc m) 14) (sym q ∙ u)
         where
-          go : (y : Bool) → cond y (lacksRoom d) nothing ≡ drops a b → ⊥
-          go true k = let z : _≡_ {A = ℕ} 0 1 = cc in omega arith
-          go false k = let z : _≡_ {A = ℕ} 0 1 = cc in omega arith
+          by-cases : (y : Bool) → cond y (lacksRoom d) nothing ≡ drops a b → ⊥
+          by-cases true k = let z : _≡_ {A = ℕ} 0 1 = cc in omega arith
+          by-cases false k = let z : _≡_ {A = ℕ} 0 1 = cc in omega arith
       refused (Collect d) m q a b u = let k : nothing ≡ drops a b = sym q ∙ u in let z : _≡_ {A = ℕ} 0 1 = cc in omega arith
 
       collected : (d v : ℕ) (y : Bool) → f n ≡ cond y (collects d) (handsBack d v) → (a b : ℕ) → f n ≡ drops a b → ⊥
       collected d v true q a b u = let k : collects d ≡ drops a b = sym q ∙ u in let z : _≡_ {A = ℕ} 0 1 = cc in omega arith
       collected d v false q a b u = let k : handsBack d v ≡ drops a b = sym q ∙ u in let z : _≡_ {A = ℕ} 0 1 = cc in omega arith
 
-      go : (m : ℕ) (c : Call) → firstNo (questions H st c) ≡ m
+      by-cases : (m : ℕ) (c : Call) → firstNo (questions H st c) ≡ m
           → f n ≡ deed c (decide m st (perform H st c) .answer .number) (decide m st (perform H st c) .answer .session)
           → AllShown H f (suc n) (decide m st (perform H st c) .after)
-      go zero (Take d c p) e q = after-take d c p e q
-      go zero (Drop d c) e q = after-drop d c e q
-      go zero (Swap d p v) e q = unchanged (λ a b u. let k : swaps d p ≡ drops a b = sym q ∙ u in let z : _≡_ {A = ℕ} 0 1 = cc in omega arith)
-      go zero (Retire d) e q =
+      by-cases zero (Take d c p) e q = after-take d c p e q
+      by-cases zero (Drop d c) e q = after-drop d c e q
+      by-cases zero (Swap d p v) e q = unchanged (λ a b u. let k : swaps d p ≡ drops a b = sym q ∙ u in let z : _≡_ {A = ℕ} 0 1 = cc in omega arith)
+      by-cases zero (Retire d) e q =
           unchanged (λ a b u. let k : retires d (deskOf st d .owed) ≡ drops a b = sym q ∙ u in let z : _≡_ {A = ℕ} 0 1 = cc in omega arith)
-      go zero (Collect d) e q =
+      by-cases zero (Collect d) e q =
           unchanged
           (collected d (collect (allScreens H) (st .shown) (deskOf st d) .session) (eqb (collect (allScreens H) (st .shown) (deskOf st d) .session) 0) q)
-      go (suc m) c e q = unchanged (refused c m q)
+      by-cases (suc m) c e q = unchanged (refused c m q)
 
 -- a session that stands at no place of a list
 copies-none : (s : ℕ) (xs : List ℕ) → ((x : ℕ) → getD xs x 0 ≡ s → ⊥) → copies s xs ≡ 0

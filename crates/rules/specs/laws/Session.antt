@@ -25,37 +25,37 @@ module _ (H : Hall) (st : State) (formed : Formed H st) where
 
   held-step : (c : Call) (p : ℕ) → 1 ≤ p → ((d : ℕ) → deed c (step H st c .answer .number) (step H st c .answer .session) ≡ swaps d p → ⊥)
       → getD (step H st c .after .held) (p - 1) 0 ≡ getD (st .held) (p - 1) 0
-  held-step c p hp no-swap = go (firstNo (questions H st c)) c refl no-swap
+  held-step c p hp no-swap = by-cases (firstNo (questions H st c)) c refl no-swap
     where
-      go : (m : ℕ) (c : Call) → firstNo (questions H st c) ≡ m
+      by-cases : (m : ℕ) (c : Call) → firstNo (questions H st c) ≡ m
           → ((d : ℕ) → deed c (decide m st (perform H st c) .answer .number) (decide m st (perform H st c) .answer .session) ≡ swaps d p → ⊥)
           → getD (decide m st (perform H st c) .after .held) (p - 1) 0 ≡ getD (st .held) (p - 1) 0
-      go zero (Take x y q) e z = refl
-      go zero (Drop x y) e z = refl
-      go zero (Swap x q w) e z =
+      by-cases zero (Take x y q) e z = refl
+      by-cases zero (Drop x y) e z = refl
+      by-cases zero (Swap x q w) e z =
           let t = swap-facts H st formed x q w e in
           getD-set-other (st .held) (q - 1) (p - 1) w 0 (λ u. let qp : q ≡ p = omega (arith, t .2) in z x (ap (swaps x) qp))
-      go zero (Retire x) e z = refl
-      go zero (Collect x) e z = refl
-      go (suc m) c e z = refl
+      by-cases zero (Retire x) e z = refl
+      by-cases zero (Collect x) e z = refl
+      by-cases (suc m) c e z = refl
 
   owed-step : (c : Call) (e : ℕ) → 1 ≤ e → (deskOf st e .owed ≡ 0 → ⊥)
       → ((w : ℕ) → deed c (step H st c .answer .number) (step H st c .answer .session) ≡ retires e w → ⊥)
       → deskOf (step H st c .after) e .owed ≡ deskOf st e .owed
-  owed-step c e he nz no-retire = go (firstNo (questions H st c)) c refl no-retire
+  owed-step c e he nz no-retire = by-cases (firstNo (questions H st c)) c refl no-retire
     where
-      go : (m : ℕ) (c : Call) → firstNo (questions H st c) ≡ m
+      by-cases : (m : ℕ) (c : Call) → firstNo (questions H st c) ≡ m
           → ((w : ℕ) → deed c (decide m st (perform H st c) .answer .number) (decide m st (perform H st c) .answer .session) ≡ retires e w → ⊥)
           → deskOf (decide m st (perform H st c) .after) e .owed ≡ deskOf st e .owed
-      go zero (Take x y q) k z = refl
-      go zero (Drop x y) k z = refl
-      go zero (Swap x q w) k z =
+      by-cases zero (Take x y q) k z = refl
+      by-cases zero (Drop x y) k z = refl
+      by-cases zero (Swap x q w) k z =
           let t = swap-facts H st formed x q w k in
           others-owed x e (owe (deskOf st x) (getD (st .held) (q - 1) 0)) (t .0) he (λ u. nz (ap (λ (m : ℕ). deskOf st m .owed) (sym u) ∙ t .3))
-      go zero (Retire x) k z =
+      by-cases zero (Retire x) k z =
           others-owed x e (retire (deskOf st x)) (desk-fact H st formed x _ k .0) he
           (λ u. z (deskOf st x .owed) (ap (λ (m : ℕ). retires m (deskOf st x .owed)) u))
-      go zero (Collect x) k z = at′ (ℕ-discrete x e)
+      by-cases zero (Collect x) k z = at′ (ℕ-discrete x e)
         where
           at′ : Dec (x ≡ e)
               → getD (set (st .desks) (x - 1) (collect (allScreens H) (st .shown) (deskOf st x) .after)) (e - 1) emptyDesk .owed ≡ deskOf st e .owed
@@ -63,89 +63,89 @@ module _ (H : Hall) (st : State) (formed : Formed H st) where
               rw (← u)
               (own-owed x (collect (allScreens H) (st .shown) (deskOf st x) .after) (desk-fact H st formed x _ k .0) (desk-fact H st formed x _ k .1) ∙ owed-collect (allScreens H) (st .shown) (deskOf st x))
           at′ (no u) = others-owed x e (collect (allScreens H) (st .shown) (deskOf st x) .after) (desk-fact H st formed x _ k .0) he u
-      go (suc m) c k z = refl
+      by-cases (suc m) c k z = refl
 
   -- a refused call, and a collect, are no take, swap or retirement
   refused-no : (P : Deed → Type 0) → ((d : ℕ) → P (lacksRoom d) → ⊥) → (P nothing → ⊥) → (c : Call) (n : ℕ) → P (refusedDeed c (suc n)) → ⊥
   refused-no P a b (Take x y p) n h = b h
   refused-no P a b (Drop x y) n h = b h
   refused-no P a b (Swap x p v) n h = b h
-  refused-no P a b (Retire x) n h = go (eqb (suc n) 14) h
+  refused-no P a b (Retire x) n h = by-cases (eqb (suc n) 14) h
     where
-      go : (z : Bool) → P (cond z (lacksRoom x) nothing) → ⊥
-      go true h = a x h
-      go false h = b h
+      by-cases : (z : Bool) → P (cond z (lacksRoom x) nothing) → ⊥
+      by-cases true h = a x h
+      by-cases false h = b h
   refused-no P a b (Collect x) n h = b h
 
   collect-no : (P : Deed → Type 0) → ((d : ℕ) → P (collects d) → ⊥) → ((d v : ℕ) → P (handsBack d v) → ⊥) → (x v : ℕ) → P (acceptedDeed (Collect x) v)
       → ⊥
-  collect-no P a b x v h = go (eqb v 0) h
+  collect-no P a b x v h = by-cases (eqb v 0) h
     where
-      go : (z : Bool) → P (cond z (collects x) (handsBack x v)) → ⊥
-      go true h = a x h
-      go false h = b x v h
+      by-cases : (z : Bool) → P (cond z (collects x) (handsBack x v)) → ⊥
+      by-cases true h = a x h
+      by-cases false h = b x v h
 
   -- an accepted take replies what stands at its position
   take-does : (c : Call) (x y p v : ℕ) → deed c (step H st c .answer .number) (step H st c .answer .session) ≡ takes x y p v
       → (1 ≤ p) × (v ≡ getD (st .held) (p - 1) 0) × (getD (st .held) (p - 1) 0 ≡ 0 → ⊥)
-  take-does c x y p v = go (firstNo (questions H st c)) c refl
+  take-does c x y p v = by-cases (firstNo (questions H st c)) c refl
     where
-      go : (m : ℕ) (c : Call) → firstNo (questions H st c) ≡ m
+      by-cases : (m : ℕ) (c : Call) → firstNo (questions H st c) ≡ m
           → deed c (decide m st (perform H st c) .answer .number) (decide m st (perform H st c) .answer .session) ≡ takes x y p v
           → (1 ≤ p) × (v ≡ getD (st .held) (p - 1) 0) × (getD (st .held) (p - 1) 0 ≡ 0 → ⊥)
-      go zero (Take a b q) e k =
+      by-cases zero (Take a b q) e k =
           let t = take-facts H st formed a b q e in
           let qp : q ≡ p = cc in
           let sv : getD (st .held) (q - 1) 0 ≡ v = cc in
           rw (← qp) (t .4, sym sv, t .6)
-      go zero (Drop a b) e k = let z : _≡_ {A = ℕ} 0 1 = cc in absurd (omega arith)
-      go zero (Swap a q w) e k = let z : _≡_ {A = ℕ} 0 1 = cc in absurd (omega arith)
-      go zero (Retire a) e k = let z : _≡_ {A = ℕ} 0 1 = cc in absurd (omega arith)
-      go zero (Collect a) e k =
+      by-cases zero (Drop a b) e k = let z : _≡_ {A = ℕ} 0 1 = cc in absurd (omega arith)
+      by-cases zero (Swap a q w) e k = let z : _≡_ {A = ℕ} 0 1 = cc in absurd (omega arith)
+      by-cases zero (Retire a) e k = let z : _≡_ {A = ℕ} 0 1 = cc in absurd (omega arith)
+      by-cases zero (Collect a) e k =
           absurd
           (collect-no (λ D. D ≡ takes x y p v) (λ d h. let z : _≡_ {A = ℕ} 0 1 = cc in omega arith) (λ d w h. let z : _≡_ {A = ℕ} 0 1 = cc in omega arith) a (collect (allScreens H) (st .shown) (deskOf st a) .session) k)
-      go (suc m) c e k =
+      by-cases (suc m) c e k =
           absurd
           (refused-no (λ D. D ≡ takes x y p v) (λ d h. let z : _≡_ {A = ℕ} 0 1 = cc in omega arith) (λ h. let z : _≡_ {A = ℕ} 0 1 = cc in omega arith) c m k)
 
   -- an accepted swap makes the desk owe what stood there
   swap-does : (c : Call) (d p : ℕ) → deed c (step H st c .answer .number) (step H st c .answer .session) ≡ swaps d p
       → (1 ≤ d) × (deskOf (step H st c .after) d .owed ≡ getD (st .held) (p - 1) 0)
-  swap-does c d p = go (firstNo (questions H st c)) c refl
+  swap-does c d p = by-cases (firstNo (questions H st c)) c refl
     where
-      go : (m : ℕ) (c : Call) → firstNo (questions H st c) ≡ m
+      by-cases : (m : ℕ) (c : Call) → firstNo (questions H st c) ≡ m
           → deed c (decide m st (perform H st c) .answer .number) (decide m st (perform H st c) .answer .session) ≡ swaps d p
           → (1 ≤ d) × (deskOf (decide m st (perform H st c) .after) d .owed ≡ getD (st .held) (p - 1) 0)
-      go zero (Take a b q) e k = let z : _≡_ {A = ℕ} 0 1 = cc in absurd (omega arith)
-      go zero (Drop a b) e k = let z : _≡_ {A = ℕ} 0 1 = cc in absurd (omega arith)
-      go zero (Swap a q w) e k =
+      by-cases zero (Take a b q) e k = let z : _≡_ {A = ℕ} 0 1 = cc in absurd (omega arith)
+      by-cases zero (Drop a b) e k = let z : _≡_ {A = ℕ} 0 1 = cc in absurd (omega arith)
+      by-cases zero (Swap a q w) e k =
           let t = swap-facts H st formed a q w e in
           let ad : a ≡ d = cc in
           let qp : q ≡ p = cc in
           rw (← ad, ← qp) (t .0, own-owed a (owe (deskOf st a) (getD (st .held) (q - 1) 0)) (t .0) (t .1))
-      go zero (Retire a) e k = let z : _≡_ {A = ℕ} 0 1 = cc in absurd (omega arith)
-      go zero (Collect a) e k =
+      by-cases zero (Retire a) e k = let z : _≡_ {A = ℕ} 0 1 = cc in absurd (omega arith)
+      by-cases zero (Collect a) e k =
           absurd
           (collect-no (λ D. D ≡ swaps d p) (λ x h. let z : _≡_ {A = ℕ} 0 1 = cc in omega arith) (λ x w h. let z : _≡_ {A = ℕ} 0 1 = cc in omega arith) a (collect (allScreens H) (st .shown) (deskOf st a) .session) k)
-      go (suc m) c e k =
+      by-cases (suc m) c e k =
           absurd
           (refused-no (λ D. D ≡ swaps d p) (λ x h. let z : _≡_ {A = ℕ} 0 1 = cc in omega arith) (λ h. let z : _≡_ {A = ℕ} 0 1 = cc in omega arith) c m k)
 
   -- an accepted retire is of what the desk owes
   retire-does : (c : Call) (d s : ℕ) → deed c (step H st c .answer .number) (step H st c .answer .session) ≡ retires d s → deskOf st d .owed ≡ s
-  retire-does c d s = go (firstNo (questions H st c)) c refl
+  retire-does c d s = by-cases (firstNo (questions H st c)) c refl
     where
-      go : (m : ℕ) (c : Call) → firstNo (questions H st c) ≡ m
+      by-cases : (m : ℕ) (c : Call) → firstNo (questions H st c) ≡ m
           → deed c (decide m st (perform H st c) .answer .number) (decide m st (perform H st c) .answer .session) ≡ retires d s
           → deskOf st d .owed ≡ s
-      go zero (Take a b q) e k = let z : _≡_ {A = ℕ} 0 1 = cc in absurd (omega arith)
-      go zero (Drop a b) e k = let z : _≡_ {A = ℕ} 0 1 = cc in absurd (omega arith)
-      go zero (Swap a q w) e k = let z : _≡_ {A = ℕ} 0 1 = cc in absurd (omega arith)
-      go zero (Retire a) e k = let ad : a ≡ d = cc in let os : deskOf st a .owed ≡ s = cc in ap (λ (m : ℕ). deskOf st m .owed) (sym ad) ∙ os
-      go zero (Collect a) e k =
+      by-cases zero (Take a b q) e k = let z : _≡_ {A = ℕ} 0 1 = cc in absurd (omega arith)
+      by-cases zero (Drop a b) e k = let z : _≡_ {A = ℕ} 0 1 = cc in absurd (omega arith)
+      by-cases zero (Swap a q w) e k = let z : _≡_ {A = ℕ} 0 1 = cc in absurd (omega arith)
+      by-cases zero (Retire a) e k = let ad : a ≡ d = cc in let os : deskOf st a .owed ≡ s = cc in ap (λ (m : ℕ). deskOf st m .owed) (sym ad) ∙ os
+      by-cases zero (Collect a) e k =
           absurd
           (collect-no (λ D. D ≡ retires d s) (λ x h. let z : _≡_ {A = ℕ} 0 1 = cc in omega arith) (λ x w h. let z : _≡_ {A = ℕ} 0 1 = cc in omega arith) a (collect (allScreens H) (st .shown) (deskOf st a) .session) k)
-      go (suc m) c e k =
+      by-cases (suc m) c e k =
           absurd
           (refused-no (λ D. D ≡ retires d s) (λ x h. let z : _≡_ {A = ℕ} 0 1 = cc in omega arith) (λ h. let z : _≡_ {A = ℕ} 0 1 = cc in omega arith) c m k)
 

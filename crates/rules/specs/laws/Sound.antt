@@ -12,6 +12,7 @@ use Rattle.rules.specs.Hall.{Desk, TestedPlace, marked, unmarked, usedPl
 use Rattle.rules.specs.History.{copies}
 use Rattle.rules.specs.Steps.{begin, beginAt, collect, markEach, nextScreens, owe, retire, scan, settle}
 use Rattle.rules.specs.Table.{bitsOfWords, encodeDesk, every, listOf, marksOf, ones, recordSound, scanSound, sessionsOf, wordsOfBits}
+use Rattle.rules.specs.laws.Bools.{and-true}
 use Rattle.rules.specs.laws.Collect.{Orderly, Scanning, by-scan, collect-orderly, copiesOn, retire-orderly}
 use Rattle.rules.specs.laws.Encoding.{length-marks, length-sessions, marks-read-back, ones-marks}
 use Rattle.rules.specs.laws.Lists.{copies-append}
@@ -27,11 +28,11 @@ pub record Sound (S : ℕ) (D : Desk) : Type 0 where
   pub pass : ScanFits S (D .scanned) (D .tested)
 
 pub sound-orderly : (S : ℕ) (D : Desk) → Sound S D → Orderly S D
-sound-orderly S D s = record { total = s .total; real = s .real; going = go (D .tested) (s .pass) }
+sound-orderly S D s = record { total = s .total; real = s .real; going = by-cases (D .tested) (s .pass) }
   where
-    go : (t : List TestedPlace) → ScanFits S (D .scanned) t → Scanning S (D .scanned) t
-    go [] p = p
-    go (q ∷ qs) p = p .2
+    by-cases : (t : List TestedPlace) → ScanFits S (D .scanned) t → Scanning S (D .scanned) t
+    by-cases [] p = p
+    by-cases (q ∷ qs) p = p .2
 
 -- The steps keep it.
 pub sound-owe : (S o : ℕ) (D : Desk) → Sound S D → Sound S (owe D o)
@@ -49,7 +50,7 @@ begun-scanning S k [] m = m
 begun-scanning S k (p ∷ ps) m = m .1
 
 begun-fits : (S : ℕ) (D : Desk) → 1 ≤ S → Sound S D → BegunFits S (begin D .scanned) (begin D .tested)
-begun-fits S D hS s = go (D .tested) refl (s .pass)
+begun-fits S D hS s = by-cases (D .tested) refl (s .pass)
   where
     start : (w : List ℕ) → D .scanned ≡ 0 → BegunFits S (D .scanned) (map unmarked w)
     start [] h = h
@@ -59,9 +60,9 @@ begun-fits S D hS s = go (D .tested) refl (s .pass)
     again [] p = p
     again (q ∷ qs) p = omega arith
 
-    go : (t : List TestedPlace) → D .tested ≡ t → ScanFits S (D .scanned) t → BegunFits S (beginAt t D .scanned) (beginAt t D .tested)
-    go [] e p = start (D .waiting) p
-    go (q ∷ qs) e p = again (D .tested) (s .pass)
+    by-cases : (t : List TestedPlace) → D .tested ≡ t → ScanFits S (D .scanned) t → BegunFits S (beginAt t D .scanned) (beginAt t D .tested)
+    by-cases [] e p = start (D .waiting) p
+    by-cases (q ∷ qs) e p = again (D .tested) (s .pass)
 
 scan-collect : (S : ℕ) (shown : List ℕ) (A : Desk) → 1 ≤ S → length shown ≡ S → BegunFits S (A .scanned) (A .tested)
     → ScanFits S (settle S (scan shown A) .scanned) (settle S (scan shown A) .tested)
@@ -93,10 +94,6 @@ collect-sound S shown D hS hl s =
     record { total = o .total; real = o .real; pass = scan-collect S shown (begin D) hS hl (begun-fits S D hS s) }
 
 -- The record of a sound desk passes the test.
-pub and-true : (a b : Bool) → a ≡ true → b ≡ true → a && b ≡ true
-and-true true b p q = q
-and-true false b p q = p
-
 every-real : (xs : List ℕ) → copies 0 xs ≡ 0 → every (λ x. not (eqb x 0)) xs ≡ true
 every-real [] h = refl
 every-real (x ∷ xs) h = and-true (not (eqb x 0)) (every (λ x. not (eqb x 0)) xs) (ap not (ne-eqb x 0 nz)) (every-real xs (omega arith))

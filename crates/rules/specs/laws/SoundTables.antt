@@ -13,7 +13,9 @@ use Rattle.rules.specs.History.{copies}
 use Rattle.rules.specs.Steps.{Call, perform}
 use Rattle.rules.specs.Table.{bitsOfWords, decode, decodeDesk, encode, every, everyRecord, hallIn, need, ones, pieces, placesOf, recordSound}
 use Rattle.rules.specs.Table.{recordWidth, recordsIn, scanSound, sound, written}
-use Rattle.rules.specs.laws.Decoding.{and-1, and-2, flags-join, length-unwords, list-parts, part-a, part-b, part-c, same-table}
+use Rattle.rules.specs.laws.Bools.{and-left, and-right}
+use Rattle.rules.specs.laws.Decoding.{length-bits-of-words, list-parts, marks-of-places, ready-length, same-table, tested-length}
+use Rattle.rules.specs.laws.Decoding.{waiting-length}
 use Rattle.rules.specs.laws.Encoding.{ones-marks}
 use Rattle.rules.specs.laws.Lists.{matches, matches-other}
 use Rattle.rules.specs.laws.Marks.{markCount}
@@ -23,20 +25,20 @@ use Rattle.rules.specs.laws.Tables.{All, Opens, Valid, written-is}
 
 real-cnt : (l : List ℕ) → every (λ x. not (eqb x 0)) l ≡ true → copies 0 l ≡ 0
 real-cnt [] h = refl
-real-cnt (x ∷ l) h = go (eqb x 0) refl (real-cnt l) h
+real-cnt (x ∷ l) h = by-cases (eqb x 0) refl (real-cnt l) h
   where
-    go : (b : Bool) → eqb x 0 ≡ b → (every (λ y. not (eqb y 0)) l ≡ true → copies 0 l ≡ 0) → not b && every (λ y. not (eqb y 0)) l ≡ true
+    by-cases : (b : Bool) → eqb x 0 ≡ b → (every (λ y. not (eqb y 0)) l ≡ true → copies 0 l ≡ 0) → not b && every (λ y. not (eqb y 0)) l ≡ true
         → matches 0 x + copies 0 l ≡ 0
-    go true e ih q = let z : _≡_ {A = ℕ} 0 1 = cc in absurd (omega arith)
-    go false e ih q = omega (arith, matches-other 0 x (λ z. eqb-false x 0 e (sym z)), ih q)
+    by-cases true e ih q = let z : _≡_ {A = ℕ} 0 1 = cc in absurd (omega arith)
+    by-cases false e ih q = omega (arith, matches-other 0 x (λ z. eqb-false x 0 e (sym z)), ih q)
 
 pass-of : (S b k : ℕ) (T : List TestedPlace) → length T ≡ b → scanSound S b k ≡ true → markCount T ≤ k → ScanFits S k T
 pass-of S zero k [] l h m = eqb-true k 0 h
 pass-of S zero k (p ∷ T) l h m = absurd (omega arith)
 pass-of S (suc b) k [] l h m = absurd (omega arith)
 pass-of S (suc b) k (p ∷ T) l h m =
-    let h1 = and-2 (eqb (k % 2) 0) (leb 2 k && ltb k S) h in
-    (eqb-true (k % 2) 0 (and-1 (eqb (k % 2) 0) (leb 2 k && ltb k S) h), leb-true 2 k (and-1 (leb 2 k) (ltb k S) h1), ltb-true k S (and-2 (leb 2 k) (ltb k S) h1), m)
+    let h1 = and-right (eqb (k % 2) 0) (leb 2 k && ltb k S) h in
+    (eqb-true (k % 2) 0 (and-left (eqb (k % 2) 0) (leb 2 k && ltb k S) h), leb-true 2 k (and-left (leb 2 k) (ltb k S) h1), ltb-true k S (and-right (leb 2 k) (ltb k S) h1), m)
 
 -- a record that passes the test is of a sound desk
 pub desk-sound : (S : ℕ) (r : List ℕ) → length r ≡ 13 + 2 * S → S ≤ 64 → recordSound S r ≡ true → Sound S (decodeDesk r)
@@ -54,25 +56,25 @@ desk-sound S r lr hS e =
     let q4 = eqb (ones (drop b u)) 0 in
     let q5 = scanSound S b k in
     let q6 = leb (ones u) k in
-    let e1 = and-2 q1 (q2 && (q3 && (q4 && (q5 && q6)))) e in
-    let e2 = and-2 q2 (q3 && (q4 && (q5 && q6))) e1 in
-    let e3 = and-2 q3 (q4 && (q5 && q6)) e2 in
-    let e4 = and-2 q4 (q5 && q6) e3 in
-    let h0 : a + b + c ≤ 2 * S = leb-true (a + b + c) (2 * S) (and-1 q1 (q2 && (q3 && (q4 && (q5 && q6)))) e) in
+    let e1 = and-right q1 (q2 && (q3 && (q4 && (q5 && q6)))) e in
+    let e2 = and-right q2 (q3 && (q4 && (q5 && q6))) e1 in
+    let e3 = and-right q3 (q4 && (q5 && q6)) e2 in
+    let e4 = and-right q4 (q5 && q6) e3 in
+    let h0 : a + b + c ≤ 2 * S = leb-true (a + b + c) (2 * S) (and-left q1 (q2 && (q3 && (q4 && (q5 && q6)))) e) in
     let hl : length l ≡ 2 * S = omega (arith, length-drop 13 r) in
-    let hu : length u ≡ 128 = omega (arith, length-unwords (take 8 (drop 5 r)), length-take-le 8 (drop 5 r) (omega (arith, length-drop 5 r))) in
+    let hu : length u ≡ 128 = omega (arith, length-bits-of-words (take 8 (drop 5 r)), length-take-le 8 (drop 5 r) (omega (arith, length-drop 5 r))) in
     let T : List TestedPlace = placesOf (take b (drop a l)) (take b u) in
     let f =
-    flags-join (take b (drop a l)) (take b u)
+    marks-of-places (take b (drop a l)) (take b u)
     (omega (arith, length-take-le b (drop a l) (omega (arith, length-drop a l)), length-take-le b u (omega arith))) in
-    let few : ones u ≤ k = leb-true (ones u) k (and-2 q5 q6 e4) in
+    let few : ones u ≤ k = leb-true (ones u) k (and-right q5 q6 e4) in
     let m : markCount T ≤ k = omega (arith, ones-marks T, ap ones f, ones-append (take b u) (drop b u), ap ones (take-append-drop b u)) in
     record {
-      total = omega (arith, part-a S a b c l u hl hu hS h0, part-b S a b c l u hl hu hS h0, part-c S a b c l u hl hu hS h0);
+      total = omega (arith, ready-length S a b c l u hl hu hS h0, tested-length S a b c l u hl hu hS h0, waiting-length S a b c l u hl hu hS h0);
       real =
           sym (copies-list 0 (decodeDesk r)) ∙ ap (copies 0) (list-parts S a b c l u hl hu hS h0)
-          ∙ real-cnt (take (a + b + c) l) (and-1 q2 (q3 && (q4 && (q5 && q6))) e1);
-      pass = pass-of S b k T (part-b S a b c l u hl hu hS h0) (and-1 q5 q6 e4) m;
+          ∙ real-cnt (take (a + b + c) l) (and-left q2 (q3 && (q4 && (q5 && q6))) e1);
+      pass = pass-of S b k T (tested-length S a b c l u hl hu hS h0) (and-left q5 q6 e4) m;
     }
 
 module _ (S : ℕ) (hS : S ≤ 64) where
@@ -81,7 +83,7 @@ module _ (S : ℕ) (hS : S ≤ 64) where
   records-sound zero x h e = tt
   records-sound (suc n) x h e =
       let w : ℕ = 13 + 2 * S in
-      (desk-sound S (take w x) (length-take-le w x (omega arith)) hS (and-1 (recordSound S (take w x)) (everyRecord (recordSound S) (pieces n w (drop w x))) e), records-sound n (drop w x) (omega (arith, length-drop w x)) (and-2 (recordSound S (take w x)) (everyRecord (recordSound S) (pieces n w (drop w x))) e))
+      (desk-sound S (take w x) (length-take-le w x (omega arith)) hS (and-left (recordSound S (take w x)) (everyRecord (recordSound S) (pieces n w (drop w x))) e), records-sound n (drop w x) (omega (arith, length-drop w x)) (and-right (recordSound S (take w x)) (everyRecord (recordSound S) (pieces n w (drop w x))) e))
 
 length-records : (n w : ℕ) (x : List ℕ) → length (pieces n w x) ≡ n
 length-records zero w x = refl

@@ -96,7 +96,7 @@ module _ (H : Hall) (d : ℕ) (outside : (1 ≤ d) × (d ≤ H .desks) → ⊥) 
 
 -- Session 0 is neither retired nor handed back.
 range-not-zero : (H : Hall) (d : ℕ) (D : Deed) → Range H D → (isRetirementOf 0 (own d D) ≡ false) × (isHandBackOf 0 (own d D) ≡ false)
-range-not-zero H d D r = go (own-cases d D)
+range-not-zero H d D r = by-cases (own-cases d D)
   where
     plain : (E : Deed) → Range H E → (isRetirementOf 0 E ≡ false) × (isHandBackOf 0 E ≡ false)
     plain (takes by c p v) r = (refl, refl)
@@ -108,9 +108,9 @@ range-not-zero H d D r = go (own-cases d D)
     plain (handsBack by v) r = (refl, ne-eqb 0 v (λ z. r .2 (sym z)))
     plain nothing r = (refl, refl)
 
-    go : Own d D → (isRetirementOf 0 (own d D) ≡ false) × (isHandBackOf 0 (own d D) ≡ false)
-    go (othersDeed e) = (ap (isRetirementOf 0) e, ap (isHandBackOf 0) e)
-    go (ownDeed e) = (ap (isRetirementOf 0) e ∙ plain D r .0, ap (isHandBackOf 0) e ∙ plain D r .1)
+    by-cases : Own d D → (isRetirementOf 0 (own d D) ≡ false) × (isHandBackOf 0 (own d D) ≡ false)
+    by-cases (othersDeed e) = (ap (isRetirementOf 0) e, ap (isHandBackOf 0) e)
+    by-cases (ownDeed e) = (ap (isRetirementOf 0) e ∙ plain D r .0, ap (isHandBackOf 0) e ∙ plain D r .1)
 
 pub no-session-zero : (H : Hall) (cs : List Call) (st : State) → Formed H st → (d : ℕ)
     → (retirementsOf d 0 (run H st cs) ≡ 0) × (handBacksOf d 0 (run H st cs) ≡ 0)

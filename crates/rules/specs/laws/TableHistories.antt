@@ -23,21 +23,21 @@ use Rattle.rules.specs.laws.Runs.{copies-run, sound-run}
 use Rattle.rules.specs.laws.Session.{same-session}
 use Rattle.rules.specs.laws.Sound.{copies-list, length-list}
 use Rattle.rules.specs.laws.Splits.{no-session-zero, outsider-counts, run-take}
-use Rattle.rules.specs.laws.Tables.{Opens, Valid, desk-record, fresh-valid, is-end, is-open, is-run, some-screens, valid-end}
+use Rattle.rules.specs.laws.Tables.{Opens, Valid, desk-record, fresh-valid, opened-is-fresh, some-screens, table-end, table-run, valid-end}
 
 -- ---- What an accepted opening says of its hall.
 pub opening-asks : (H : Hall) (t : List ℕ) → openTable H t .answer .number ≡ 0
     → (firstNo (openQuestions H t) ≡ 0) × (openTable H t .after ≡ openedTable H t)
 unfolding openTable
-opening-asks H t ok = go (firstNo (openQuestions H t)) refl ok
+opening-asks H t ok = by-cases (firstNo (openQuestions H t)) refl ok
   where
-    go : (n : ℕ) → firstNo (openQuestions H t) ≡ n → openIf n H t .answer .number ≡ 0
+    by-cases : (n : ℕ) → firstNo (openQuestions H t) ≡ n → openIf n H t .answer .number ≡ 0
         → (firstNo (openQuestions H t) ≡ 0) × (openIf n H t .after ≡ openedTable H t)
-    go zero e z = (e, refl)
-    go (suc n) e z = absurd (omega arith)
+    by-cases zero e z = (e, refl)
+    by-cases (suc n) e z = absurd (omega arith)
 
 -- ---- A desk's list and counts, as they stand in its record.
-counts-encoded : (S : ℕ) (D : Desk) → usedIn (encodeDesk S D) ≡ usedPlaces D
+pub counts-encoded : (S : ℕ) (D : Desk) → usedIn (encodeDesk S D) ≡ usedPlaces D
 unfolding encodeDesk
 counts-encoded S D = refl
 
@@ -50,10 +50,10 @@ module _ (H : Hall) (ok : Opens H) (t : List ℕ) (cs : List Call) where
   some = some-screens H ok
 
   run-is : runTable (openedTable H t) cs ≡ run H (fresh H) cs
-  run-is = rw (is-open H ok t) (is-run H ok cs (fresh H) (fresh-valid H ok) (drop (need H) t))
+  run-is = rw (opened-is-fresh H ok t) (table-run H ok cs (fresh H) (fresh-valid H ok) (drop (need H) t))
 
   end-is : (i : ℕ) → endTable (openedTable H t) (take i cs) ≡ encode H (end H (fresh H) (take i cs)) ++ drop (need H) t
-  end-is i = rw (is-open H ok t) (is-end H ok (take i cs) (fresh H) (fresh-valid H ok) (drop (need H) t))
+  end-is i = rw (opened-is-fresh H ok t) (table-end H ok (take i cs) (fresh H) (fresh-valid H ok) (drop (need H) t))
 
   valid : (i : ℕ) → Valid H (end H (fresh H) (take i cs))
   valid i = valid-end H ok (take i cs) (fresh H) (fresh-valid H ok)
@@ -66,30 +66,30 @@ module _ (H : Hall) (ok : Opens H) (t : List ℕ) (cs : List Call) where
 
   counts-after : (d i : ℕ)
       → retirements d (take i (run H (fresh H) cs)) ≡ handBacks d (take i (run H (fresh H) cs)) + countsOfDesk H (endTable (openedTable H t) (take i cs)) d
-  counts-after d i = rw (run-take H i cs (fresh H)) (go (inRange d (H .desks)) refl)
+  counts-after d i = rw (run-take H i cs (fresh H)) (by-cases (inRange d (H .desks)) refl)
     where
-      go : (b : Bool) → inRange d (H .desks) ≡ b
+      by-cases : (b : Bool) → inRange d (H .desks) ≡ b
           → retirements d (run H (fresh H) (take i cs)) ≡ handBacks d (run H (fresh H) (take i cs)) + cond b (usedIn (recordOf H (endTable (openedTable H t) (take i cs)) d)) 0
-      go true q =
+      by-cases true q =
           let r = in-range d (H .desks) q in
           on-list H some (take i cs) d (r .0)
           ∙ ap (λ (n : ℕ). handBacks d (run H (fresh H) (take i cs)) + n)
           (sym (ap usedIn (record-after i d r) ∙ counts-encoded (allScreens H) (deskOf (end H (fresh H) (take i cs)) d)))
-      go false q =
+      by-cases false q =
           omega
           (arith, outsider-counts H d (out-of-range d (H .desks) q) isRetirement refl (take i cs) (fresh H) (fresh-formed H), outsider-counts H d (out-of-range d (H .desks) q) isHandBack refl (take i cs) (fresh H) (fresh-formed H))
 
   list-after : (d i : ℕ) → retirements d (take i (run H (fresh H) cs)) ≤ handBacks d (take i (run H (fresh H) cs)) + 2 * allScreens H
-  list-after d i = rw (run-take H i cs (fresh H)) (go (inRange d (H .desks)) refl)
+  list-after d i = rw (run-take H i cs (fresh H)) (by-cases (inRange d (H .desks)) refl)
     where
-      go : (b : Bool) → inRange d (H .desks) ≡ b
+      by-cases : (b : Bool) → inRange d (H .desks) ≡ b
           → retirements d (run H (fresh H) (take i cs)) ≤ handBacks d (run H (fresh H) (take i cs)) + 2 * allScreens H
-      go true q = list-bound H some (take i cs) d (in-range d (H .desks) q .0)
-      go false q = omega (arith, outsider-counts H d (out-of-range d (H .desks) q) isRetirement refl (take i cs) (fresh H) (fresh-formed H))
+      by-cases true q = list-bound H some (take i cs) d (in-range d (H .desks) q .0)
+      by-cases false q = omega (arith, outsider-counts H d (out-of-range d (H .desks) q) isRetirement refl (take i cs) (fresh H) (fresh-formed H))
 
   copies-after : (d s i : ℕ)
       → retirementsOf d s (take i (run H (fresh H) cs)) ≡ handBacksOf d s (take i (run H (fresh H) cs)) + copies s (listOfDesk H (endTable (openedTable H t) (take i cs)) d)
-  copies-after d s i = rw (run-take H i cs (fresh H)) (go (inRange d (H .desks)) refl (ℕ-discrete s 0))
+  copies-after d s i = rw (run-take H i cs (fresh H)) (by-cases (inRange d (H .desks)) refl (ℕ-discrete s 0))
     where
       listed : (1 ≤ d) × (d ≤ H .desks)
           → copies s (let words = recordOf H (endTable (openedTable H t) (take i cs)) d in take (usedIn words) (listIn words)) ≡ copiesOn s (deskOf (end H (fresh H) (take i cs)) d)
@@ -98,19 +98,19 @@ module _ (H : Hall) (ok : Opens H) (t : List ℕ) (cs : List Call) where
           ∙ ap (copies s) (list-encoded (allScreens H) (deskOf (end H (fresh H) (take i cs)) d))
           ∙ copies-list s (deskOf (end H (fresh H) (take i cs)) d)
 
-      go : (b : Bool) → inRange d (H .desks) ≡ b → Dec (s ≡ 0)
+      by-cases : (b : Bool) → inRange d (H .desks) ≡ b → Dec (s ≡ 0)
           → retirementsOf d s (run H (fresh H) (take i cs)) ≡ handBacksOf d s (run H (fresh H) (take i cs)) + copies s (cond b (let words = recordOf H (endTable (openedTable H t) (take i cs)) d in take (usedIn words) (listIn words)) [])
-      go true q (yes z) =
+      by-cases true q (yes z) =
           let r = in-range d (H .desks) q in
           let real = sound-run H d some (r .0) (take i cs) (fresh H) (fresh-formed H) (fresh-sound H d) .real in
           let none = no-session-zero H (take i cs) (fresh H) (fresh-formed H) d in
           let l = listed r in
           rw z (omega (arith, none .0, none .1, rw z at l, real))
-      go true q (no z) =
+      by-cases true q (no z) =
           let r = in-range d (H .desks) q in
           let c = copies-run H d some (r .0) s z (take i cs) (fresh H) (fresh-formed H) (fresh-sound H d) in
           omega (arith, listed r, fresh-copies H d s)
-      go false q z =
+      by-cases false q z =
           omega
           (arith, outsider-counts H d (out-of-range d (H .desks) q) (isRetirementOf s) refl (take i cs) (fresh H) (fresh-formed H), outsider-counts H d (out-of-range d (H .desks) q) (isHandBackOf s) refl (take i cs) (fresh H) (fresh-formed H))
 

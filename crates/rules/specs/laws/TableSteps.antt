@@ -14,7 +14,7 @@ use Rattle.rules.specs.Steps.{Call, decide, firstNo, inRange, perform, q
 use Rattle.rules.specs.Table.{TableDone, decode, decodeDesk, everyRecord, hallIn, need, openIf, openQuestions, openTable, openedTable, pieces}
 use Rattle.rules.specs.Table.{positionWord, recordOf, recordSound, recordStart, recordWidth, recordsIn, screenWord, sound, stepIf, stepTable}
 use Rattle.rules.specs.Table.{written}
-use Rattle.rules.specs.laws.Decoding.{and-1, and-2}
+use Rattle.rules.specs.laws.Bools.{and-left, and-right}
 use Rattle.rules.specs.laws.Effect.{in-range}
 use Rattle.rules.specs.laws.ScreenIndex.{screen-in}
 
@@ -67,18 +67,18 @@ pub known : (t : List ℕ) → sound t ≡ true → Known t
 unfolding sound
 known t h =
     let H : Hall = hallIn t in
-    let h1 = and-2 (inRange (H .desks) 16) (s1 H) h in
-    let h2 = and-2 (inRange (H .screens) 4) (s2 H) h1 in
-    let h3 = and-2 (inRange (H .positions) 64) (s3 H) h2 in
-    let ra = in-range (H .desks) 16 (and-1 (inRange (H .desks) 16) (s1 H) h) in
-    let rb = in-range (H .screens) 4 (and-1 (inRange (H .screens) 4) (s2 H) h1) in
+    let h1 = and-right (inRange (H .desks) 16) (s1 H) h in
+    let h2 = and-right (inRange (H .screens) 4) (s2 H) h1 in
+    let h3 = and-right (inRange (H .positions) 64) (s3 H) h2 in
+    let ra = in-range (H .desks) 16 (and-left (inRange (H .desks) 16) (s1 H) h) in
+    let rb = in-range (H .screens) 4 (and-left (inRange (H .screens) 4) (s2 H) h1) in
     record {
       desks = ra;
       screens = rb;
-      positions = in-range (H .positions) 64 (and-1 (inRange (H .positions) 64) (s3 H) h2);
+      positions = in-range (H .positions) 64 (and-left (inRange (H .positions) 64) (s3 H) h2);
       most = mul-le-mul (ra .1) (rb .1);
-      long = leb-true (need H) (length t) (and-1 (leb (need H) (length t)) (s4 H) h3);
-      records = and-2 (leb (need H) (length t)) (s4 H) h3;
+      long = leb-true (need H) (length t) (and-left (leb (need H) (length t)) (s4 H) h3);
+      records = and-right (leb (need H) (length t)) (s4 H) h3;
     }
   where
     s4 : Hall → Bool
@@ -102,13 +102,13 @@ records-at zero w x i h = absurd (omega arith)
 records-at (suc n) w x zero h = let e : 0 ≡ 0 * w = omega arith in ap (λ (k : ℕ). decodeDesk (take w (drop k x))) e
 records-at (suc n) w x (suc i) h = records-at n w (drop w x) i (omega arith) ∙ ap (λ (y : List ℕ). decodeDesk (take w y)) (row-at n w i x)
 
-pub all-at : (f : List ℕ → Bool) (n w : ℕ) (x : List ℕ) (i : ℕ) → i < n → everyRecord f (pieces n w x) ≡ true → f (take w (drop (i * w) x)) ≡ true
-all-at f zero w x i h q = absurd (omega arith)
-all-at f (suc n) w x zero h q =
-    let e : 0 * w ≡ 0 = omega arith in ap (λ (k : ℕ). f (take w (drop k x))) e ∙ and-1 (f (take w x)) (everyRecord f (pieces n w (drop w x))) q
-all-at f (suc n) w x (suc i) h q =
+pub every-record-at : (f : List ℕ → Bool) (n w : ℕ) (x : List ℕ) (i : ℕ) → i < n → everyRecord f (pieces n w x) ≡ true → f (take w (drop (i * w) x)) ≡ true
+every-record-at f zero w x i h q = absurd (omega arith)
+every-record-at f (suc n) w x zero h q =
+    let e : 0 * w ≡ 0 = omega arith in ap (λ (k : ℕ). f (take w (drop k x))) e ∙ and-left (f (take w x)) (everyRecord f (pieces n w (drop w x))) q
+every-record-at f (suc n) w x (suc i) h q =
     ap (λ (y : List ℕ). f (take w y)) (sym (row-at n w i x))
-    ∙ all-at f n w (drop w x) i (omega arith) (and-2 (f (take w x)) (everyRecord f (pieces n w (drop w x))) q)
+    ∙ every-record-at f n w (drop w x) i (omega arith) (and-right (f (take w x)) (everyRecord f (pieces n w (drop w x))) q)
 
 -- record d, from 1, as it stands in the table
 record-part : (t : List ℕ) (d : ℕ)
@@ -123,7 +123,7 @@ record-part t d =
 pub record-sound : (t : List ℕ) (d : ℕ) → Known t → 1 ≤ d → d ≤ hallIn t .desks → recordSound (allScreens (hallIn t)) (recordOf (hallIn t) t d) ≡ true
 record-sound t d k h g =
     ap (λ (y : List ℕ). recordSound (allScreens (hallIn t)) (take (recordWidth (hallIn t)) y)) (sym (record-part t d))
-    ∙ all-at (recordSound (allScreens (hallIn t))) (hallIn t .desks) (recordWidth (hallIn t))
+    ∙ every-record-at (recordSound (allScreens (hallIn t))) (hallIn t .desks) (recordWidth (hallIn t))
     (drop (allScreens (hallIn t)) (drop (hallIn t .positions) (drop 3 t))) (d - 1) (omega arith) (k .records)
 
 -- ---- what the words say of the state

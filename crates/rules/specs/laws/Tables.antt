@@ -16,12 +16,13 @@ use Rattle.rules.specs.Steps.{retire, run, step}
 use Rattle.rules.specs.Table.{TableDone, decode, decodeDesk, encode, encodeDesk, endTable, everyRecord, joined, listOf, need, openQuestions}
 use Rattle.rules.specs.Table.{openedTable, pieces, positionWord, putRecord, recordOf, recordSound, recordStart, recordWidth, recordsIn}
 use Rattle.rules.specs.Table.{runTable, screenWord, sound, stepIf, stepTable, written}
-use Rattle.rules.specs.laws.Effect.{Formed, formed-step, in-range, yes3}
+use Rattle.rules.specs.laws.Bools.{and-true}
+use Rattle.rules.specs.laws.Effect.{Formed, formed-step, in-range, retire-questions}
 use Rattle.rules.specs.laws.Encoding.{desk-read-back}
 use Rattle.rules.specs.laws.Links.{holds}
 use Rattle.rules.specs.laws.Parts.{get-mid, put-mid, set-mid, take-mid}
 use Rattle.rules.specs.laws.ScreenIndex.{screen-in}
-use Rattle.rules.specs.laws.Sound.{Sound, and-true, collect-sound, encoded-sound, length-list, retire-sound, sound-owe}
+use Rattle.rules.specs.laws.Sound.{Sound, collect-sound, encoded-sound, length-list, retire-sound, sound-owe}
 
 -- The opening asks this of a hall.
 pub record Opens (H : Hall) : Type 0 where
@@ -52,8 +53,8 @@ pub record Valid (H : Hall) (st : State) : Type 0 where
   pub held : length (st .held) ≡ H .positions
   pub desks : All (Sound (allScreens H)) (st .desks)
 
-pub clear-sound : (S : ℕ) → Sound S emptyDesk
-clear-sound S = record { total = omega arith; real = refl; pass = refl }
+pub empty-desk-sound : (S : ℕ) → Sound S emptyDesk
+empty-desk-sound S = record { total = omega arith; real = refl; pass = refl }
 
 module _ (H : Hall) (opens : Opens H) where
   pub some-screens : 1 ≤ allScreens H
@@ -66,7 +67,7 @@ module _ (H : Hall) (opens : Opens H) where
   valid-step st c v = record {
     formed = formed-step H st 1 (v .formed) (omega arith) c;
     held = lh (firstNo (questions H st c)) c;
-    desks = go (firstNo (questions H st c)) c refl;
+    desks = by-cases (firstNo (questions H st c)) c refl;
   }
     where
       P : Desk → Type 0
@@ -81,22 +82,22 @@ module _ (H : Hall) (opens : Opens H) where
       lh (suc n) c = v .held
 
       at : (x : ℕ) → Sound (allScreens H) (deskOf st x)
-      at x = all-get (Sound (allScreens H)) (st .desks) (x - 1) emptyDesk (clear-sound (allScreens H)) (v .desks)
+      at x = all-get (Sound (allScreens H)) (st .desks) (x - 1) emptyDesk (empty-desk-sound (allScreens H)) (v .desks)
 
-      go : (n : ℕ) (c : Call) → firstNo (questions H st c) ≡ n → All (Sound (allScreens H)) (decide n st (perform H st c) .after .desks)
-      go zero (Take x s p) e = v .desks
-      go zero (Drop x s) e = v .desks
-      go zero (Swap x p w) e =
+      by-cases : (n : ℕ) (c : Call) → firstNo (questions H st c) ≡ n → All (Sound (allScreens H)) (decide n st (perform H st c) .after .desks)
+      by-cases zero (Take x s p) e = v .desks
+      by-cases zero (Drop x s) e = v .desks
+      by-cases zero (Swap x p w) e =
           all-set (Sound (allScreens H)) (st .desks) (x - 1) _ (sound-owe (allScreens H) (getD (st .held) (p - 1) 0) (deskOf st x) (at x)) (v .desks)
-      go zero (Retire x) e =
-          let y = yes3 (inRange x (H .desks)) (not (eqb (deskOf st x .owed) 0)) (ltb (usedPlaces (deskOf st x)) (2 * allScreens H)) e in
+      by-cases zero (Retire x) e =
+          let y = retire-questions (inRange x (H .desks)) (not (eqb (deskOf st x .owed) 0)) (ltb (usedPlaces (deskOf st x)) (2 * allScreens H)) e in
           all-set (Sound (allScreens H)) (st .desks) (x - 1) (retire (deskOf st x))
           (retire-sound (allScreens H) (deskOf st x) (eqb-false (deskOf st x .owed) 0 (not-true (eqb (deskOf st x .owed) 0) (y .1))) (ltb-true (usedPlaces (deskOf st x)) (2 * allScreens H) (y .2)) (at x))
           (v .desks)
-      go zero (Collect x) e =
+      by-cases zero (Collect x) e =
           all-set (Sound (allScreens H)) (st .desks) (x - 1) (collect (allScreens H) (st .shown) (deskOf st x) .after)
           (collect-sound (allScreens H) (st .shown) (deskOf st x) some-screens (v .formed .screens) (at x)) (v .desks)
-      go (suc n) c e = v .desks
+      by-cases (suc n) c e = v .desks
 
   pub length-encoded : (D : Desk) → Sound (allScreens H) D → length (encodeDesk (allScreens H) D) ≡ recordWidth H
   unfolding encodeDesk
@@ -167,31 +168,28 @@ module _ (H : Hall) (opens : Opens H) where
       }
 
   module _ (st : State) (v : Valid H st) (rest : List ℕ) where
-    body : List ℕ
-    body = (st .held ++ (st .shown ++ joined (map (encodeDesk (allScreens H)) (st .desks)))) ++ rest
-
     past-held : drop (H .positions) ((st .held ++ (st .shown ++ joined (map (encodeDesk (allScreens H)) (st .desks)))) ++ rest) ≡ st .shown ++ (joined (map (encodeDesk (allScreens H)) (st .desks)) ++ rest)
     past-held =
         ap (drop (H .positions)) (append-assoc (st .held) (st .shown ++ joined (map (encodeDesk (allScreens H)) (st .desks))) rest)
         ∙ drop-at (st .held) ((st .shown ++ joined (map (encodeDesk (allScreens H)) (st .desks))) ++ rest) (H .positions) (v .held)
         ∙ append-assoc (st .shown) (joined (map (encodeDesk (allScreens H)) (st .desks))) rest
 
-    is-held : take (H .positions) ((st .held ++ (st .shown ++ joined (map (encodeDesk (allScreens H)) (st .desks)))) ++ rest) ≡ st .held
-    is-held =
+    held-of-encode : take (H .positions) ((st .held ++ (st .shown ++ joined (map (encodeDesk (allScreens H)) (st .desks)))) ++ rest) ≡ st .held
+    held-of-encode =
         ap (take (H .positions)) (append-assoc (st .held) (st .shown ++ joined (map (encodeDesk (allScreens H)) (st .desks))) rest)
         ∙ take-at (st .held) ((st .shown ++ joined (map (encodeDesk (allScreens H)) (st .desks))) ++ rest) (H .positions) (v .held)
 
-    pub is-records : recordsIn H (encode H st ++ rest) ≡ map (encodeDesk (allScreens H)) (st .desks)
-    is-records =
+    pub records-of-encode : recordsIn H (encode H st ++ rest) ≡ map (encodeDesk (allScreens H)) (st .desks)
+    records-of-encode =
         ap (λ (l : List ℕ). pieces (H .desks) (recordWidth H) (drop (allScreens H) l)) past-held
         ∙ ap (pieces (H .desks) (recordWidth H))
         (drop-at (st .shown) (joined (map (encodeDesk (allScreens H)) (st .desks)) ++ rest) (allScreens H) (v .formed .screens))
         ∙ ap (λ (n : ℕ). pieces n (recordWidth H) (joined (map (encodeDesk (allScreens H)) (st .desks)) ++ rest)) (sym (v .formed .desks))
         ∙ records-flat (st .desks) rest (v .desks)
 
-    pub is-state : decode H (encode H st ++ rest) ≡ st
-    is-state =
-        λ i. record { held = is-held i; shown = (ap (take (allScreens H)) past-held ∙ take-at (st .shown) (joined (map (encodeDesk (allScreens H)) (st .desks)) ++ rest) (allScreens H) (v .formed .screens)) i; desks = (ap (map decodeDesk) is-records ∙ desks-code (st .desks) (v .desks)) i }
+    pub decode-encode : decode H (encode H st ++ rest) ≡ st
+    decode-encode =
+        λ i. record { held = held-of-encode i; shown = (ap (take (allScreens H)) past-held ∙ take-at (st .shown) (joined (map (encodeDesk (allScreens H)) (st .desks)) ++ rest) (allScreens H) (v .formed .screens)) i; desks = (ap (map decodeDesk) records-of-encode ∙ desks-code (st .desks) (v .desks)) i }
 
     pub length-table : length (encode H st) ≡ need H
     length-table =
@@ -201,14 +199,14 @@ module _ (H : Hall) (opens : Opens H) where
     range-true : (n m : ℕ) → 1 ≤ n → n ≤ m → inRange n m ≡ true
     range-true n m a b = and-true (leb 1 n) (leb n m) (le-leb 1 n a) (le-leb n m b)
 
-    pub is-sound : sound (encode H st ++ rest) ≡ true
+    pub encode-is-sound : sound (encode H st ++ rest) ≡ true
     unfolding sound
-    is-sound =
+    encode-is-sound =
         and-true _ _ (range-true (H .desks) 16 (opens .desks .0) (opens .desks .1))
         (and-true _ _ (range-true (H .screens) 4 (opens .screens .0) (opens .screens .1))
         (and-true _ _ (range-true (H .positions) 64 (opens .positions .0) (opens .positions .1))
         (and-true _ _ (le-leb (need H) (length (encode H st ++ rest)) (omega (arith, length-table, length-append (encode H st) rest)))
-        (ap (everyRecord (recordSound (allScreens H))) is-records ∙ all-sound (st .desks) (v .desks)))))
+        (ap (everyRecord (recordSound (allScreens H))) records-of-encode ∙ all-sound (st .desks) (v .desks)))))
 
     -- the table in three parts, with the positions, the screens or one record in the middle
     as-held : (h s f : List ℕ)
@@ -230,9 +228,9 @@ module _ (H : Hall) (opens : Opens H) where
         let i = in-range d (H .desks) (holds (inRange d (H .desks)) m 5 e .0) in cut (st .desks) (d - 1) (v .desks) (omega (arith, v .formed .desks))
 
     -- one record replaced
-    put-is : (d : ℕ) (x : Desk) → Cut (st .desks) (d - 1)
+    put-record-is : (d : ℕ) (x : Desk) → Cut (st .desks) (d - 1)
         → putRecord H (encode H st ++ rest) d (encodeDesk (allScreens H) x) ≡ encode H (withDesk st d x) ++ rest
-    put-is d x c =
+    put-record-is d x c =
         let a : List ℕ = H .desks ∷ H .screens ∷ H .positions ∷ (st .held ++ (st .shown ++ c .front)) in
         let n : length a ≡ recordStart H d =
         omega
@@ -247,8 +245,8 @@ module _ (H : Hall) (opens : Opens H) where
         (as-record (st .held) (st .shown) (c .front) (encodeDesk (allScreens H) x) (c .back) (joined (map (encodeDesk (allScreens H)) (set (st .desks) (d - 1) x))) (c .put x))
 
     -- one record read
-    record-is : (d : ℕ) → Cut (st .desks) (d - 1) → recordOf H (encode H st ++ rest) d ≡ encodeDesk (allScreens H) (deskOf st d)
-    record-is d c =
+    record-of-encode : (d : ℕ) → Cut (st .desks) (d - 1) → recordOf H (encode H st ++ rest) d ≡ encodeDesk (allScreens H) (deskOf st d)
+    record-of-encode d c =
         let a : List ℕ = H .desks ∷ H .screens ∷ H .positions ∷ (st .held ++ (st .shown ++ c .front)) in
         let n : length a ≡ recordStart H d =
         omega
@@ -259,30 +257,30 @@ module _ (H : Hall) (opens : Opens H) where
         ap (λ (t : List ℕ). recordOf H t d) q
         ∙ take-mid a (encodeDesk (allScreens H) (deskOf st d)) (c .back ++ rest) (recordStart H d) n (recordWidth H) (c .wide)
 
-    got-is : (d : ℕ) → Cut (st .desks) (d - 1) → decodeDesk (recordOf H (encode H st ++ rest) d) ≡ deskOf st d
-    got-is d c = ap decodeDesk (record-is d c) ∙ desk-read-back (allScreens H) (deskOf st d) (omega (arith, c .total, most))
+    record-decoded : (d : ℕ) → Cut (st .desks) (d - 1) → decodeDesk (recordOf H (encode H st ++ rest) d) ≡ deskOf st d
+    record-decoded d c = ap decodeDesk (record-of-encode d c) ∙ desk-read-back (allScreens H) (deskOf st d) (omega (arith, c .total, most))
 
     -- the record of a desk of the hall
     pub desk-record : (d : ℕ) → 1 ≤ d → d ≤ H .desks → recordOf H (encode H st ++ rest) d ≡ encodeDesk (allScreens H) (deskOf st d)
-    desk-record d h h′ = record-is d (cut (st .desks) (d - 1) (v .desks) (omega (arith, v .formed .desks)))
+    desk-record d h h′ = record-of-encode d (cut (st .desks) (d - 1) (v .desks) (omega (arith, v .formed .desks)))
 
     -- a position read, and written; a screen written
-    held-is : (p : ℕ) → 1 ≤ p → p ≤ H .positions → getD (encode H st ++ rest) (positionWord p) 0 ≡ getD (st .held) (p - 1) 0
-    held-is p l m =
+    position-word-is : (p : ℕ) → 1 ≤ p → p ≤ H .positions → getD (encode H st ++ rest) (positionWord p) 0 ≡ getD (st .held) (p - 1) 0
+    position-word-is p l m =
         ap (λ (t : List ℕ). getD t (3 + (p - 1)) 0) (as-held (st .held) (st .shown) (joined (map (encodeDesk (allScreens H)) (st .desks))))
         ∙ get-mid (H .desks ∷ H .screens ∷ H .positions ∷ []) (st .held)
         ((st .shown ++ joined (map (encodeDesk (allScreens H)) (st .desks))) ++ rest) 3 refl (p - 1) (omega (arith, v .held))
 
-    put-held : (p w : ℕ) → 1 ≤ p → p ≤ H .positions → set (encode H st ++ rest) (positionWord p) w ≡ encode H (withHeld st (p - 1) w) ++ rest
-    put-held p w l m =
+    position-written : (p w : ℕ) → 1 ≤ p → p ≤ H .positions → set (encode H st ++ rest) (positionWord p) w ≡ encode H (withHeld st (p - 1) w) ++ rest
+    position-written p w l m =
         let f = joined (map (encodeDesk (allScreens H)) (st .desks)) in
         ap (λ (t : List ℕ). set t (3 + (p - 1)) w) (as-held (st .held) (st .shown) f)
         ∙ set-mid (H .desks ∷ H .screens ∷ H .positions ∷ []) (st .held) ((st .shown ++ f) ++ rest) 3 refl (p - 1) w (omega (arith, v .held))
         ∙ sym (as-held (set (st .held) (p - 1) w) (st .shown) f)
 
-    shown-is : (d c w : ℕ) → (1 ≤ d) × (d ≤ H .desks) → (1 ≤ c) × (c ≤ H .screens)
+    screen-written : (d c w : ℕ) → (1 ≤ d) × (d ≤ H .desks) → (1 ≤ c) × (c ≤ H .screens)
         → set (encode H st ++ rest) (screenWord H d c) w ≡ encode H (withShown st (screenIndex H d c) w) ++ rest
-    shown-is d c w i j =
+    screen-written d c w i j =
         let f = joined (map (encodeDesk (allScreens H)) (st .desks)) in
         let n : length (H .desks ∷ H .screens ∷ H .positions ∷ st .held) ≡ 3 + H .positions = omega (arith, v .held) in
         ap (λ (t : List ℕ). set t (screenWord H d c) w) (as-shown (st .held) (st .shown) f)
@@ -297,12 +295,12 @@ module _ (H : Hall) (opens : Opens H) where
         let y1 = holds (inRange d (H .desks)) _ 5 e in
         let y2 = holds (inRange c (H .screens)) _ 6 (y1 .1) in
         let ip = in-range p (H .positions) (holds (inRange p (H .positions)) _ 7 (y2 .1) .0) in
-        (λ i. set (encode H st ++ rest) (screenWord H d c) (held-is p (ip .0) (ip .1) i))
-        ∙ shown-is d c (getD (st .held) (p - 1) 0) (in-range d (H .desks) (y1 .0)) (in-range c (H .screens) (y2 .0))
+        (λ i. set (encode H st ++ rest) (screenWord H d c) (position-word-is p (ip .0) (ip .1) i))
+        ∙ screen-written d c (getD (st .held) (p - 1) 0) (in-range d (H .desks) (y1 .0)) (in-range c (H .screens) (y2 .0))
     written-is (Drop d c) e =
         let y1 = holds (inRange d (H .desks)) _ 5 e in
         let y2 = holds (inRange c (H .screens)) _ 6 (y1 .1) in
-        shown-is d c 0 (in-range d (H .desks) (y1 .0)) (in-range c (H .screens) (y2 .0))
+        screen-written d c 0 (in-range d (H .desks) (y1 .0)) (in-range c (H .screens) (y2 .0))
     written-is (Swap d p w) e =
         let k = at-desk d _ e in
         let ip = in-range p (H .positions) (holds (inRange p (H .positions)) _ 7 (holds (inRange d (H .desks)) _ 5 e .1) .0) in
@@ -313,7 +311,7 @@ module _ (H : Hall) (opens : Opens H) where
         omega
         (arith, length-append h (st .shown ++ k .front), length-append (st .shown) (k .front), length-set (st .held) (p - 1) w, v .held, v .formed .screens, k .starts) in
         let z : recordStart H d ≡ recordStart H d + 0 = omega arith in
-        (λ i. set (put-held p w (ip .0) (ip .1) i) (z i) (held-is p (ip .0) (ip .1) i))
+        (λ i. set (position-written p w (ip .0) (ip .1) i) (z i) (position-word-is p (ip .0) (ip .1) i))
         ∙ ap (λ (t : List ℕ). set t (recordStart H d + 0) o)
         (as-record h (st .shown) (k .front) (encodeDesk (allScreens H) (deskOf st d)) (k .back) (joined (map (encodeDesk (allScreens H)) (st .desks))) (k .is))
         ∙ set-mid a (encodeDesk (allScreens H) (deskOf st d)) (k .back ++ rest) (recordStart H d) n 0 o (omega (arith, k .wide))
@@ -321,35 +319,35 @@ module _ (H : Hall) (opens : Opens H) where
         (as-record h (st .shown) (k .front) (encodeDesk (allScreens H) (owe (deskOf st d) o)) (k .back) (joined (map (encodeDesk (allScreens H)) (set (st .desks) (d - 1) (owe (deskOf st d) o)))) (k .put (owe (deskOf st d) o)))
     written-is (Retire d) e =
         let k = at-desk d _ e in
-        ap (λ (D : Desk). putRecord H (encode H st ++ rest) d (encodeDesk (allScreens H) (retire D))) (got-is d k) ∙ put-is d (retire (deskOf st d)) k
+        ap (λ (D : Desk). putRecord H (encode H st ++ rest) d (encodeDesk (allScreens H) (retire D))) (record-decoded d k) ∙ put-record-is d (retire (deskOf st d)) k
     written-is (Collect d) e =
         let k = at-desk d _ e in
-        (λ i. putRecord H (encode H st ++ rest) d (encodeDesk (allScreens H) (collect (allScreens H) (is-state i .shown) (got-is d k i) .after)))
-        ∙ put-is d (collect (allScreens H) (st .shown) (deskOf st d) .after) k
+        (λ i. putRecord H (encode H st ++ rest) d (encodeDesk (allScreens H) (collect (allScreens H) (decode-encode i .shown) (record-decoded d k i) .after)))
+        ∙ put-record-is d (collect (allScreens H) (st .shown) (deskOf st d) .after) k
 
     -- a step on the table is the step of the rules
-    pub is-step : (c : Call)
+    pub table-step : (c : Call)
         → stepTable (encode H st ++ rest) c ≡ record { answer = step H st c .answer; after = encode H (step H st c .after) ++ rest }
     unfolding stepTable
-    is-step c =
-        ap (λ (b : Bool). stepIf b (encode H st ++ rest) c) is-sound ∙ ap (λ (s : State). told s) is-state ∙ go (firstNo (questions H st c)) refl
+    table-step c =
+        ap (λ (b : Bool). stepIf b (encode H st ++ rest) c) encode-is-sound ∙ ap (λ (s : State). told s) decode-encode ∙ by-cases (firstNo (questions H st c)) refl
       where
         told : State → TableDone
         told s =
             let r = step H s c in
             record { answer = r .answer; after = cond (eqb (r .answer .number) 0) (written (encode H st ++ rest) c) (encode H st ++ rest) }
 
-        go : (n : ℕ) → firstNo (questions H st c) ≡ n
+        by-cases : (n : ℕ) → firstNo (questions H st c) ≡ n
             → _≡_ {A = TableDone} (let r = decide n st (perform H st c) in record { answer = r .answer; after = cond (eqb (r .answer .number) 0) (written (encode H st ++ rest) c) (encode H st ++ rest) }) (record { answer = decide n st (perform H st c) .answer; after = encode H (decide n st (perform H st c) .after) ++ rest })
-        go zero e = λ i. record { answer = record { number = 0; session = perform H st c .session }; after = written-is c e i }
-        go (suc n) e =
+        by-cases zero e = λ i. record { answer = record { number = 0; session = perform H st c .session }; after = written-is c e i }
+        by-cases (suc n) e =
             λ i. record { answer = record { number = suc n; session = 0 }; after = cond (eqb·suc-zero n i) (written (encode H st ++ rest) c) (encode H st ++ rest) }
 
-  pub is-run : (cs : List Call) (st : State) → Valid H st → (rest : List ℕ) → runTable (encode H st ++ rest) cs ≡ run H st cs
-  is-run [] st v rest = refl
-  is-run (c ∷ cs) st v rest =
-      ap (λ (r : TableDone). more r) (is-step st v rest c)
-      ∙ ap {B = List Event} (λ es. record { call = c; answer = step H st c .answer } ∷ es) (is-run cs (step H st c .after) (valid-step st c v) rest)
+  pub table-run : (cs : List Call) (st : State) → Valid H st → (rest : List ℕ) → runTable (encode H st ++ rest) cs ≡ run H st cs
+  table-run [] st v rest = refl
+  table-run (c ∷ cs) st v rest =
+      ap (λ (r : TableDone). more r) (table-step st v rest c)
+      ∙ ap {B = List Event} (λ es. record { call = c; answer = step H st c .answer } ∷ es) (table-run cs (step H st c .after) (valid-step st c v) rest)
     where
       more : TableDone → List Event
       more r = record { call = c; answer = r .answer } ∷ runTable (r .after) cs
@@ -358,35 +356,35 @@ module _ (H : Hall) (opens : Opens H) where
   fresh-valid = record {
     formed = record { desks = length-replicate (H .desks) emptyDesk; screens = length-replicate (allScreens H) 0 };
     held = length-replicate (H .positions) 0;
-    desks = all-replicate (Sound (allScreens H)) (H .desks) emptyDesk (clear-sound (allScreens H));
+    desks = all-replicate (Sound (allScreens H)) (H .desks) emptyDesk (empty-desk-sound (allScreens H));
   }
 
   alike : (m n : ℕ) → m ≡ n → replicate {A = ℕ} m 0 ≡ replicate n 0
   alike m n e = ap (λ (x : ℕ). replicate {A = ℕ} x 0) e
 
-  code-clear : encodeDesk (allScreens H) emptyDesk ≡ replicate (recordWidth H) 0
+  empty-encoded : encodeDesk (allScreens H) emptyDesk ≡ replicate (recordWidth H) 0
   unfolding encodeDesk
-  code-clear = replicate-append-replicate 13 (2 * allScreens H - 0) 0 ∙ alike (13 + (2 * allScreens H - 0)) (recordWidth H) (omega arith)
+  empty-encoded = replicate-append-replicate 13 (2 * allScreens H - 0) 0 ∙ alike (13 + (2 * allScreens H - 0)) (recordWidth H) (omega arith)
 
-  flat-clear : (n : ℕ) → joined (map (encodeDesk (allScreens H)) (replicate n emptyDesk)) ≡ replicate (n * recordWidth H) 0
-  flat-clear zero = alike 0 (0 * recordWidth H) (omega arith)
-  flat-clear (suc n) =
-      ap₂ {C = List ℕ} (λ x y. x ++ y) code-clear (flat-clear n) ∙ replicate-append-replicate (recordWidth H) (n * recordWidth H) 0
+  joined-empty : (n : ℕ) → joined (map (encodeDesk (allScreens H)) (replicate n emptyDesk)) ≡ replicate (n * recordWidth H) 0
+  joined-empty zero = alike 0 (0 * recordWidth H) (omega arith)
+  joined-empty (suc n) =
+      ap₂ {C = List ℕ} (λ x y. x ++ y) empty-encoded (joined-empty n) ∙ replicate-append-replicate (recordWidth H) (n * recordWidth H) 0
       ∙ alike (recordWidth H + n * recordWidth H) (suc n * recordWidth H) (omega arith)
 
   -- the table that an accepted opening leaves is that of the fresh state
-  pub is-open : (t : List ℕ) → openedTable H t ≡ encode H (fresh H) ++ drop (need H) t
-  is-open t = ap {B = List ℕ} (λ l. H .desks ∷ H .screens ∷ H .positions ∷ (l ++ drop (need H) t)) zeros
+  pub opened-is-fresh : (t : List ℕ) → openedTable H t ≡ encode H (fresh H) ++ drop (need H) t
+  opened-is-fresh t = ap {B = List ℕ} (λ l. H .desks ∷ H .screens ∷ H .positions ∷ (l ++ drop (need H) t)) zeros
     where
       zeros : replicate {A = ℕ} (need H - 3) 0 ≡ replicate (H .positions) 0 ++ (replicate (allScreens H) 0 ++ joined (map (encodeDesk (allScreens H)) (replicate (H .desks) emptyDesk)))
       zeros =
           sym
-          (ap (λ (l : List ℕ). replicate (H .positions) 0 ++ (replicate (allScreens H) 0 ++ l)) (flat-clear (H .desks)) ∙ ap (λ (l : List ℕ). replicate (H .positions) 0 ++ l) (replicate-append-replicate (allScreens H) (H .desks * recordWidth H) 0) ∙ replicate-append-replicate (H .positions) (allScreens H + H .desks * recordWidth H) 0 ∙ alike (H .positions + (allScreens H + H .desks * recordWidth H)) (need H - 3) (omega arith))
+          (ap (λ (l : List ℕ). replicate (H .positions) 0 ++ (replicate (allScreens H) 0 ++ l)) (joined-empty (H .desks)) ∙ ap (λ (l : List ℕ). replicate (H .positions) 0 ++ l) (replicate-append-replicate (allScreens H) (H .desks * recordWidth H) 0) ∙ replicate-append-replicate (H .positions) (allScreens H + H .desks * recordWidth H) 0 ∙ alike (H .positions + (allScreens H + H .desks * recordWidth H)) (need H - 3) (omega arith))
 
-  pub is-end : (cs : List Call) (st : State) → Valid H st → (rest : List ℕ) → endTable (encode H st ++ rest) cs ≡ encode H (end H st cs) ++ rest
-  is-end [] st v rest = refl
-  is-end (c ∷ cs) st v rest =
-      ap (λ (r : TableDone). endTable (r .after) cs) (is-step st v rest c) ∙ is-end cs (step H st c .after) (valid-step st c v) rest
+  pub table-end : (cs : List Call) (st : State) → Valid H st → (rest : List ℕ) → endTable (encode H st ++ rest) cs ≡ encode H (end H st cs) ++ rest
+  table-end [] st v rest = refl
+  table-end (c ∷ cs) st v rest =
+      ap (λ (r : TableDone). endTable (r .after) cs) (table-step st v rest c) ∙ table-end cs (step H st c .after) (valid-step st c v) rest
 
   pub valid-end : (cs : List Call) (st : State) → Valid H st → Valid H (end H st cs)
   valid-end [] st v = v
@@ -395,8 +393,8 @@ module _ (H : Hall) (opens : Opens H) where
   -- The table stays sound: no step from an opening on is answered 5.
   pub sound-table : (t : List ℕ) (cs : List Call) → sound (endTable (openedTable H t) cs) ≡ true
   sound-table t cs =
-      rw (is-open t, is-end cs (fresh H) fresh-valid (drop (need H) t))
-      (is-sound (end H (fresh H) cs) (valid-end cs (fresh H) fresh-valid) (drop (need H) t))
+      rw (opened-is-fresh t, table-end cs (fresh H) fresh-valid (drop (need H) t))
+      (encode-is-sound (end H (fresh H) cs) (valid-end cs (fresh H) fresh-valid) (drop (need H) t))
 
 -- What an accepted opening asked of its hall and its table.
 pub hall-opens : (H : Hall) (t : List ℕ) → firstNo (openQuestions H t) ≡ 0 → Opens H × (need H ≤ length t)

@@ -27,12 +27,12 @@ refused-hands-nothing (Retire d) n session = either (eqb (suc n) 14)
     either false = refl
 refused-hands-nothing (Collect d) n session = refl
 
-pub refused-step : (tally : Tally) (event : Event) → isRefused event ≡ true
-    → counted tally event ≡ tallyOf (tally .accepted) (oneMore (tally .refused)) (tally .handedBack)
+pub refused-step : (total : Tally) (event : Event) → isRefused event ≡ true
+    → counted total event ≡ tallyOf (total .accepted) (oneMore (total .refused)) (total .handedBack)
 unfolding counted
-refused-step tally event e = by-number (event .answer .number) refl
+refused-step total event e = by-number (event .answer .number) refl
   where
-    by-number : (n : ℕ) → event .answer .number ≡ n → counted tally event ≡ tallyOf (tally .accepted) (oneMore (tally .refused)) (tally .handedBack)
+    by-number : (n : ℕ) → event .answer .number ≡ n → counted total event ≡ tallyOf (total .accepted) (oneMore (total .refused)) (total .handedBack)
     by-number zero q = let clash : _≡_ {A = ℕ} 0 1 = cc in absurd (omega arith)
     by-number (suc n) q =
         let none : isHandedBack event ≡ false =
@@ -59,41 +59,41 @@ stays-up-to true count h = by-room (ltb count largestCount) refl
     by-room true e = omega (arith, ltb-true count largestCount e)
     by-room false e = h
 
--- A tally that 32 bits hold, and the same tally with the counts of a list of replies added, each up to the largest.
-pub record Fits (tally : Tally) : Type 0 where
-  pub accepted : tally .accepted ≤ largestCount
-  pub refused : tally .refused ≤ largestCount
-  pub handedBack : tally .handedBack ≤ largestCount
+-- A total that 32 bits hold, and the same total with the counts of a list of replies added, each up to the largest.
+pub record Fits (total : Tally) : Type 0 where
+  pub accepted : total .accepted ≤ largestCount
+  pub refused : total .refused ≤ largestCount
+  pub handedBack : total .handedBack ≤ largestCount
 
 abbrev pub withCounts : Tally → List Event → Tally
-withCounts tally events =
+withCounts total events =
     tallyOf
-    (min (tally .accepted + howMany isAccepted events) largestCount)
-    (min (tally .refused + howMany isRefused events) largestCount)
-    (min (tally .handedBack + howMany isHandedBack events) largestCount)
+    (min (total .accepted + howMany isAccepted events) largestCount)
+    (min (total .refused + howMany isRefused events) largestCount)
+    (min (total .handedBack + howMany isHandedBack events) largestCount)
 
 same-tally : (first second : Tally) → first .accepted ≡ second .accepted → first .refused ≡ second .refused
     → first .handedBack ≡ second .handedBack → first ≡ second
 same-tally first second a r h = λ i. tallyOf (a i) (r i) (h i)
 
--- From any tally that 32 bits hold.
-pub tally-from : (tally : Tally) (events : List Event) → Fits tally → tallied tally events ≡ withCounts tally events
+-- From any total that 32 bits hold.
+pub tally-from : (total : Tally) (events : List Event) → Fits total → tallied total events ≡ withCounts total events
 unfolding counted
-tally-from tally [] fits =
-    same-tally tally (withCounts tally []) (omega (arith, fits .accepted)) (omega (arith, fits .refused)) (omega (arith, fits .handedBack))
-tally-from tally (event ∷ events) fits =
-    tally-from (counted tally event) events
+tally-from total [] fits =
+    same-tally total (withCounts total []) (omega (arith, fits .accepted)) (omega (arith, fits .refused)) (omega (arith, fits .handedBack))
+tally-from total (event ∷ events) fits =
+    tally-from (counted total event) events
     (record {
-      accepted = stays-up-to (isAccepted event) (tally .accepted) (fits .accepted);
-      refused = stays-up-to (isRefused event) (tally .refused) (fits .refused);
-      handedBack = stays-up-to (isHandedBack event) (tally .handedBack) (fits .handedBack);
+      accepted = stays-up-to (isAccepted event) (total .accepted) (fits .accepted);
+      refused = stays-up-to (isRefused event) (total .refused) (fits .refused);
+      handedBack = stays-up-to (isHandedBack event) (total .handedBack) (fits .handedBack);
     })
-    ∙ same-tally (withCounts (counted tally event) events) (withCounts tally (event ∷ events))
-    (more-up-to (isAccepted event) (tally .accepted) (howMany isAccepted events))
-    (more-up-to (isRefused event) (tally .refused) (howMany isRefused events))
-    (more-up-to (isHandedBack event) (tally .handedBack) (howMany isHandedBack events))
+    ∙ same-tally (withCounts (counted total event) events) (withCounts total (event ∷ events))
+    (more-up-to (isAccepted event) (total .accepted) (howMany isAccepted events))
+    (more-up-to (isRefused event) (total .refused) (howMany isRefused events))
+    (more-up-to (isHandedBack event) (total .handedBack) (howMany isHandedBack events))
 
--- "Started at zeros, the tally equals the counts in the list of replies, each up to that largest"
+-- "Started at zeros, the total equals the counts in the list of replies, each up to that largest"
 pub tally-from-zeros : (events : List Event) → tallied zeros events ≡ countsIn events
 tally-from-zeros events =
     tally-from zeros events (record { accepted = omega arith; refused = omega arith; handedBack = omega arith })
@@ -114,16 +114,16 @@ linesBeforeEnd table index (more entry rest) =
     let done = stepTable table (callOf entry) in
     answerLine index (entry .code) (done .answer) ++ linesBeforeEnd (done .after) (suc index) rest
 
-lines-and-end : (table : List ℕ) (index : ℕ) (tally : Tally) (records : Records)
-    → linesFrom table index tally records ≡ linesBeforeEnd table index records ++ endLine (tallied tally (runTable table (callsIn records)))
-lines-and-end table index tally complete = refl
-lines-and-end table index tally (stop reason) = refl
-lines-and-end table index tally (more entry rest) =
+lines-and-end : (table : List ℕ) (index : ℕ) (total : Tally) (records : Records)
+    → linesFrom table index total records ≡ linesBeforeEnd table index records ++ endLine (tallied total (runTable table (callsIn records)))
+lines-and-end table index total complete = refl
+lines-and-end table index total (stop reason) = refl
+lines-and-end table index total (more entry rest) =
     let done = stepTable table (callOf entry) in
     let first : List ℕ = answerLine index (entry .code) (done .answer) in
     let event : Event = record { call = callOf entry; answer = done .answer } in
-    ap (λ (lines : List ℕ). first ++ lines) (lines-and-end (done .after) (suc index) (counted tally event) rest)
-    ∙ sym (append-assoc first (linesBeforeEnd (done .after) (suc index) rest) (endLine (tallied tally (runTable table (callsIn (more entry rest))))))
+    ap (λ (lines : List ℕ). first ++ lines) (lines-and-end (done .after) (suc index) (counted total event) rest)
+    ∙ sym (append-assoc first (linesBeforeEnd (done .after) (suc index) rest) (endLine (tallied total (runTable table (callsIn (more entry rest))))))
 
 pub end-line-counts : (sheet : List ℕ) (hall : Hall) (records : Records) → reading sheet ≡ opened hall records
     → printed sheet
@@ -136,4 +136,4 @@ end-line-counts sheet hall records e =
     let first : List ℕ = answerLine 0 0 (openTable hall lentTable .answer) in
     ap linesOf e
     ∙ ap (λ (lines : List ℕ). first ++ lines) (lines-and-end table 1 zeros records)
-    ∙ ap (λ (tally : Tally). first ++ (linesBeforeEnd table 1 records ++ endLine tally)) (tally-from-zeros (runTable table (callsIn records)))
+    ∙ ap (λ (total : Tally). first ++ (linesBeforeEnd table 1 records ++ endLine total)) (tally-from-zeros (runTable table (callsIn records)))

@@ -30,60 +30,60 @@ abbrev pub live : Hall → (ℕ → Deed) → ℕ → ℕ → ℕ → ℕ
 live H f n zero r = 0
 live H f n (suc k) r = max (live H f n k r) (ties r (link H f k n))
 
-abbrev pub tally : (ℕ → ℕ) → List ℕ → ℕ
-tally g [] = 0
-tally g (r ∷ us) = g r + tally g us
+abbrev pub sumOver : (ℕ → ℕ) → List ℕ → ℕ
+sumOver g [] = 0
+sumOver g (r ∷ us) = g r + sumOver g us
 
-pub tally-append : (g : ℕ → ℕ) (xs ys : List ℕ) → tally g (xs ++ ys) ≡ tally g xs + tally g ys
-tally-append g [] ys = omega arith
-tally-append g (x ∷ xs) ys = omega (arith, tally-append g xs ys)
+pub sum-append : (g : ℕ → ℕ) (xs ys : List ℕ) → sumOver g (xs ++ ys) ≡ sumOver g xs + sumOver g ys
+sum-append g [] ys = omega arith
+sum-append g (x ∷ xs) ys = omega (arith, sum-append g xs ys)
 
-pub tally-le : (g g′ : ℕ → ℕ) (us : List ℕ) → ((r : ℕ) → 1 ≤ copies r us → g r ≤ g′ r) → tally g us ≤ tally g′ us
-tally-le g g′ [] h = omega arith
-tally-le g g′ (r ∷ us) h = omega (arith, h r (omega (arith, matches-same r)), tally-le g g′ us (λ x q. h x (omega arith)))
+pub sum-le : (g g′ : ℕ → ℕ) (us : List ℕ) → ((r : ℕ) → 1 ≤ copies r us → g r ≤ g′ r) → sumOver g us ≤ sumOver g′ us
+sum-le g g′ [] h = omega arith
+sum-le g g′ (r ∷ us) h = omega (arith, h r (omega (arith, matches-same r)), sum-le g g′ us (λ x q. h x (omega arith)))
 
-tally-none : (us : List ℕ) → tally (λ r. 0) us ≡ 0
-tally-none [] = refl
-tally-none (r ∷ us) = omega (arith, tally-none us)
+sum-none : (us : List ℕ) → sumOver (λ r. 0) us ≡ 0
+sum-none [] = refl
+sum-none (r ∷ us) = omega (arith, sum-none us)
 
-tally-tied : (q : ℕ) (us : List ℕ) → tally (λ r. matches q r) us ≡ copies q us
-tally-tied q [] = refl
-tally-tied q (r ∷ us) = omega (arith, tally-tied q us)
+sum-linked : (q : ℕ) (us : List ℕ) → sumOver (λ r. matches q r) us ≡ copies q us
+sum-linked q [] = refl
+sum-linked q (r ∷ us) = omega (arith, sum-linked q us)
 
-tally-max : (g h : ℕ → ℕ) (us : List ℕ) → tally (λ r. max (g r) (h r)) us ≤ tally g us + tally h us
-tally-max g h [] = omega arith
-tally-max g h (r ∷ us) = omega (arith, tally-max g h us)
+sum-max : (g h : ℕ → ℕ) (us : List ℕ) → sumOver (λ r. max (g r) (h r)) us ≤ sumOver g us + sumOver h us
+sum-max g h [] = omega arith
+sum-max g h (r ∷ us) = omega (arith, sum-max g h us)
 
 -- A retirement that is made stays linkedTo to no more screens.
 ties-next : (H : Hall) (x n : ℕ) (D : Deed) (l : Link) (r : ℕ) → r < n → ties r (next H x n D l) ≤ ties r l
-ties-next H x n (takes d c p v) unlinked r h = go (eqb (screenIndex H d c) x)
+ties-next H x n (takes d c p v) unlinked r h = by-cases (eqb (screenIndex H d c) x)
   where
-    go : (b : Bool) → ties r (cond b (beforeSwap p) unlinked) ≤ 0
-    go true = omega arith
-    go false = omega arith
+    by-cases : (b : Bool) → ties r (cond b (beforeSwap p) unlinked) ≤ 0
+    by-cases true = omega arith
+    by-cases false = omega arith
 ties-next H x n (takes d c p v) (beforeSwap q) r h = omega arith
 ties-next H x n (takes d c p v) (beforeRetire q) r h = omega arith
 ties-next H x n (takes d c p v) (linkedTo q) r h = omega arith
-ties-next H x n (drops d c) l r h = go (eqb (screenIndex H d c) x)
+ties-next H x n (drops d c) l r h = by-cases (eqb (screenIndex H d c) x)
   where
-    go : (b : Bool) → ties r (cond b unlinked l) ≤ ties r l
-    go true = omega arith
-    go false = omega arith
+    by-cases : (b : Bool) → ties r (cond b unlinked l) ≤ ties r l
+    by-cases true = omega arith
+    by-cases false = omega arith
 ties-next H x n (swaps e p) unlinked r h = omega arith
-ties-next H x n (swaps e p) (beforeSwap q) r h = go (eqb p q)
+ties-next H x n (swaps e p) (beforeSwap q) r h = by-cases (eqb p q)
   where
-    go : (b : Bool) → ties r (cond b (beforeRetire e) (beforeSwap q)) ≤ 0
-    go true = omega arith
-    go false = omega arith
+    by-cases : (b : Bool) → ties r (cond b (beforeRetire e) (beforeSwap q)) ≤ 0
+    by-cases true = omega arith
+    by-cases false = omega arith
 ties-next H x n (swaps e p) (beforeRetire q) r h = omega arith
 ties-next H x n (swaps e p) (linkedTo q) r h = omega arith
 ties-next H x n (retires e s) unlinked r h = omega arith
 ties-next H x n (retires e s) (beforeSwap q) r h = omega arith
-ties-next H x n (retires e s) (beforeRetire q) r h = go (eqb e q)
+ties-next H x n (retires e s) (beforeRetire q) r h = by-cases (eqb e q)
   where
-    go : (b : Bool) → ties r (cond b (linkedTo n) (beforeRetire q)) ≤ 0
-    go true = omega (arith, matches-other n r (λ t. omega arith))
-    go false = omega arith
+    by-cases : (b : Bool) → ties r (cond b (linkedTo n) (beforeRetire q)) ≤ 0
+    by-cases true = omega (arith, matches-other n r (λ t. omega arith))
+    by-cases false = omega arith
 ties-next H x n (retires e s) (linkedTo q) r h = omega arith
 ties-next H x n (handsBack e s) l r h = omega arith
 ties-next H x n (lacksRoom d) l r h = omega arith
@@ -98,58 +98,58 @@ module _ (H : Hall) (f : ℕ → Deed) (n : ℕ) where
   live-up : (S k r : ℕ) → k ≤ S → live H f n k r ≤ live H f n S r
   live-up zero zero r h = omega arith
   live-up zero (suc k) r h = absurd (omega arith)
-  live-up (suc S) k r h = go (ℕ-discrete k (suc S)) (live-up S k r)
+  live-up (suc S) k r h = by-cases (ℕ-discrete k (suc S)) (live-up S k r)
     where
-      go : Dec (k ≡ suc S) → (k ≤ S → live H f n k r ≤ live H f n S r) → live H f n k r ≤ live H f n (suc S) r
-      go (yes t) ih = rw t (omega arith)
-      go (no t) ih = omega (arith, ih (omega arith))
+      by-cases : Dec (k ≡ suc S) → (k ≤ S → live H f n k r ≤ live H f n S r) → live H f n k r ≤ live H f n (suc S) r
+      by-cases (yes t) ih = rw t (omega arith)
+      by-cases (no t) ih = omega (arith, ih (omega arith))
 
   pub live-at : (S x r : ℕ) → x < S → ties r (link H f x n) ≤ live H f n S r
   live-at zero x r h = absurd (omega arith)
-  live-at (suc S) x r h = go (ℕ-discrete x S) (live-at S x r)
+  live-at (suc S) x r h = by-cases (ℕ-discrete x S) (live-at S x r)
     where
-      go : Dec (x ≡ S) → (x < S → ties r (link H f x n) ≤ live H f n S r) → ties r (link H f x n) ≤ live H f n (suc S) r
-      go (yes t) ih = rw t (omega arith)
-      go (no t) ih = omega (arith, ih (omega arith))
+      by-cases : Dec (x ≡ S) → (x < S → ties r (link H f x n) ≤ live H f n S r) → ties r (link H f x n) ≤ live H f n (suc S) r
+      by-cases (yes t) ih = rw t (omega arith)
+      by-cases (no t) ih = omega (arith, ih (omega arith))
 
-  tally-start : (k : ℕ) (us : List ℕ) → k ≡ 0 → tally (live H f n k) us ≡ 0
-  tally-start k us e = rw e (tally-none us)
+  sum-start : (k : ℕ) (us : List ℕ) → k ≡ 0 → sumOver (live H f n k) us ≡ 0
+  sum-start k us e = rw e (sum-none us)
 
   -- One screen more: no more than one retirement more, and none unless the screen shows s.
-  low-step : (d s : ℕ) (st : State) → ScreensAgree H f n st → (us : List ℕ) → ((r : ℕ) → copies r us ≤ 1)
+  one-screen-more : (d s : ℕ) (st : State) → ScreensAgree H f n st → (us : List ℕ) → ((r : ℕ) → copies r us ≤ 1)
       → ((r : ℕ) → 1 ≤ copies r us → f r ≡ retires d s) → (k : ℕ) → k < allScreens H
-      → tally (live H f n (suc k)) us ≤ tally (live H f n k) us + matches s (getD (st .shown) k 0)
-  low-step d s st ag us one mine k h = omega (arith, tally-max (live H f n k) (λ r. ties r (link H f k n)) us, go (link H f k n) (ag k h))
+      → sumOver (live H f n (suc k)) us ≤ sumOver (live H f n k) us + matches s (getD (st .shown) k 0)
+  one-screen-more d s st ag us one mine k h = omega (arith, sum-max (live H f n k) (λ r. ties r (link H f k n)) us, by-cases (link H f k n) (ag k h))
     where
-      go : (l : Link) → Agree f (st .held) (st .desks) (getD (st .shown) k 0) l → tally (λ r. ties r l) us ≤ matches s (getD (st .shown) k 0)
-      go unlinked a = omega (arith, tally-none us)
-      go (beforeSwap p) a = omega (arith, tally-none us)
-      go (beforeRetire e) a = omega (arith, tally-none us)
-      go (linkedTo q) a = at (decLe 1 (copies q us))
+      by-cases : (l : Link) → Agree f (st .held) (st .desks) (getD (st .shown) k 0) l → sumOver (λ r. ties r l) us ≤ matches s (getD (st .shown) k 0)
+      by-cases unlinked a = omega (arith, sum-none us)
+      by-cases (beforeSwap p) a = omega (arith, sum-none us)
+      by-cases (beforeRetire e) a = omega (arith, sum-none us)
+      by-cases (linkedTo q) a = at (decLe 1 (copies q us))
         where
-          at : Dec (1 ≤ copies q us) → tally (λ r. matches q r) us ≤ matches s (getD (st .shown) k 0)
-          at (yes t) = let v : getD (st .shown) k 0 ≡ s = a .1 d s (mine q t) in rw v (omega (arith, tally-tied q us, one q, matches-same s))
-          at (no t) = omega (arith, tally-tied q us)
+          at : Dec (1 ≤ copies q us) → sumOver (λ r. matches q r) us ≤ matches s (getD (st .shown) k 0)
+          at (yes t) = let v : getD (st .shown) k 0 ≡ s = a .1 d s (mine q t) in rw v (omega (arith, sum-linked q us, one q, matches-same s))
+          at (no t) = omega (arith, sum-linked q us)
 
 -- A reading marks a copy of what it reads, if one is left.
 apart : (s v x : ℕ) → (v ≡ x → ⊥) → matches s v + matches s x ≤ 1
-apart s v x h = go (ℕ-discrete s v) (ℕ-discrete s x)
+apart s v x h = by-cases (ℕ-discrete s v) (ℕ-discrete s x)
   where
-    go : Dec (s ≡ v) → Dec (s ≡ x) → matches s v + matches s x ≤ 1
-    go (yes a) (yes b) = absurd (h (sym a ∙ b))
-    go (yes a) (no b) = omega (arith, matches-at-most-one s v, matches-other s x b)
-    go (no a) c = omega (arith, matches-other s v a, matches-at-most-one s x)
+    by-cases : Dec (s ≡ v) → Dec (s ≡ x) → matches s v + matches s x ≤ 1
+    by-cases (yes a) (yes b) = absurd (h (sym a ∙ b))
+    by-cases (yes a) (no b) = omega (arith, matches-at-most-one s v, matches-other s x b)
+    by-cases (no a) c = omega (arith, matches-other s v a, matches-at-most-one s x)
 
 pub mark-finds-a-copy : (s v : ℕ) (ps : List TestedPlace)
     → min (copies s (markedOf ps) + matches s v) (testedCopies s ps) ≤ copies s (markedOf (mark v ps))
 mark-finds-a-copy s v [] = omega arith
 mark-finds-a-copy s v (marked x ∷ ps) = omega (arith, mark-finds-a-copy s v ps)
-mark-finds-a-copy s v (unmarked x ∷ ps) = go (eqb v x) refl (mark-finds-a-copy s v ps)
+mark-finds-a-copy s v (unmarked x ∷ ps) = by-cases (eqb v x) refl (mark-finds-a-copy s v ps)
   where
-    go : (b : Bool) → eqb v x ≡ b → min (copies s (markedOf ps) + matches s v) (testedCopies s ps) ≤ copies s (markedOf (mark v ps))
+    by-cases : (b : Bool) → eqb v x ≡ b → min (copies s (markedOf ps) + matches s v) (testedCopies s ps) ≤ copies s (markedOf (mark v ps))
         → min (copies s (markedOf ps) + matches s v) (testedCopies s (unmarked x ∷ ps)) ≤ copies s (markedOf (cond b (marked x ∷ ps) (unmarked x ∷ mark v ps)))
-    go true q ih = omega (arith, ap (matches s) (eqb-true v x q))
-    go false q ih = omega (arith, apart s v x (eqb-false v x q))
+    by-cases true q ih = omega (arith, ap (matches s) (eqb-true v x q))
+    by-cases false q ih = omega (arith, apart s v x (eqb-false v x q))
 
 marks-cover-reads : (s : ℕ) (g : ℕ → ℕ) (shown : List ℕ) (m k : ℕ) (ps : List TestedPlace)
     → ((j : ℕ) → j < length shown → g (suc j) ≤ g j + matches s (getD shown j 0)) → ((j : ℕ) → j ≤ length shown → g j ≤ testedCopies s ps)
@@ -157,16 +157,16 @@ marks-cover-reads : (s : ℕ) (g : ℕ → ℕ) (shown : List ℕ) (m k : ℕ) (
     → g (k + length (take m (drop k shown))) ≤ copies s (markedOf (markEach (take m (drop k shown)) ps))
 marks-cover-reads s g shown zero k ps st top hk h = subst (λ (j : ℕ). g j ≤ copies s (markedOf ps)) (omega arith) h
 marks-cover-reads s g shown (suc m) k ps st top hk h =
-    go (decLt k (length shown)) (λ ps′ b. marks-cover-reads s g shown m (suc k) ps′ st (λ j hj. omega (arith, top j hj)))
+    by-cases (decLt k (length shown)) (λ ps′ b. marks-cover-reads s g shown m (suc k) ps′ st (λ j hj. omega (arith, top j hj)))
   where
-    go : Dec (k < length shown)
+    by-cases : Dec (k < length shown)
         → ((ps′ : List TestedPlace) → testedCopies s ps′ ≡ testedCopies s ps → suc k ≤ length shown → g (suc k) ≤ copies s (markedOf ps′) → g (suc k + length (take m (drop (suc k) shown))) ≤ copies s (markedOf (markEach (take m (drop (suc k) shown)) ps′)))
         → g (k + length (take (suc m) (drop k shown))) ≤ copies s (markedOf (markEach (take (suc m) (drop k shown)) ps))
-    go (yes t) ih =
+    by-cases (yes t) ih =
         let v = getD shown k 0 in
         let r = ih (mark v ps) (tested-copies-mark s v ps) t (omega (arith, mark-finds-a-copy s v ps, st k t, top (suc k) t)) in
         rw (drop-cons shown k 0 t) (subst (λ (j : ℕ). g j ≤ copies s (markedOf (markEach (take m (drop (suc k) shown)) (mark v ps)))) (omega arith) r)
-    go (no t) ih =
+    by-cases (no t) ih =
         let le : length shown ≤ k = omega arith in
         let e : drop k shown ≡ [] = drop-of-length-le shown le in
         rw e (subst (λ (j : ℕ). g j ≤ copies s (markedOf ps)) (omega arith) h)
@@ -174,9 +174,9 @@ marks-cover-reads s g shown (suc m) k ps st top hk h =
 -- The retirements of s not handed back: those made before the pass under way began, and the later ones.
 pub record Held (H : Hall) (f : ℕ → Deed) (s n : ℕ) (D : Desk) (old new : List ℕ) : Type 0 where
   pub sum : length old + length new ≡ copiesOn s D
-  pub tests : tally (live H f n (allScreens H)) old ≤ testedCopies s (D .tested)
-  pub marks : tally (live H f n (D .scanned)) old ≤ copies s (markedOf (D .tested))
-  pub waits : tally (live H f n (allScreens H)) new ≤ copies s (D .waiting)
+  pub tests : sumOver (live H f n (allScreens H)) old ≤ testedCopies s (D .tested)
+  pub marks : sumOver (live H f n (D .scanned)) old ≤ copies s (markedOf (D .tested))
+  pub waits : sumOver (live H f n (allScreens H)) new ≤ copies s (D .waiting)
 
 pub record Tokens (H : Hall) (f : ℕ → Deed) (s n : ℕ) (D : Desk) (count : ℕ → ℕ) : Type 0 where
   pub old : List ℕ
@@ -199,15 +199,15 @@ record Pick (g : ℕ → ℕ) (us : List ℕ) : Type 0 where
   none : g it ≡ 0
   count : (x : ℕ) → copies x us ≡ matches x it + copies x rest
   fewer : length us ≡ suc (length rest)
-  less : (g′ : ℕ → ℕ) → tally g′ rest ≤ tally g′ us
+  less : (g′ : ℕ → ℕ) → sumOver g′ rest ≤ sumOver g′ us
 
-pick : (g : ℕ → ℕ) (us : List ℕ) → tally g us < length us → Pick g us
+pick : (g : ℕ → ℕ) (us : List ℕ) → sumOver g us < length us → Pick g us
 pick g [] h = absurd (omega arith)
-pick g (r ∷ us) h = go (ℕ-discrete (g r) 0) (pick g us)
+pick g (r ∷ us) h = by-cases (ℕ-discrete (g r) 0) (pick g us)
   where
-    go : Dec (g r ≡ 0) → (tally g us < length us → Pick g us) → Pick g (r ∷ us)
-    go (yes t) ih = record { it = r; rest = us; none = t; count = λ x. refl; fewer = refl; less = λ g′. omega arith }
-    go (no t) ih =
+    by-cases : Dec (g r ≡ 0) → (sumOver g us < length us → Pick g us) → Pick g (r ∷ us)
+    by-cases (yes t) ih = record { it = r; rest = us; none = t; count = λ x. refl; fewer = refl; less = λ g′. omega arith }
+    by-cases (no t) ih =
         let p = ih (omega arith) in
         record {
           it = p .it;
@@ -220,36 +220,36 @@ pick g (r ∷ us) h = go (ℕ-discrete (g r) 0) (pick g us)
 
 module _ (H : Hall) (f : ℕ → Deed) (d s n : ℕ) (count : ℕ → ℕ) where
   -- (a)
-  pub open-tokens : (D : Desk) → Scanning (allScreens H) (D .scanned) (D .tested) → Tokens H f s n D count → Tokens H f s n (begin D) count
-  open-tokens D g t = go (D .tested) refl g
+  pub begin-tokens : (D : Desk) → Scanning (allScreens H) (D .scanned) (D .tested) → Tokens H f s n D count → Tokens H f s n (begin D) count
+  begin-tokens D g t = by-cases (D .tested) refl g
     where
-      go : (ps : List TestedPlace) → D .tested ≡ ps → Scanning (allScreens H) (D .scanned) ps → Tokens H f s n (beginAt ps D) count
-      go [] e g =
+      by-cases : (ps : List TestedPlace) → D .tested ≡ ps → Scanning (allScreens H) (D .scanned) ps → Tokens H f s n (beginAt ps D) count
+      by-cases [] e g =
           let h = t .held in
           let la = length-append (t .old) (t .new) in
           let be = ap (testedCopies s) e in
           let bf = tested-copies-begin s (D .waiting) in
-          let ta = tally-append (live H f n (allScreens H)) (t .old) (t .new) in
+          let ta = sum-append (live H f n (allScreens H)) (t .old) (t .new) in
           record {
             old = t .old ++ t .new;
             new = [];
             same = λ r. omega (arith, copies-append r (t .old) (t .new), t .same r);
             held =
-                record { sum = omega (arith, h .sum); tests = omega (arith, h .tests, h .waits); marks = omega (arith, tally-start H f n (D .scanned) (t .old ++ t .new) g); waits = omega arith };
+                record { sum = omega (arith, h .sum); tests = omega (arith, h .tests, h .waits); marks = omega (arith, sum-start H f n (D .scanned) (t .old ++ t .new) g); waits = omega arith };
           }
-      go (p ∷ ps) e g = t
+      by-cases (p ∷ ps) e g = t
 
   -- (b) and (c)
-  pub pass-tokens : (st : State) → ScreensAgree H f n st → ((r : ℕ) → count r ≤ 1) → ((r : ℕ) → 1 ≤ count r → f r ≡ retires d s) → 1 ≤ allScreens H
+  pub scan-tokens : (st : State) → ScreensAgree H f n st → ((r : ℕ) → count r ≤ 1) → ((r : ℕ) → 1 ≤ count r → f r ≡ retires d s) → 1 ≤ allScreens H
       → length (st .shown) ≡ allScreens H → (A : Desk) → Scanning (allScreens H) (A .scanned) (A .tested) → Tokens H f s n A count
       → Tokens H f s n (settle (allScreens H) (scan (st .shown) A)) count
-  pass-tokens st ag one mine hS hl A g t = by-scan (λ (X : Desk). Tokens H f s n X count) (allScreens H) (st .shown) A hS hl g (λ e. t) on over
+  scan-tokens st ag one mine hS hl A g t = by-scan (λ (X : Desk). Tokens H f s n X count) (allScreens H) (st .shown) A hS hl g (λ e. t) on over
     where
       read : A .scanned ≤ allScreens H
-          → tally (live H f n (A .scanned + length (nextScreens (st .shown) A))) (t .old) ≤ copies s (markedOf (markEach (nextScreens (st .shown) A) (A .tested)))
-      read hk = marks-cover-reads s (λ j. tally (live H f n j) (t .old)) (st .shown) 2 (A .scanned) (A .tested)
-          (λ j hj. low-step H f n d s st ag (t .old) (λ r. omega (arith, one r, t .same r)) (λ r q. mine r (omega (arith, t .same r))) j (omega arith))
-          (λ j hj. let u = tally-le (live H f n j) (live H f n (allScreens H)) (t .old) (λ r q. live-up H f n (allScreens H) j r (omega arith)) in omega (arith, t .held .tests))
+          → sumOver (live H f n (A .scanned + length (nextScreens (st .shown) A))) (t .old) ≤ copies s (markedOf (markEach (nextScreens (st .shown) A) (A .tested)))
+      read hk = marks-cover-reads s (λ j. sumOver (live H f n j) (t .old)) (st .shown) 2 (A .scanned) (A .tested)
+          (λ j hj. one-screen-more H f n d s st ag (t .old) (λ r. omega (arith, one r, t .same r)) (λ r q. mine r (omega (arith, t .same r))) j (omega arith))
+          (λ j hj. let u = sum-le (live H f n j) (live H f n (allScreens H)) (t .old) (λ r q. live-up H f n (allScreens H) j r (omega arith)) in omega (arith, t .held .tests))
           (omega arith) (t .held .marks)
 
       on : 1 ≤ length (A .tested) → length (nextScreens (st .shown) A) ≡ 2 → A .scanned + 2 < allScreens H
@@ -271,12 +271,12 @@ module _ (H : Hall) (f : ℕ → Deed) (d s n : ℕ) (count : ℕ → ℕ) where
           let ps = markEach (nextScreens (st .shown) A) (A .tested) in
           let b = tested-copies-mark-each s (nextScreens (st .shown) A) (A .tested) in
           let h = t .held in
-          let rd : tally (live H f n (allScreens H)) (t .old) ≤ copies s (markedOf ps) =
-          subst (λ (j : ℕ). tally (live H f n j) (t .old) ≤ copies s (markedOf ps)) h4 (read (omega arith)) in
+          let rd : sumOver (live H f n (allScreens H)) (t .old) ≤ copies s (markedOf ps) =
+          subst (λ (j : ℕ). sumOver (live H f n j) (t .old) ≤ copies s (markedOf ps)) h4 (read (omega arith)) in
           let la = length-append (t .old) (t .new) in
           let ca = copies-append s (A .ready) (unmarkedOf ps) in
           let cb = copies-append s (markedOf ps) (A .waiting) in
-          let ta = tally-append (live H f n (allScreens H)) (t .old) (t .new) in
+          let ta = sum-append (live H f n (allScreens H)) (t .old) (t .new) in
           record {
             old = [];
             new = t .old ++ t .new;
@@ -285,8 +285,8 @@ module _ (H : Hall) (f : ℕ → Deed) (d s n : ℕ) (count : ℕ → ℕ) where
           }
 
   -- (d): another session, or none
-  pub hand-other : (X : Desk) → (s ≡ 0 → ⊥) → (s ≡ getD (X .ready) 0 0 → ⊥) → Tokens H f s n X count → Tokens H f s n (handBack X .after) count
-  hand-other X nz ne t = record {
+  pub hand-back-other : (X : Desk) → (s ≡ 0 → ⊥) → (s ≡ getD (X .ready) 0 0 → ⊥) → Tokens H f s n X count → Tokens H f s n (handBack X .after) count
+  hand-back-other X nz ne t = record {
     old = t .old;
     new = t .new;
     same = t .same;
@@ -298,15 +298,15 @@ module _ (H : Hall) (f : ℕ → Deed) (d s n : ℕ) (count : ℕ → ℕ) where
       left (x ∷ r) q = omega (arith, matches-other s x q)
 
   -- (d): s itself
-  pub hand-same : (X : Desk) → (s ≡ 0 → ⊥) → s ≡ getD (X .ready) 0 0 → Tokens H f s n X count → Leaves H f s n (handBack X .after) count
-  hand-same X nz e t = go (decLt (tally (live H f n (allScreens H)) (t .old)) (length (t .old)))
+  pub hand-back-same : (X : Desk) → (s ≡ 0 → ⊥) → s ≡ getD (X .ready) 0 0 → Tokens H f s n X count → Leaves H f s n (handBack X .after) count
+  hand-back-same X nz e t = by-cases (decLt (sumOver (live H f n (allScreens H)) (t .old)) (length (t .old)))
     where
       left : (r : List ℕ) → s ≡ getD r 0 0 → suc (copies s (drop 1 r)) ≡ copies s r
       left [] q = absurd (nz q)
       left (x ∷ r) q = rw (← q) (omega (arith, matches-same s))
 
-      go : Dec (tally (live H f n (allScreens H)) (t .old) < length (t .old)) → Leaves H f s n (handBack X .after) count
-      go (yes l) =
+      by-cases : Dec (sumOver (live H f n (allScreens H)) (t .old) < length (t .old)) → Leaves H f s n (handBack X .after) count
+      by-cases (yes l) =
           let p = pick (live H f n (allScreens H)) (t .old) l in
           let h = t .held in
           record {
@@ -318,7 +318,7 @@ module _ (H : Hall) (f : ℕ → Deed) (d s n : ℕ) (count : ℕ → ℕ) where
             held =
                 record { sum = omega (arith, p .fewer, h .sum, left (X .ready) e); tests = omega (arith, p .less (live H f n (allScreens H)), h .tests); marks = omega (arith, p .less (live H f n (X .scanned)), h .marks); waits = h .waits };
           }
-      go (no l) =
+      by-cases (no l) =
           let h = t .held in
           let p = pick (live H f n (allScreens H)) (t .new) (omega (arith, h .sum, left (X .ready) e, h .tests, h .waits)) in
           record {

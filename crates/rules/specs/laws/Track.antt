@@ -50,10 +50,10 @@ module _ (H : Hall) (f : ℕ → Deed) (sane : (m : ℕ) → Range H (f m)) (i d
   keep-take n a b w x (linkedTo q) z = refl
 
   on-swap : (n x w : ℕ) → i < n → f n ≡ swaps x w → Stage H f (screenIndex H d c) p e j r n → Stage H f (screenIndex H d c) p e j r (suc n)
-  on-swap n x w hi q (first a l) = go (ℕ-discrete w p)
+  on-swap n x w hi q (first a l) = by-cases (ℕ-discrete w p)
     where
-      go : Dec (w ≡ p) → Stage H f (screenIndex H d c) p e j r (suc n)
-      go (yes t) =
+      by-cases : Dec (w ≡ p) → Stage H f (screenIndex H d c) p e j r (suc n)
+      by-cases (yes t) =
           let nj : n ≡ j = at (ℕ-discrete n j) in
           let sx : swaps x w ≡ swaps e p = sym q ∙ ap f nj ∙ sw .here in
           let xe : x ≡ e = cc in
@@ -62,7 +62,7 @@ module _ (H : Hall) (f : ℕ → Deed) (sane : (m : ℕ) → Range H (f m)) (i d
           at : Dec (n ≡ j) → n ≡ j
           at (yes u) = u
           at (no u) = absurd (sw .first n x hi (omega arith) (q ∙ ap (swaps x) t))
-      go (no t) =
+      by-cases (no t) =
           let z : n ≡ j → ⊥ = (λ u. let k : swaps x w ≡ swaps e p = sym q ∙ ap f u ∙ sw .here in t (cc)) in
           first (omega arith) (after n (swaps x w) (beforeSwap p) (beforeSwap p) q l (rw (ne-eqb w p t)))
   on-swap n x w hi q (second a b l) =
@@ -74,37 +74,37 @@ module _ (H : Hall) (f : ℕ → Deed) (sane : (m : ℕ) → Range H (f m)) (i d
   on-retire n x v hi q (first a l) =
       let z : n ≡ j → ⊥ = (λ t. let k : retires x v ≡ swaps e p = sym q ∙ ap f t ∙ sw .here in let o : _≡_ {A = ℕ} 0 1 = cc in omega arith) in
       first (omega arith) (after n (retires x v) (beforeSwap p) (beforeSwap p) q l refl)
-  on-retire n x v hi q (second a b l) = go (ℕ-discrete x e)
+  on-retire n x v hi q (second a b l) = by-cases (ℕ-discrete x e)
     where
-      go : Dec (x ≡ e) → Stage H f (screenIndex H d c) p e j r (suc n)
-      go (yes t) =
+      by-cases : Dec (x ≡ e) → Stage H f (screenIndex H d c) p e j r (suc n)
+      by-cases (yes t) =
           let nr : n ≡ r = at (ℕ-discrete n r) in
           third (omega arith) (after n (retires x v) (beforeRetire e) (linkedTo r) q l (rw (eq-eqb x e t) (ap linkedTo nr)))
         where
           at : Dec (n ≡ r) → n ≡ r
           at (yes u) = u
           at (no u) = absurd (re .first n v a (omega arith) (q ∙ ap (λ (m : ℕ). retires m v) t))
-      go (no t) =
+      by-cases (no t) =
           let z : n ≡ r → ⊥ = (λ u. let k : retires x v ≡ retires e s = sym q ∙ ap f u ∙ re .here in t (cc)) in
           second (omega arith) (omega arith) (after n (retires x v) (beforeRetire e) (beforeRetire e) q l (rw (ne-eqb x e t)))
   on-retire n x v hi q (third a l) = third (omega arith) (after n (retires x v) (linkedTo r) (linkedTo r) q l refl)
 
   more : (n : ℕ) → (f n ≡ drops d c → ⊥) → ((m : ℕ) → i < m → m < n → f m ≡ drops d c → ⊥) → (m : ℕ) → i < m → m < suc n → f m ≡ drops d c → ⊥
-  more n z h m a b q = go (ℕ-discrete m n)
+  more n z h m a b q = by-cases (ℕ-discrete m n)
     where
-      go : Dec (m ≡ n) → ⊥
-      go (yes t) = z (ap f (sym t) ∙ q)
-      go (no t) = h m a (omega arith) q
+      by-cases : Dec (m ≡ n) → ⊥
+      by-cases (yes t) = z (ap f (sym t) ∙ q)
+      by-cases (no t) = h m a (omega arith) q
 
   step : (n : ℕ) → i < n → Track H f i d c p e j r n → Track H f i d c p e j r (suc n)
   step n hi (gone q nd l) = gone q nd (omega arith)
-  step n hi (on undropped st) = go (f n) refl
+  step n hi (on undropped st) = by-cases (f n) refl
     where
-      go : (D : Deed) → f n ≡ D → Track H f i d c p e j r (suc n)
-      go (takes a b w x) q =
+      by-cases : (D : Deed) → f n ≡ D → Track H f i d c p e j r (suc n)
+      by-cases (takes a b w x) q =
           on (more n (λ t. let k : takes a b w x ≡ drops d c = sym q ∙ t in let o : _≡_ {A = ℕ} 0 1 = cc in omega arith) undropped)
           (plain n (takes a b w x) q (λ t. let o : _≡_ {A = ℕ} 0 1 = cc in omega arith) (λ t. let o : _≡_ {A = ℕ} 0 1 = cc in omega arith) (keep-take n a b w x) st)
-      go (drops a b) q = at (eqb (screenIndex H a b) (screenIndex H d c)) refl
+      by-cases (drops a b) q = at (eqb (screenIndex H a b) (screenIndex H d c)) refl
         where
           at : (y : Bool) → eqb (screenIndex H a b) (screenIndex H d c) ≡ y → Track H f i d c p e j r (suc n)
           at true t =
@@ -117,22 +117,22 @@ module _ (H : Hall) (f : ℕ → Deed) (sane : (m : ℕ) → Range H (f m)) (i d
               on
               (more n (λ u. let k : drops a b ≡ drops d c = sym q ∙ u in ne (let ad : a ≡ d = cc in let bc : b ≡ c = cc in (λ z. screenIndex H (ad z) (bc z)))) undropped)
               (plain n (drops a b) q (λ u. let o : _≡_ {A = ℕ} 0 1 = cc in omega arith) (λ u. let o : _≡_ {A = ℕ} 0 1 = cc in omega arith) (λ l z. ap (λ (y : Bool). cond y unlinked l) t) st)
-      go (swaps a b) q =
+      by-cases (swaps a b) q =
           on (more n (λ t. let k : swaps a b ≡ drops d c = sym q ∙ t in let o : _≡_ {A = ℕ} 0 1 = cc in omega arith) undropped)
           (on-swap n a b hi q st)
-      go (retires a b) q =
+      by-cases (retires a b) q =
           on (more n (λ t. let k : retires a b ≡ drops d c = sym q ∙ t in let o : _≡_ {A = ℕ} 0 1 = cc in omega arith) undropped)
           (on-retire n a b hi q st)
-      go (lacksRoom a) q =
+      by-cases (lacksRoom a) q =
           on (more n (λ t. let k : lacksRoom a ≡ drops d c = sym q ∙ t in let o : _≡_ {A = ℕ} 0 1 = cc in omega arith) undropped)
           (plain n (lacksRoom a) q (λ t. let o : _≡_ {A = ℕ} 0 1 = cc in omega arith) (λ t. let o : _≡_ {A = ℕ} 0 1 = cc in omega arith) (λ l z. refl) st)
-      go (collects a) q =
+      by-cases (collects a) q =
           on (more n (λ t. let k : collects a ≡ drops d c = sym q ∙ t in let o : _≡_ {A = ℕ} 0 1 = cc in omega arith) undropped)
           (plain n (collects a) q (λ t. let o : _≡_ {A = ℕ} 0 1 = cc in omega arith) (λ t. let o : _≡_ {A = ℕ} 0 1 = cc in omega arith) (λ l z. refl) st)
-      go (handsBack a b) q =
+      by-cases (handsBack a b) q =
           on (more n (λ t. let k : handsBack a b ≡ drops d c = sym q ∙ t in let o : _≡_ {A = ℕ} 0 1 = cc in omega arith) undropped)
           (plain n (handsBack a b) q (λ t. let o : _≡_ {A = ℕ} 0 1 = cc in omega arith) (λ t. let o : _≡_ {A = ℕ} 0 1 = cc in omega arith) (λ l z. refl) st)
-      go nothing q =
+      by-cases nothing q =
           on (more n (λ t. let k : nothing ≡ drops d c = sym q ∙ t in let o : _≡_ {A = ℕ} 0 1 = cc in omega arith) undropped)
           (plain n nothing q (λ t. let o : _≡_ {A = ℕ} 0 1 = cc in omega arith) (λ t. let o : _≡_ {A = ℕ} 0 1 = cc in omega arith) (λ l z. refl) st)
 
@@ -148,10 +148,10 @@ module _ (H : Hall) (f : ℕ → Deed) (sane : (m : ℕ) → Range H (f m)) (i d
   -- the tie
   pub linked-tied : link H f (screenIndex H d c) i ≡ unlinked → (n : ℕ) → r < n → (link H f (screenIndex H d c) n ≡ linkedTo r → ⊥)
       → DroppedBefore f i n
-  linked-tied calm n h nt = go (subst (λ (m : ℕ). Track H f i d c p e j r m) (omega (arith, sw .later, re .later)) (track calm (n - suc i)))
+  linked-tied calm n h nt = by-cases (subst (λ (m : ℕ). Track H f i d c p e j r m) (omega (arith, sw .later, re .later)) (track calm (n - suc i)))
     where
-      go : Track H f i d c p e j r n → DroppedBefore f i n
-      go (gone q nd l) = record { desk = d; screen = c; position = p; shown = v; take = tk; dropAt = q; drop = nd; before = l }
-      go (on undropped (first a l)) = absurd (omega (arith, sw .later, re .later))
-      go (on undropped (second a b l)) = absurd (omega arith)
-      go (on undropped (third a l)) = absurd (nt l)
+      by-cases : Track H f i d c p e j r n → DroppedBefore f i n
+      by-cases (gone q nd l) = record { desk = d; screen = c; position = p; shown = v; take = tk; dropAt = q; drop = nd; before = l }
+      by-cases (on undropped (first a l)) = absurd (omega (arith, sw .later, re .later))
+      by-cases (on undropped (second a b l)) = absurd (omega arith)
+      by-cases (on undropped (third a l)) = absurd (nt l)

@@ -15,9 +15,10 @@ use Rattle.rules.specs.Steps.{Call, Collect, Drop, Question, Retire, Swa
 use Rattle.rules.specs.Table.{TableDone, decode, decodeDesk, encode, encodeDesk, every, hallIn, listOf, marksIn, marksOf, need, openQuestions}
 use Rattle.rules.specs.Table.{openTable, openedTable, placesOf, positionWord, putRecord, recordOf, recordStart, recordWidth, screenWord, sound}
 use Rattle.rules.specs.Table.{stepTable, wordOfBits, wordsOfBits, written}
+use Rattle.rules.specs.laws.Bools.{and-left, and-right}
 use Rattle.rules.specs.laws.Collect.{collect-copies, copiesOn, retire-copies}
-use Rattle.rules.specs.laws.Decoding.{and-1, and-2, small-drop, small-take}
-use Rattle.rules.specs.laws.Effect.{in-range, yes3}
+use Rattle.rules.specs.laws.Decoding.{small-drop, small-take}
+use Rattle.rules.specs.laws.Effect.{in-range, retire-questions}
 use Rattle.rules.specs.laws.Links.{holds, owed-collect}
 use Rattle.rules.specs.laws.Lists.{matches, matches-other, matches-same}
 use Rattle.rules.specs.laws.Marks.{testedCopies}
@@ -25,7 +26,7 @@ use Rattle.rules.specs.laws.Sound.{ScanFits, Sound, collect-sound, copie
 use Rattle.rules.specs.laws.SoundTables.{encoded, known-opens, valid}
 use Rattle.rules.specs.laws.TableSteps.{Known, accepted-open, accepted-step, asked, desk-word, known, owed-word, refused-open, refused-step}
 use Rattle.rules.specs.laws.TableSteps.{unsound-step}
-use Rattle.rules.specs.laws.Tables.{Opens, Valid, all-get, clear-sound, hall-opens, length-table, some-screens, valid-step}
+use Rattle.rules.specs.laws.Tables.{Opens, Valid, all-get, empty-desk-sound, hall-opens, length-table, some-screens, valid-step}
 
 -- ---- Small numbers in lists.
 pub below-append : (m : ℕ) (xs ys : List ℕ) → ((i : ℕ) → getD xs i 0 < m) → ((i : ℕ) → getD ys i 0 < m) → (i : ℕ) → getD (xs ++ ys) i 0 < m
@@ -47,11 +48,11 @@ words-set (x ∷ xs) (suc k) v l h (suc i) = words-set xs k v l (λ j. h (suc j)
 
 -- a list is of 16-bit words where no larger number has a copy in it
 small-if-not-large : (x : ℕ) → (65536 ≤ x → ⊥) → x < 65536
-small-if-not-large x h = go (ltb x 65536) refl
+small-if-not-large x h = by-cases (ltb x 65536) refl
   where
-    go : (b : Bool) → ltb x 65536 ≡ b → x < 65536
-    go true q = ltb-true x 65536 q
-    go false q = absurd (h (ltb-false x 65536 q))
+    by-cases : (b : Bool) → ltb x 65536 ≡ b → x < 65536
+    by-cases true q = ltb-true x 65536 q
+    by-cases false q = absurd (h (ltb-false x 65536 q))
 
 no-large-copies : (s : ℕ) (xs : List ℕ) → 65536 ≤ s → Words16 xs → copies s xs ≡ 0
 no-large-copies s [] l h = refl
@@ -129,7 +130,7 @@ desk-read : (t : List ℕ) (d : ℕ) → Words16 t → Known t → (1 ≤ d) × 
 desk-read t d h k r =
     let H : Hall = hallIn t in
     record {
-      sound = all-get (Sound (allScreens H)) (decode H t .desks) (d - 1) emptyDesk (clear-sound (allScreens H)) (valid t k .desks);
+      sound = all-get (Sound (allScreens H)) (decode H t .desks) (d - 1) emptyDesk (empty-desk-sound (allScreens H)) (valid t k .desks);
       owed = rw (owed-word t d (r .0) (r .1)) (h (recordStart H d));
       sessions =
           λ s l. ap (copiesOn s) (desk-word t d (r .0) (r .1))
@@ -187,23 +188,23 @@ by-open Q H t refused accepted = told (firstNo (openQuestions H t)) refl
     told (suc n) q = subst Q (sym (refused-open H t n q)) (refused n q)
 
 -- ---- The number in an answer.
--- the first question that is answered no gives its own number
+-- the first question that is answered no guard-retire its own number
 pub first-no-is-asked : (qs : List Question) (n : ℕ) → firstNo qs ≡ suc n → 1 ≤ copies (suc n) (map (λ q. q .number) qs)
 first-no-is-asked [] n h = absurd (omega arith)
-first-no-is-asked (q ∷ qs) n h = go (q .yes?) h (first-no-is-asked qs n)
+first-no-is-asked (q ∷ qs) n h = by-cases (q .yes?) h (first-no-is-asked qs n)
   where
-    go : (b : Bool) → cond b (firstNo qs) (q .number) ≡ suc n → (firstNo qs ≡ suc n → 1 ≤ copies (suc n) (map (λ p. p .number) qs))
+    by-cases : (b : Bool) → cond b (firstNo qs) (q .number) ≡ suc n → (firstNo qs ≡ suc n → 1 ≤ copies (suc n) (map (λ p. p .number) qs))
         → 1 ≤ copies (suc n) (q .number ∷ map (λ p. p .number) qs)
-    go true e later = omega (arith, later e)
-    go false e later = omega (arith, ap (matches (suc n)) e, matches-same (suc n))
+    by-cases true e later = omega (arith, later e)
+    by-cases false e later = omega (arith, ap (matches (suc n)) e, matches-same (suc n))
 
 first-no-at-most : (m : ℕ) (qs : List Question) → every (λ n. leb n m) (map (λ q. q .number) qs) ≡ true → firstNo qs ≤ m
 first-no-at-most m [] h = omega arith
-first-no-at-most m (q ∷ qs) h = go (q .yes?) (first-no-at-most m qs (and-2 (leb (q .number) m) (every (λ n. leb n m) (map (λ p. p .number) qs)) h))
+first-no-at-most m (q ∷ qs) h = by-cases (q .yes?) (first-no-at-most m qs (and-right (leb (q .number) m) (every (λ n. leb n m) (map (λ p. p .number) qs)) h))
   where
-    go : (b : Bool) → firstNo qs ≤ m → cond b (firstNo qs) (q .number) ≤ m
-    go true e = e
-    go false e = leb-true (q .number) m (and-1 (leb (q .number) m) (every (λ n. leb n m) (map (λ p. p .number) qs)) h)
+    by-cases : (b : Bool) → firstNo qs ≤ m → cond b (firstNo qs) (q .number) ≤ m
+    by-cases true e = e
+    by-cases false e = leb-true (q .number) m (and-left (leb (q .number) m) (every (λ n. leb n m) (map (λ p. p .number) qs)) h)
 
 refusals-are-asked : (H : Hall) (st : State) (c : Call) → refusals c ≡ 5 ∷ map (λ q. q .number) (questions H st c)
 refusals-are-asked H st (Take d c p) = refl
@@ -227,7 +228,7 @@ step-number t c =
 pub open-number : (H : Hall) (t : List ℕ) → openTable H t .answer .number ≤ 4
 open-number H t = by-open (λ r. r .answer .number ≤ 4) H t (λ n q. omega (arith, first-no-at-most 4 (openQuestions H t) refl)) (λ q. omega arith)
 
--- "A refused call gives its number from document 01 and session 0, and every lent word .. keeps its content."
+-- "A refused call guard-retire its number from document 01 and session 0, and every lent word .. keeps its content."
 pub step-refused : (t : List ℕ) (c : Call) (n : ℕ) → stepTable t c .answer .number ≡ suc n
     → (1 ≤ copies (suc n) (refusals c)) × (stepTable t c .answer .session ≡ 0) × (stepTable t c .after ≡ t)
 step-refused t c =
@@ -285,7 +286,7 @@ written-words t (Retire d) h w k q =
     let H : Hall = hallIn t in
     let D : Desk = deskOf (decode H t) d in
     let S : ℕ = allScreens H in
-    let y = yes3 (inRange d (H .desks)) (not (eqb (D .owed) 0)) (ltb (usedPlaces D) (2 * S)) q in
+    let y = retire-questions (inRange d (H .desks)) (not (eqb (D .owed) 0)) (ltb (usedPlaces D) (2 * S)) q in
     let r = in-range d (H .desks) (y .0) in
     let k16 =
     retire-16 S D (eqb-false (D .owed) 0 (not-true (eqb (D .owed) 0) (y .1))) (ltb-true (usedPlaces D) (2 * S) (y .2)) (desk-read t d h k r) in
