@@ -6,7 +6,7 @@ use lib.ListN.{replicate}
 use Rattle.rules.specs.Hall.{Hall, hallOf, deskOf, mostDesks, mostScreens, mostPositions}
 use Rattle.rules.specs.Steps.{Call, Take, Drop, Swap, Retire, Collect, Answer, Event}
 use Rattle.rules.specs.Table.{need, mostWords, openTable, stepTable, runTable, endTable, sound, recordSound, encodeDesk, decodeDesk, decode}
-use Rattle.rules.specs.Sheet.{Got, got, refusal, number, mostNumber}
+use Rattle.rules.specs.Numbers.{Got, got, refusal, number, mostNumber}
 
 infixr 68 _⇒_
 -- a call with its answer

@@ -25,8 +25,6 @@ pub mod Decoding
 pub mod Tables
 pub mod TableSteps
 pub mod SoundTables
-pub mod Sheet
-pub mod Tally
 pub mod TableHistories
 pub mod Words16
 pub mod Bytes

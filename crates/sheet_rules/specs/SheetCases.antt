@@ -5,10 +5,11 @@ use Prim.Native.String.{String, [] as none, _∷_ as _then_}
 use mathlib.Core.Path.{_≡_, refl}
 use mathlib.Core.List.{List, [], _∷_, _++_, map}
 use lib.ListN.{replicate}
 use Rattle.rules.specs.Table.{encodeDesk, decodeDesk, recordSound, sound, stepTable, openTable}
-use Rattle.rules.specs.Sheet.{Got, got, refusal, number, mostNumber, recordAt, headerAt, lentTable, openingNumber, reading}
-use Rattle.rules.specs.Tally.{counted}
-use Rattle.rules.specs.Lines.{decimal, line, endLine, printed}
+use Rattle.rules.specs.Numbers.{Got, got, refusal, number, mostNumber}
+use Rattle.sheet_rules.specs.Sheet.{recordAt, headerAt, lentTable, openingNumber, reading}
+use Rattle.sheet_rules.specs.Tally.{counted}
+use Rattle.sheet_rules.specs.Lines.{decimal, line, endLine, printed}
 
 -- The bytes of some lines: each line's characters, and then 10.
 abbrev pub characters : String → List ℕ

@@ -10,17 +10,18 @@ use lib.ListN.{length, drop, length-append, length-drop}
 use lib.Seq.{drop-length, drop-drop, drop-append-seam}
 use lib.Dec.{leb, ltb}
 use borrow.Author.Tests.{ltb-false, leb-true, lt-ltb, le-ltb, le-leb, lt-leb}
 use Rattle.rules.specs.Hall.{Hall}
 use Rattle.rules.specs.Steps.{firstNo, inRange}
 use Rattle.rules.specs.Table.{need, openQuestions, openIf, openTable}
-use Rattle.rules.specs.Sheet.{Refusal, Got, got, refused, andThen, Groups, ended, stopped, endless, before, groupsIn}
-use Rattle.rules.specs.Sheet.{valueOf, numberOf, number, mostNumber, Record, recordFor, deskField, screenField}
-use Rattle.rules.specs.Sheet.{positionField, sessionField, follows, fieldAt, fieldsAt, withCode, isCode, recordAt}
-use Rattle.rules.specs.Sheet.{Records, more, complete, stop, recordsAt, headerAt, lentTable, openingNumber, opened}
-use Rattle.rules.specs.Sheet.{mostBytes, reading, Meaning, whole, Accepted, shortest, numberBytes, fieldBytes}
-use Rattle.rules.specs.Sheet.{fieldsBytes, recordBytes, recordsBytes, headerBytes, sheetBytes}
-use Rattle.rules.specs.Tally.{zeros}
-use Rattle.rules.specs.Lines.{line, endLine, printed}
+use Rattle.rules.specs.Numbers.{Refusal, Got, got, refused, andThen, Groups, ended, stopped, endless, before, groupsIn}
+use Rattle.rules.specs.Numbers.{valueOf, numberOf, number, mostNumber}
+use Rattle.sheet_rules.specs.Sheet.{Record, recordFor, deskField, screenField}
+use Rattle.sheet_rules.specs.Sheet.{positionField, sessionField, follows, fieldAt, fieldsAt, withCode, isCode, recordAt}
+use Rattle.sheet_rules.specs.Sheet.{Records, more, complete, stop, recordsAt, headerAt, lentTable, openingNumber, opened}
+use Rattle.sheet_rules.specs.Sheet.{mostBytes, reading, Meaning, whole, Accepted, shortest, numberBytes, fieldBytes}
+use Rattle.sheet_rules.specs.Sheet.{fieldsBytes, recordBytes, recordsBytes, headerBytes, sheetBytes}
+use Rattle.sheet_rules.specs.Tally.{zeros}
+use Rattle.sheet_rules.specs.Lines.{line, endLine, printed}
 
 -- ---- What a reader that got a value had before it.
 refused-not-got : {A : Type 0} {reason : Refusal} {value : A} {next : ℕ} → refused reason ≡ got value next → ⊥

@@ -6,14 +6,14 @@ use mathlib.Core.Bool.{Bool, true, false, cond, not}
 use mathlib.Core.List.{List, [], _∷_, _++_, append-assoc}
 use lib.Dec.{ltb, eqb}
 use borrow.Author.Tests.{ltb-true, ltb-false, not-true}
 use Rattle.rules.specs.Hall.{Hall}
 use Rattle.rules.specs.Steps.{Call, Take, Drop, Swap, Retire, Collect, Event}
 use Rattle.rules.specs.Table.{stepTable, runTable, openTable}
 use Rattle.rules.specs.History.{deed, lacksRoom, nothing, isHandBack, oneIf, howMany}
-use Rattle.rules.specs.Sheet.{callOf, Records, more, complete, stop, lentTable, opened, reading}
-use Rattle.rules.specs.Tally.{Tally, tallyOf, zeros, isAccepted, isRefused, isHandedBack, largestCount, oneMore}
-use Rattle.rules.specs.Tally.{oneMoreIf, counted, tallied, countsIn}
-use Rattle.rules.specs.Lines.{answerLine, refusalLine, endLine, linesFrom, linesOf, printed}
+use Rattle.sheet_rules.specs.Sheet.{callOf, Records, more, complete, stop, lentTable, opened, reading}
+use Rattle.sheet_rules.specs.Tally.{Tally, tallyOf, zeros, isAccepted, isRefused, isHandedBack, largestCount, oneMore}
+use Rattle.sheet_rules.specs.Tally.{oneMoreIf, counted, tallied, countsIn}
+use Rattle.sheet_rules.specs.Lines.{answerLine, refusalLine, endLine, linesFrom, linesOf, printed}
 
 -- "A refused step changes only the count of refused steps."
 refused-hands-nothing : (call : Call) (n session : ℕ) → isHandBack (deed call (suc n) session) ≡ false

@@ -3,10 +3,11 @@ use Prim.Native.Nat.{ℕ, zero, suc, _+_, _/_, _%_}
 use mathlib.Core.Bool.{cond}
 use mathlib.Core.List.{List, [], _∷_, _++_}
 use lib.Dec.{ltb}
 use Rattle.rules.specs.Steps.{Answer}
 use Rattle.rules.specs.Table.{stepTable, openTable}
-use Rattle.rules.specs.Sheet.{Refusal, callOf, Records, more, complete, stop, lentTable, Reading, unopened, opened, reading}
-use Rattle.rules.specs.Tally.{Tally, zeros, counted}
+use Rattle.rules.specs.Numbers.{Refusal}
+use Rattle.sheet_rules.specs.Sheet.{callOf, Records, more, complete, stop, lentTable, Reading, unopened, opened, reading}
+use Rattle.sheet_rules.specs.Tally.{Tally, zeros, counted}
 
 -- "in decimal": 48 is the character 0. No number of 64 bits has more than twenty digits.
 abbrev pub digits : ℕ → ℕ → List ℕ

@@ -1,77 +1,14 @@
--- The day sheet: how its numbers, records and header are read, what a sheet means, and how it is written. Document 01, "The day sheet".
+-- The day sheet: how its records and header are read, what a sheet means, and how it is written. Document 01, "The day sheet".
 use Prim.Native.Nat.{ℕ, zero, suc, _+_, _*_, _-_, _/_, _%_}
 use mathlib.Core.Path.{_≡_}
 use mathlib.Core.Bool.{Bool, true, false, cond}
 use mathlib.Core.List.{List, [], _∷_, _++_}
 use lib.ListN.{length, getD, drop, replicate}
 use lib.Dec.{leb, ltb, eqb}
 use Rattle.rules.specs.Hall.{Hall, hallOf}
 use Rattle.rules.specs.Steps.{Call, Take, Drop, Swap, Retire, Collect, firstNo, inRange}
 use Rattle.rules.specs.Table.{mostWords, openQuestions}
-
--- ---- What a reader finds. It looks at the whole sheet from a place, the offset of a byte.
-
--- What ends a reading: the code that its line prints ("an unread code prints 0") and the reply number.
-pub record Refusal : Type 0 where
-  pub code : ℕ
-  pub number : ℕ
-
-abbrev pub refusalOf : ℕ → ℕ → Refusal
-refusalOf code number = record { code = code; number = number }
-
--- A value and the place after it, or what ends the reading.
-pub data Got (A : Type 0) : Type 0 where
-  got : A → ℕ → Got A
-  refused : Refusal → Got A
-
-abbrev pub refusal : {A : Type 0} → ℕ → ℕ → Got A
-refusal code number = refused (refusalOf code number)
-
--- a value, and then what is read after it
-abbrev pub andThen : {A B : Type 0} → Got A → (A → ℕ → Got B) → Got B
-andThen (got value next) rest = rest value next
-andThen (refused reason) rest = refused reason
-
--- ---- Numbers.
-
--- "Numbers are groups of seven bits, lowest first; the top bit of a byte says another follows."
--- The groups up to the byte that says that none follows; or the sheet stops before it; or none of the bytes looked at is that byte.
-pub data Groups : Type 0 where
-  ended : List ℕ → Groups
-  stopped : Groups
-  endless : Groups
-
-abbrev pub before : ℕ → Groups → Groups
-before group (ended groups) = ended (group ∷ groups)
-before group stopped = stopped
-before group endless = endless
-
--- the groups in at most so many bytes
-abbrev pub groupsIn : ℕ → List ℕ → Groups
-groupsIn zero bytes = endless
-groupsIn (suc most) [] = stopped
-groupsIn (suc most) (byte ∷ bytes) = cond (ltb byte 128) (ended (byte ∷ [])) (before (byte % 128) (groupsIn most bytes))
-
--- "Zero groups at the high end are allowed": they add nothing.
-abbrev pub valueOf : List ℕ → ℕ
-valueOf [] = 0
-valueOf (group ∷ groups) = group + 128 * valueOf groups
-
--- "For each number: does it end within three bytes and at most 65,535? 16; did the sheet go on to its end? 15
--- (a sheet that stops before a third byte is 15)." The limit is told by the caller.
-abbrev pub withinLimit : ℕ → ℕ → ℕ → Got ℕ
-withinLimit limit value next = cond (leb value limit) (got value next) (refusal 0 16)
-
-abbrev pub numberOf : ℕ → ℕ → Groups → Got ℕ
-numberOf limit at (ended groups) = withinLimit limit (valueOf groups) (at + length groups)
-numberOf limit at stopped = refusal 0 15
-numberOf limit at endless = refusal 0 16
-
-unfoldable pub number : ℕ → List ℕ → ℕ → Got ℕ
-number limit sheet at = numberOf limit at (groupsIn 3 (drop at sheet))
-
-abbrev pub mostNumber : ℕ
-mostNumber = 65535
+use Rattle.rules.specs.Numbers.{Refusal, refusalOf, Got, got, refused, refusal, andThen, number, mostNumber}
 
 -- ---- Records.
 
