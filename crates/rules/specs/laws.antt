@@ -31,3 +31,4 @@ pub mod Bytes
 pub mod Demand1
 pub mod Checks
 pub mod ByteHistories
+pub mod Prefix

@@ -205,6 +205,18 @@ module _ (H : Hall) (st : State) (formed : Formed H st) where
       let a = in-range d (H .desks) (y1 .0) in
       (a .0, a .1, in-range p (H .positions) (y2 .0) .0, eqb-true _ 0 (y3 .0))
 
+  -- the position of a take and of a swap is one of the hall's
+  pub position-asked : (d c p : ℕ) → firstNo (questions H st (Take d c p)) ≡ 0 → p ≤ H .positions
+  position-asked d c p e =
+      let y1 = holds (inRange d (H .desks)) _ 5 e in
+      let y2 = holds (inRange c (H .screens)) _ 6 (y1 .1) in
+      in-range p (H .positions) (holds (inRange p (H .positions)) _ 7 (y2 .1) .0) .1
+
+  pub swap-position-asked : (d p v : ℕ) → firstNo (questions H st (Swap d p v)) ≡ 0 → p ≤ H .positions
+  swap-position-asked d p v e =
+      let y1 = holds (inRange d (H .desks)) _ 5 e in
+      in-range p (H .positions) (holds (inRange p (H .positions)) _ 7 (y1 .1) .0) .1
+
   pub retire-facts : (d : ℕ) → firstNo (questions H st (Retire d)) ≡ 0 → (1 ≤ d) × (d ≤ H .desks) × (deskOf st d .owed ≡ 0 → ⊥)
   retire-facts d e =
       let y1 = holds (inRange d (H .desks)) _ 5 e in
@@ -302,7 +314,8 @@ module _ (H : Hall) (st : State) (formed : Formed H st) where
         by-cases (suc m) (Collect d) e q = rw q (ag x hx)
 
     -- an accepted take finds its screen unlinked
-    pub take-finds-unlinked : (c : Call) → f n ≡ deed c (step H st c .answer .number) (step H st c .answer .session) → (d s p v : ℕ) → f n ≡ takes d s p v
+    pub take-finds-unlinked : (c : Call) → f n ≡ deed c (step H st c .answer .number) (step H st c .answer .session) → (d s p v : ℕ)
+        → f n ≡ takes d s p v
         → link H f (screenIndex H d s) n ≡ unlinked
     take-finds-unlinked c q d s p v t = by-cases (firstNo (questions H st c)) c refl (sym q ∙ t)
       where

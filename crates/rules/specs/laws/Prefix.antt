@@ -1,0 +1,255 @@
+-- "Words past the need are neither read nor written": a call on a table of at least the largest need, and anything behind it.
+use Prim.Native.Nat.{ℕ, _+_, _-_, _≤_, zero, suc, _*_, _<_}
+use native.Mathlib.Omega.{arith}
+use native.Mathlib.Nat.{mul-le-mul-right, mul-le-mul}
+use mathlib.Core.Path.{_≡_, refl, sym, ap, _∙_}
+use mathlib.Core.Bool.{cond, Bool, true, false, _&&_}
+use mathlib.Core.List.{List, [], _∷_, _++_, map, append-assoc}
+use lib.ListN.{length, take, getD, drop, set, length-append, replicate, length-drop, length-set, List·getD-append}
+use lib.Seq.{set-append-left, take-append-le}
+use lib.Dec.{leb}
+use borrow.Author.Tests.{le-leb}
+use Rattle.rules.specs.Hall.{Hall, State, allScreens, mostDesks, mostPositions, mostScreens}
+use Rattle.rules.specs.Steps.{Call, Collect, Drop, Retire, Swap, Take, collect, firstNo, inRange, perform, questions, retire}
+use Rattle.rules.specs.Table.{TableDone, decode, decodeDesk, encodeDesk, everyRecord, hallIn, mostWords, need, openQuestions, openTable}
+use Rattle.rules.specs.Table.{openedTable, pieces, positionWord, putRecord, recordOf, recordSound, recordStart, recordWidth, recordsIn}
+use Rattle.rules.specs.Table.{screenWord, sound, stepTable, written}
+use Rattle.rules.specs.laws.Effect.{Formed, in-range}
+use Rattle.rules.specs.laws.Links.{desk-fact, drop-facts, position-asked, swap-facts, swap-position-asked, take-facts}
+use Rattle.rules.specs.laws.ScreenIndex.{screen-in}
+use Rattle.rules.specs.laws.SoundTables.{known-opens, valid}
+use Rattle.rules.specs.laws.TableSteps.{accepted-open, accepted-step, asked, known, refused-open, refused-step, unsound-step}
+use Rattle.rules.specs.laws.Tables.{Opens, hall-opens}
+
+pub need-at-most : (H : Hall) → Opens H → need H ≤ mostWords
+need-at-most H o =
+    let S≤ : allScreens H ≤ 64 = mul-le-mul (o .desks .1) (o .screens .1) in
+    let wide : recordWidth H ≤ 141 = omega arith in
+    let all : H .desks * recordWidth H ≤ 16 * 141 = mul-le-mul (o .desks .1) wide in
+    omega (arith, o .positions)
+
+drop-append-left : (n : ℕ) (x b : List ℕ) → n ≤ length x → drop n (x ++ b) ≡ drop n x ++ b
+drop-append-left zero x b h = refl
+drop-append-left (suc n) [] b h = absurd (omega arith)
+drop-append-left (suc n) (y ∷ x) b h = drop-append-left n x b (omega arith)
+
+pieces-append : (n w : ℕ) (x b : List ℕ) → n * w ≤ length x → pieces n w (x ++ b) ≡ pieces n w x
+pieces-append zero w x b h = refl
+pieces-append (suc n) w x b h =
+    λ i. take-append-le w x b (omega arith) i
+    ∷ (ap (pieces n w) (drop-append-left w x b (omega arith)) ∙ pieces-append n w (drop w x) b (omega (arith, length-drop w x))) i
+
+-- what an accepted step writes, with the hall beside the table
+abbrev writtenIn : Hall → List ℕ → Call → List ℕ
+writtenIn H t (Take d c p) = set t (screenWord H d c) (getD t (positionWord p) 0)
+writtenIn H t (Drop d c) = set t (screenWord H d c) 0
+writtenIn H t (Swap d p v) = set (set t (positionWord p) v) (recordStart H d) (getD t (positionWord p) 0)
+writtenIn H t (Retire d) = putRecord H t d (encodeDesk (allScreens H) (retire (decodeDesk (recordOf H t d))))
+writtenIn H t (Collect d) =
+    putRecord H t d (encodeDesk (allScreens H) (collect (allScreens H) (decode H t .shown) (decodeDesk (recordOf H t d)) .after))
+
+written-is-in : (t : List ℕ) (c : Call) → written t c ≡ writtenIn (hallIn t) t c
+written-is-in t (Take d c p) = refl
+written-is-in t (Drop d c) = refl
+written-is-in t (Swap d p v) = refl
+written-is-in t (Retire d) = refl
+written-is-in t (Collect d) = refl
+
+module _ (a b : List ℕ) (long : mostWords ≤ length a) where
+  hall-same : hallIn (a ++ b) ≡ hallIn a
+  hall-same = λ i. record {
+    desks = List·getD-append a b 0 0 (omega arith) i;
+    screens = List·getD-append a b 0 1 (omega arith) i;
+    positions = List·getD-append a b 0 2 (omega arith) i;
+  }
+
+  module _ (H : Hall) (o : Opens H) where
+    far : need H ≤ length a
+    far = omega (arith, need-at-most H o)
+
+    past-header : drop (H .positions) (drop 3 (a ++ b)) ≡ drop (H .positions) (drop 3 a) ++ b
+    past-header =
+        ap (drop (H .positions)) (drop-append-left 3 a b (omega (arith, far)))
+        ∙ drop-append-left (H .positions) (drop 3 a) b (omega (arith, far, length-drop 3 a))
+
+    records-same : recordsIn H (a ++ b) ≡ recordsIn H a
+    records-same =
+        let l1 = length-drop 3 a in
+        let l2 = length-drop (H .positions) (drop 3 a) in
+        ap (λ (x : List ℕ). pieces (H .desks) (recordWidth H) (drop (allScreens H) x)) past-header
+        ∙ ap (pieces (H .desks) (recordWidth H)) (drop-append-left (allScreens H) (drop (H .positions) (drop 3 a)) b (omega (arith, far)))
+        ∙ pieces-append (H .desks) (recordWidth H) (drop (allScreens H) (drop (H .positions) (drop 3 a))) b
+        (omega (arith, far, length-drop (allScreens H) (drop (H .positions) (drop 3 a))))
+
+    decode-same : decode H (a ++ b) ≡ decode H a
+    decode-same =
+        let l1 = length-drop 3 a in
+        let l2 = length-drop (H .positions) (drop 3 a) in
+        λ i. record {
+          held =
+              (ap (take (H .positions)) (drop-append-left 3 a b (omega (arith, far))) ∙ take-append-le (H .positions) (drop 3 a) b (omega (arith, far))) i;
+          shown = (ap (take (allScreens H)) past-header ∙ take-append-le (allScreens H) (drop (H .positions) (drop 3 a)) b (omega (arith, far))) i;
+          desks = map decodeDesk (records-same i);
+        }
+
+    -- the record of a desk of the hall
+    module _ (d : ℕ) (r : (1 ≤ d) × (d ≤ H .desks)) where
+      fits : recordStart H d + recordWidth H ≤ length a
+      fits =
+          let m : suc (d - 1) * recordWidth H ≤ H .desks * recordWidth H = mul-le-mul-right (recordWidth H) (omega arith) in
+          omega (arith, far)
+
+      record-same : recordOf H (a ++ b) d ≡ recordOf H a d
+      record-same =
+          ap (take (recordWidth H)) (drop-append-left (recordStart H d) a b (omega (arith, fits)))
+          ∙ take-append-le (recordWidth H) (drop (recordStart H d) a) b (omega (arith, fits, length-drop (recordStart H d) a))
+
+      put-same-rest : (words : List ℕ) → putRecord H (a ++ b) d words ≡ putRecord H a d words ++ b
+      put-same-rest words =
+          let s : ℕ = recordStart H d in
+          let w : ℕ = recordWidth H in
+          (λ i. take-append-le s a b (omega (arith, fits)) i
+          ++
+          (words ++ (ap (drop w) (drop-append-left s a b (omega (arith, fits))) ∙ drop-append-left w (drop s a) b (omega (arith, fits, length-drop s a))) i))
+          ∙ sym
+          (append-assoc (take s a) (words ++ drop w (drop s a)) b ∙ ap (λ (l : List ℕ). take s a ++ l) (append-assoc words (drop w (drop s a)) b))
+
+    word-same : (i : ℕ) → i < need H → getD (a ++ b) i 0 ≡ getD a i 0
+    word-same i h = List·getD-append a b 0 i (omega (arith, far))
+
+    set-same : (t : List ℕ) (i v : ℕ) → length t ≡ length a → i < need H → set (t ++ b) i v ≡ set t i v ++ b
+    set-same t i v l h = set-append-left t b i v (omega (arith, far))
+
+    written-before : (st : State) → Formed H st → (c : Call) → firstNo (questions H st c) ≡ 0 → writtenIn H (a ++ b) c ≡ writtenIn H a c ++ b
+    written-before st formed (Take d c p) e =
+        let f = take-facts H st formed d c p e in
+        let at-most = position-asked H st formed d c p e in
+        let screen = screen-in H d c (f .0) (f .1) (f .2) (f .3) in
+        ap (set (a ++ b) (screenWord H d c)) (word-same (positionWord p) (omega (arith, f .4)))
+        ∙ set-same a (screenWord H d c) (getD a (positionWord p) 0) refl (omega arith)
+    written-before st formed (Drop d c) e =
+        let f = drop-facts H st formed d c e in
+        let screen = screen-in H d c (f .0) (f .1) (f .2) (f .3) in
+        set-same a (screenWord H d c) 0 refl (omega arith)
+    written-before st formed (Swap d p v) e =
+        let f = swap-facts H st formed d p v e in
+        let at-most = swap-position-asked H st formed d p v e in
+        let room = fits d (f .0, f .1) in
+        let m : suc (d - 1) * recordWidth H ≤ H .desks * recordWidth H = mul-le-mul-right (recordWidth H) (omega arith) in
+        (λ i. set (set-same a (positionWord p) v refl (omega (arith, f .2)) i) (recordStart H d) (word-same (positionWord p) (omega (arith, f .2)) i))
+        ∙ set-same (set a (positionWord p) v) (recordStart H d) (getD a (positionWord p) 0) (length-set a (positionWord p) v) (omega arith)
+    written-before st formed (Retire d) e =
+        let r = desk-fact H st formed d _ e in
+        ap (λ (words : List ℕ). putRecord H (a ++ b) d (encodeDesk (allScreens H) (retire (decodeDesk words)))) (record-same d r)
+        ∙ put-same-rest d r (encodeDesk (allScreens H) (retire (decodeDesk (recordOf H a d))))
+    written-before st formed (Collect d) e =
+        let r = desk-fact H st formed d _ e in
+        (λ i. putRecord H (a ++ b) d (encodeDesk (allScreens H) (collect (allScreens H) (decode-same i .shown) (decodeDesk (record-same d r i)) .after)))
+        ∙ put-same-rest d r (encodeDesk (allScreens H) (collect (allScreens H) (decode H a .shown) (decodeDesk (recordOf H a d)) .after))
+
+  -- ---- Soundness does not look past the largest need.
+  sound-same : sound (a ++ b) ≡ sound a
+  unfolding sound
+  sound-same =
+      ap (λ (H : Hall). asks H (a ++ b)) hall-same
+      ∙ by-ranges (inRange (hallIn a .desks) mostDesks) (inRange (hallIn a .screens) mostScreens)
+      (inRange (hallIn a .positions) mostPositions) refl refl refl
+    where
+      rest : Hall → List ℕ → Bool
+      rest H t = leb (need H) (length t) && everyRecord (recordSound (allScreens H)) (recordsIn H t)
+
+      asks : Hall → List ℕ → Bool
+      asks H t = inRange (H .desks) mostDesks && (inRange (H .screens) mostScreens && (inRange (H .positions) mostPositions && rest H t))
+
+      by-ranges : (x y z : Bool) → inRange (hallIn a .desks) mostDesks ≡ x → inRange (hallIn a .screens) mostScreens ≡ y
+          → inRange (hallIn a .positions) mostPositions ≡ z
+          → x && (y && (z && rest (hallIn a) (a ++ b))) ≡ x && (y && (z && rest (hallIn a) a))
+      by-ranges true true true p q r =
+          let o : Opens (hallIn a) =
+          record {
+            desks = in-range (hallIn a .desks) mostDesks p;
+            screens = in-range (hallIn a .screens) mostScreens q;
+            positions = in-range (hallIn a .positions) mostPositions r;
+          } in
+          let both : leb (need (hallIn a)) (length (a ++ b)) ≡ leb (need (hallIn a)) (length a) =
+          le-leb (need (hallIn a)) (length (a ++ b)) (omega (arith, far (hallIn a) o, length-append a b))
+          ∙ sym (le-leb (need (hallIn a)) (length a) (far (hallIn a) o)) in
+          λ i. both i && everyRecord (recordSound (allScreens (hallIn a))) (records-same (hallIn a) o i)
+      by-ranges true true false p q r = refl
+      by-ranges true false z p q r = refl
+      by-ranges false y z p q r = refl
+
+  -- ---- A step.
+  pub step-append : (c : Call) → stepTable (a ++ b) c ≡ record { answer = stepTable a c .answer; after = stepTable a c .after ++ b }
+  step-append c = by-sound (sound a) refl
+    where
+      done : TableDone → TableDone
+      done r = record { answer = r .answer; after = r .after ++ b }
+
+      by-sound : (x : Bool) → sound a ≡ x → stepTable (a ++ b) c ≡ done (stepTable a c)
+      by-sound false s = unsound-step (a ++ b) c (sound-same ∙ s) ∙ sym (ap done (unsound-step a c s))
+      by-sound true s = by-number (asked a c) refl
+        where
+          o : Opens (hallIn a)
+          o = known-opens a (known a s)
+
+          -- the questions and the reply are those at the same state
+          outcome-same : perform (hallIn (a ++ b)) (decode (hallIn (a ++ b)) (a ++ b)) c .session ≡ perform (hallIn a) (decode (hallIn a) a) c .session
+          outcome-same =
+              ap (λ (H : Hall). perform H (decode H (a ++ b)) c .session) hall-same
+              ∙ ap (λ (st : State). perform (hallIn a) st c .session) (decode-same (hallIn a) o)
+
+          asked-same : asked (a ++ b) c ≡ asked a c
+          asked-same =
+              ap (λ (H : Hall). firstNo (questions H (decode H (a ++ b)) c)) hall-same
+              ∙ ap (λ (st : State). firstNo (questions (hallIn a) st c)) (decode-same (hallIn a) o)
+
+          by-number : (n : ℕ) → asked a c ≡ n → stepTable (a ++ b) c ≡ done (stepTable a c)
+          by-number zero q =
+              accepted-step (a ++ b) c (sound-same ∙ s) (asked-same ∙ q)
+              ∙ (λ i. record {
+                answer = record { number = 0; session = outcome-same i };
+                after =
+                    (written-is-in (a ++ b) c ∙ ap (λ (H : Hall). writtenIn H (a ++ b) c) hall-same ∙ written-before (hallIn a) o (decode (hallIn a) a) (valid a (known a s) .formed) c q ∙ ap (λ (l : List ℕ). l ++ b) (sym (written-is-in a c))) i;
+              })
+              ∙ sym (ap done (accepted-step a c s q))
+          by-number (suc n) q = refused-step (a ++ b) c n (sound-same ∙ s) (asked-same ∙ q) ∙ sym (ap done (refused-step a c n s q))
+
+  -- ---- The opening.
+  pub open-append : (H : Hall) → openTable H (a ++ b) ≡ record { answer = openTable H a .answer; after = openTable H a .after ++ b }
+  open-append H = by-number (firstNo (openQuestions H a)) refl
+    where
+      done : TableDone → TableDone
+      done r = record { answer = r .answer; after = r .after ++ b }
+
+      same : firstNo (openQuestions H (a ++ b)) ≡ firstNo (openQuestions H a)
+      same = by-ranges (inRange (H .desks) mostDesks) (inRange (H .screens) mostScreens) (inRange (H .positions) mostPositions) refl refl refl
+        where
+          by-ranges : (x y z : Bool) → inRange (H .desks) mostDesks ≡ x → inRange (H .screens) mostScreens ≡ y
+              → inRange (H .positions) mostPositions ≡ z
+              → cond {A = ℕ} x (cond {A = ℕ} y (cond {A = ℕ} z (cond {A = ℕ} (leb (need H) (length (a ++ b))) 0 4) 3) 2) 1 ≡ cond x (cond y (cond z (cond (leb (need H) (length a)) 0 4) 3) 2) 1
+          by-ranges true true true p q r =
+              let o : Opens H =
+              record {
+                desks = in-range (H .desks) mostDesks p;
+                screens = in-range (H .screens) mostScreens q;
+                positions = in-range (H .positions) mostPositions r;
+              } in
+              let both : leb (need H) (length (a ++ b)) ≡ leb (need H) (length a) =
+              le-leb (need H) (length (a ++ b)) (omega (arith, far H o, length-append a b)) ∙ sym (le-leb (need H) (length a) (far H o)) in
+              ap (λ (y : Bool). cond {A = ℕ} y 0 4) both
+          by-ranges true true false p q r = refl
+          by-ranges true false z p q r = refl
+          by-ranges false y z p q r = refl
+
+      opened-append : need H ≤ length a → openedTable H (a ++ b) ≡ openedTable H a ++ b
+      opened-append h =
+          let front : List ℕ = H .desks ∷ H .screens ∷ H .positions ∷ replicate (need H - 3) 0 in
+          ap (λ (l : List ℕ). front ++ l) (drop-append-left (need H) a b h) ∙ sym (append-assoc front (drop (need H) a) b)
+
+      by-number : (n : ℕ) → firstNo (openQuestions H a) ≡ n → openTable H (a ++ b) ≡ done (openTable H a)
+      by-number zero q =
+          accepted-open H (a ++ b) (same ∙ q)
+          ∙ (λ i. record { answer = record { number = 0; session = 0 }; after = opened-append (hall-opens H a q .1) i })
+          ∙ sym (ap done (accepted-open H a q))
+      by-number (suc n) q = refused-open H (a ++ b) n (same ∙ q) ∙ sym (ap done (refused-open H a n q))
