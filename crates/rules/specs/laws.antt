@@ -32,3 +32,4 @@ pub mod Demand1
 pub mod Checks
 pub mod ByteHistories
 pub mod Prefix
+pub mod Front
