@@ -26,8 +26,8 @@ abbrev pub reply : Answer → ℕ
 reply answer = answer .number * 65536 + answer .session
 
 -- the answer that such a number tells
-abbrev pub answerOf : ℕ → Answer
-answerOf number = record { number = number / 65536; session = number % 65536 }
+abbrev pub answerIn : ℕ → Answer
+answerIn number = record { number = number / 65536; session = number % 65536 }
 
 pub record BytesDone : Type 0 where
   pub reply : ℕ
@@ -45,7 +45,7 @@ stepBytes bytes call = onBytes (stepTable (wordsOfBytes bytes) call) bytes
 -- a list of calls, each with the answer that the host hears
 abbrev pub runBytes : List ℕ → List Call → List Event
 runBytes bytes [] = []
-runBytes bytes (call ∷ calls) = let r = stepBytes bytes call in record { call = call; answer = answerOf (r .reply) } ∷ runBytes (r .after) calls
+runBytes bytes (call ∷ calls) = let r = stepBytes bytes call in record { call = call; answer = answerIn (r .reply) } ∷ runBytes (r .after) calls
 
 abbrev pub endBytes : List ℕ → List Call → List ℕ
 endBytes bytes [] = bytes
@@ -75,7 +75,7 @@ Calls16 (call ∷ calls) = Call16 call × Calls16 calls
 -- ---- What was done to the bytes is what was told of the words in them.
 pub record Agrees (bytes : List ℕ) (done : BytesDone) (told : TableDone) : Type 0 where
   -- "Each call answers one 32-bit number: the reply number times 65,536, plus the session."
-  pub heard : answerOf (done .reply) ≡ told .answer
+  pub heard : answerIn (done .reply) ≡ told .answer
   pub words : wordsOfBytes (done .after) ≡ told .after
   pub areBytes : IsBytes (done .after)
   pub sameLength : length (done .after) ≡ length bytes

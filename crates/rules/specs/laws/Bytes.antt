@@ -6,7 +6,7 @@ use mathlib.Core.Bool.{false}
 use mathlib.Core.List.{List, [], _∷_, _++_}
 use lib.ListN.{length, getD, drop, length-append, length-drop}
 use lib.Seq.{drop-at, getD-drop}
-use Rattle.rules.specs.Bytes.{Agrees, Call16, Calls16, IsBytes, Words16, answerOf, bytesOfWords, endBytes, laidOver, onBytes, openBytes, reply}
+use Rattle.rules.specs.Bytes.{Agrees, Call16, Calls16, IsBytes, Words16, answerIn, bytesOfWords, endBytes, laidOver, onBytes, openBytes, reply}
 use Rattle.rules.specs.Bytes.{runBytes, stepBytes, wordsOfBytes}
 use Rattle.rules.specs.Demands.{BytesDemand1, names}
 use Rattle.rules.specs.Hall.{Hall}
@@ -92,7 +92,7 @@ laid-words words bytes h e =
     ∙ append-nothing words
 
 -- ---- The answer in one number.
-pub heard-back : (answer : Answer) → answer .session < 65536 → answerOf (reply answer) ≡ answer
+pub heard-back : (answer : Answer) → answer .session < 65536 → answerIn (reply answer) ≡ answer
 heard-back answer h =
     let n : (answer .number * 65536 + answer .session) / 65536 ≡ answer .number = omega arith in
     let s : (answer .number * 65536 + answer .session) % 65536 ≡ answer .session = omega arith in

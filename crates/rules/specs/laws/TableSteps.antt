@@ -2,15 +2,15 @@
 use Prim.Native.Nat.{ℕ, zero, suc, _+_, _*_, _-_, _≤_, _<_}
 use native.Mathlib.Omega.{arith}
 use native.Mathlib.Nat.{mul-le-mul}
-use mathlib.Core.Path.{_≡_, sym, ap, _∙_}
+use mathlib.Core.Path.{_≡_, sym, ap, _∙_, refl}
 use mathlib.Core.Bool.{Bool, true, false, cond, _&&_}
-use mathlib.Core.List.{List, map}
+use mathlib.Core.List.{List, map, [], _∷_}
 use lib.ListN.{length, getD, take, drop}
 use lib.Seq.{getD-take, getD-drop, drop-drop}
-use lib.Dec.{leb, eqb, eqb·suc-zero}
+use lib.Dec.{leb, eqb, eqb·suc-zero, T}
 use borrow.Author.Tests.{leb-true}
-use Rattle.rules.specs.Hall.{Desk, Hall, allScreens, deskOf, emptyDesk, screenIndex}
-use Rattle.rules.specs.Steps.{Call, decide, firstNo, inRange, perform, questions}
+use Rattle.rules.specs.Hall.{Desk, Hall, TestedPlace, allScreens, deskOf, emptyDesk, screenIndex}
+use Rattle.rules.specs.Steps.{Call, beginAt, collect, collectSeeing, decide, firstNo, inRange, perform, questions}
 use Rattle.rules.specs.Table.{TableDone, decode, decodeDesk, everyRecord, hallIn, need, openIf, openQuestions, openTable, openedTable, pieces}
 use Rattle.rules.specs.Table.{positionWord, recordOf, recordSound, recordStart, recordWidth, recordsIn, screenWord, sound, stepIf, stepTable}
 use Rattle.rules.specs.Table.{written}
@@ -153,6 +153,14 @@ owed-word t d h g =
     let e : a + 0 ≡ a = omega arith in
     ap (λ (D : Desk). D .owed) (desk-word t d h g) ∙ getD-take (recordWidth (hallIn t)) (drop a t) 0 0 (omega arith) ∙ getD-drop a t 0 0
     ∙ ap (λ (k : ℕ). getD t k 0) e
+
+-- ---- a collect reads the screens from the desk's own k on
+pub collect-seeing : (S : ℕ) (shown : List ℕ) (D : Desk) → collectSeeing S (take 2 (drop (D .scanned) shown)) D ≡ collect S shown D
+collect-seeing S shown D = ap (λ (n : ℕ). collectSeeing S (take 2 (drop n shown)) D) (same-scanned (D .tested))
+  where
+    same-scanned : (T : List TestedPlace) → D .scanned ≡ beginAt T D .scanned
+    same-scanned [] = refl
+    same-scanned (p ∷ T) = refl
 
 -- ---- the opening
 pub refused-open : (H : Hall) (t : List ℕ) (n : ℕ) → firstNo (openQuestions H t) ≡ suc n
