@@ -1,0 +1,141 @@
+/*
+ * A small host: one hall of 2 desks with 1 screen each, and 2 crane positions.
+ *
+ *     gcc -Iinclude examples/host.c build/libhost.a -o build/host_example
+ *
+ * It shows what the board is for. A session that is replaced at its crane is
+ * not closed at once: an operator may still be steering by it. The board hands
+ * it back for closing only once no screen that could hold on to it shows it.
+ */
+#include "session_board.h"
+
+#include <stdio.h>
+#include <stdlib.h>
+
+enum { DESKS = 2, SCREENS = 1, POSITIONS = 2 };
+
+/* The host lends the board its memory. The board keeps none of its own, so
+ * this table is the whole state of the hall. The largest hall's size always
+ * fits; a host that is short of memory lends 2 * board_need(...) bytes. */
+static uint8_t table[BOARD_MOST_BYTES];
+
+/* Each refusal has a number; an operator would rather read this. */
+static const char *reason(uint16_t number)
+{
+    switch (number) {
+    case BOARD_BAD_DESKS: return "a hall has 1 to 16 desks";
+    case BOARD_BAD_SCREENS: return "a desk has 1 to 4 screens";
+    case BOARD_BAD_POSITIONS: return "a hall has 1 to 64 positions";
+    case BOARD_TABLE_SHORT: return "the table is too short for this hall";
+    case BOARD_UNSOUND: return "the table is damaged, or no hall was opened in it";
+    case BOARD_NO_DESK: return "there is no such desk";
+    case BOARD_NO_SCREEN: return "the desk has no such screen";
+    case BOARD_NO_POSITION: return "there is no such position";
+    case BOARD_SCREEN_FULL: return "the screen shows a session already";
+    case BOARD_POSITION_EMPTY: return "the position holds no session";
+    case BOARD_SCREEN_EMPTY: return "the screen shows nothing";
+    case BOARD_OWING: return "the desk must first retire the session it owes";
+    case BOARD_OWES_NOTHING: return "the desk owes no session";
+    case BOARD_NO_ROOM: return "the desk's list is full; it must collect first";
+    default: return "not a number of this board";
+    }
+}
+
+/* A refusal changes nothing, so a host may say why and carry on. Look at the
+ * number alone: session 0 can also be the answer to an accepted call. */
+static int accepted(uint32_t answer)
+{
+    uint16_t number = board_number(answer);
+    if (number == BOARD_ACCEPTED)
+        return 1;
+    printf("refused (%u): %s\n", (unsigned)number, reason(number));
+    return 0;
+}
+
+static void take(uint16_t desk, uint16_t screen, uint16_t position)
+{
+    printf("desk %u takes position %u: ", (unsigned)desk, (unsigned)position);
+    uint32_t answer = board_take(desk, screen, position, table, sizeof table);
+    if (accepted(answer))
+        printf("its screen shows session %u\n", (unsigned)board_session(answer));
+}
+
+static void drop(uint16_t desk, uint16_t screen)
+{
+    printf("desk %u drops its screen: ", (unsigned)desk);
+    uint32_t answer = board_drop(desk, screen, table, sizeof table);
+    if (accepted(answer))
+        printf("session %u is shown there no more\n", (unsigned)board_session(answer));
+}
+
+/* A swap and its retire belong together: the desk owes the session that it
+ * replaced, and can swap no further before it has retired it. */
+static void replace(uint16_t desk, uint16_t position, uint16_t session)
+{
+    printf("desk %u puts session %u at position %u: ", (unsigned)desk, (unsigned)session,
+           (unsigned)position);
+    uint32_t answer = board_swap(desk, position, session, table, sizeof table);
+    if (!accepted(answer))
+        return;
+    if (board_session(answer) == 0) {
+        printf("it was empty\n");
+        return;
+    }
+    printf("session %u is replaced, ", (unsigned)board_session(answer));
+    answer = board_retire(desk, table, sizeof table);
+    if (accepted(answer))
+        printf("and retired\n");
+}
+
+/* A desk that collects at least once between two retires never runs out of
+ * room. Each collect looks at two more screens and hands back at most one
+ * session; only a session that is handed back may be closed. */
+static uint16_t collect(uint16_t desk)
+{
+    printf("desk %u collects: ", (unsigned)desk);
+    uint32_t answer = board_collect(desk, table, sizeof table);
+    if (!accepted(answer))
+        return 0;
+    uint16_t session = board_session(answer);
+    if (session == 0)
+        printf("nothing may be closed yet\n");
+    else
+        printf("session %u may be closed\n", (unsigned)session);
+    return session;
+}
+
+int main(void)
+{
+    printf("A hall of %d desks with %d screen each and %d positions.\n", DESKS, SCREENS, POSITIONS);
+    if (!accepted(board_open(DESKS, SCREENS, POSITIONS, table, sizeof table)))
+        return EXIT_FAILURE;
+
+    printf("\nThe cranes get their sessions, and an operator starts to steer.\n");
+    replace(1, 1, 300);
+    replace(1, 2, 400);
+    take(2, 1, 1);
+
+    printf("\nSession 300 is replaced while desk 2 still shows it.\n");
+    replace(1, 1, 301);
+    if (collect(1) != 0) /* it is shown, so it must not come back */
+        return EXIT_FAILURE;
+
+    printf("\nSession 400 is replaced too; nobody shows that one.\n");
+    replace(1, 2, 401);
+    if (collect(1) != 400)
+        return EXIT_FAILURE;
+
+    printf("\nDesk 2 lets go of session 300, and only now it may be closed.\n");
+    drop(2, 1);
+    if (collect(1) != 300)
+        return EXIT_FAILURE;
+
+    printf("\nSome steps that do not fit.\n");
+    take(2, 1, 3);
+    drop(2, 1);
+    take(3, 1, 1);
+
+    printf("\nThe day goes on with the new sessions.\n");
+    take(2, 1, 1);
+    return EXIT_SUCCESS;
+}

@@ -1,0 +1,53 @@
+//! Links libhost.a from the directory that SESSION_BOARD_LIB names.
+//!
+//! The archive may bring along a runtime of its own (a panic handler, say)
+//! under names that this program's runtime uses too. So its six calls and all
+//! they need are first made one object in which only the six names are open:
+//! nothing of the archive can then be taken for anything of the program.
+
+use std::path::{Path, PathBuf};
+use std::process::Command;
+use std::{env, fs};
+
+const CALLS: [&str; 6] =
+    ["board_open", "board_take", "board_drop", "board_swap", "board_retire", "board_collect"];
+
+fn main() {
+    println!("cargo:rerun-if-env-changed=SESSION_BOARD_LIB");
+    let archive = archive();
+    println!("cargo:rerun-if-changed={}", archive.display());
+    let out = PathBuf::from(env::var_os("OUT_DIR").expect("cargo sets OUT_DIR"));
+    close(&archive, &out);
+    println!("cargo:rustc-link-search=native={}", out.display());
+    println!("cargo:rustc-link-lib=static=board");
+}
+
+fn archive() -> PathBuf {
+    let named = env::var("SESSION_BOARD_LIB")
+        .expect("SESSION_BOARD_LIB must name the directory that holds libhost.a");
+    fs::canonicalize(Path::new(&named).join("libhost.a"))
+        .unwrap_or_else(|error| panic!("{named}/libhost.a: {error}"))
+}
+
+/// Makes libboard.a, the archive with only the six names left open.
+fn close(archive: &Path, out: &Path) {
+    let (object, library) = (out.join("board.o"), out.join("libboard.a"));
+    let wanted = CALLS.map(|call| format!("--undefined={call}"));
+    run(Command::new("ld")
+        .args(["-r", "--force-group-allocation"])
+        .args(wanted)
+        .arg(archive)
+        .arg("-o")
+        .arg(&object));
+    let open = CALLS.map(|call| format!("--keep-global-symbol={call}"));
+    // Embedded bitcode of another compiler version would only confuse ar.
+    let bitcode = ["--remove-section=.llvmbc", "--remove-section=.llvmcmd"];
+    run(Command::new("objcopy").args(open).args(bitcode).arg(&object));
+    let _ = fs::remove_file(&library);
+    run(Command::new("ar").arg("crs").arg(&library).arg(&object));
+}
+
+fn run(command: &mut Command) {
+    let status = command.status().unwrap_or_else(|error| panic!("{command:?}: {error}"));
+    assert!(status.success(), "{command:?}: {status}");
+}

@@ -1,0 +1,132 @@
+//! A case: a table and the calls sent to it, one after the other.
+
+use crate::call::Call;
+use std::fmt;
+use std::str::FromStr;
+
+/// Guard bytes on each side of a table.
+const GUARD: usize = 64;
+
+#[derive(Clone, Debug, PartialEq, Eq)]
+pub struct Case {
+    /// The table stands at an address that leaves this remainder by 8.
+    pub align: usize,
+    pub table: Vec<u8>,
+    pub calls: Vec<Call>,
+}
+
+/// Where the two boards parted.
+#[derive(Debug)]
+pub struct Difference {
+    /// Calls before the one that differs.
+    pub call: usize,
+    pub reference: u32,
+    pub archive: u32,
+    /// The first byte that differs, counted from the table's start (negative
+    /// before it), with the reference's and the archive's.
+    pub byte: Option<(isize, u8, u8)>,
+}
+
+impl Case {
+    /// Sends every call to both boards until they differ in the answer or in
+    /// any byte of the table or its guards. `seen` gets each answer compared.
+    pub fn run(&self, mut seen: impl FnMut(Call, u32)) -> Option<Difference> {
+        let mut of_reference = Guarded::new(&self.table, self.align);
+        let mut of_archive = Guarded::new(&self.table, self.align);
+        for (index, call) in self.calls.iter().enumerate() {
+            let reference = call.to_reference(of_reference.table());
+            let archive = call.to_archive(of_archive.table());
+            seen(*call, reference);
+            if reference != archive || of_reference.bytes() != of_archive.bytes() {
+                let byte = of_reference.first_difference(&of_archive);
+                return Some(Difference { call: index, reference, archive, byte });
+            }
+        }
+        None
+    }
+
+    pub fn differs(&self) -> bool {
+        self.run(|_, _| ()).is_some()
+    }
+}
+
+/// A table between guard bytes.
+struct Guarded {
+    memory: Vec<u8>,
+    start: usize,
+    length: usize,
+}
+
+impl Guarded {
+    fn new(table: &[u8], align: usize) -> Guarded {
+        let length = table.len();
+        let mut memory = vec![0; length + 2 * GUARD + 8];
+        let start = GUARD + align.wrapping_sub(memory.as_ptr() as usize) % 8;
+        // No two neighbours alike, and none 0: a stray write hardly fits in.
+        for at in 0..GUARD {
+            memory[start - GUARD + at] = at as u8 + 1;
+            memory[start + length + at] = 255 - at as u8;
+        }
+        memory[start..start + length].copy_from_slice(table);
+        Guarded { memory, start, length }
+    }
+
+    fn table(&mut self) -> &mut [u8] {
+        &mut self.memory[self.start..self.start + self.length]
+    }
+
+    /// The table with its guards.
+    fn bytes(&self) -> &[u8] {
+        &self.memory[self.start - GUARD..self.start + self.length + GUARD]
+    }
+
+    fn first_difference(&self, other: &Guarded) -> Option<(isize, u8, u8)> {
+        let mut pairs = self.bytes().iter().zip(other.bytes());
+        let at = pairs.position(|(mine, others)| mine != others)?;
+        Some((at as isize - GUARD as isize, self.bytes()[at], other.bytes()[at]))
+    }
+}
+
+/// `0 | 01 00 01 00 01 00 00*34 | swap 1 1 5; collect 1`: the alignment, the
+/// table in hex with runs counted, the calls.
+impl fmt::Display for Case {
+    fn fmt(&self, out: &mut fmt::Formatter) -> fmt::Result {
+        let calls: Vec<String> = self.calls.iter().map(Call::to_string).collect();
+        write!(out, "{} |{} | {}", self.align, hex(&self.table), calls.join("; "))
+    }
+}
+
+pub fn hex(bytes: &[u8]) -> String {
+    let runs = bytes.chunk_by(|a, b| a == b);
+    runs.map(|run| match run.len() {
+        1 => format!(" {:02X}", run[0]),
+        2 => format!(" {0:02X} {0:02X}", run[0]),
+        length => format!(" {:02X}*{length}", run[0]),
+    })
+    .collect()
+}
+
+fn bytes(hex: &str) -> Result<Vec<u8>, String> {
+    let mut bytes = Vec::new();
+    for part in hex.split_whitespace() {
+        let (byte, times) = part.split_once('*').unwrap_or((part, "1"));
+        let byte = u8::from_str_radix(byte, 16).map_err(|error| format!("{part}: {error}"))?;
+        let times: usize = times.parse().map_err(|error| format!("{part}: {error}"))?;
+        bytes.extend(vec![byte; times]);
+    }
+    Ok(bytes)
+}
+
+impl FromStr for Case {
+    type Err = String;
+
+    fn from_str(text: &str) -> Result<Case, String> {
+        let parts: Vec<&str> = text.split('|').collect();
+        let [align, table, calls] = parts[..] else {
+            return Err("a case is: alignment | table | calls".into());
+        };
+        let align = align.trim().parse().map_err(|error| format!("{align}: {error}"))?;
+        let calls: Result<Vec<Call>, String> = calls.split(';').map(str::parse).collect();
+        Ok(Case { align, table: bytes(table)?, calls: calls? })
+    }
+}

@@ -1,0 +1,161 @@
+//! Tables to start from: any bytes, and sound ones built word by word.
+
+use crate::rng::Rng;
+use reference::{place, set_word, Hall};
+
+/// The few sessions of a case, so that screens and lists often agree.
+pub struct Sessions(Vec<u16>);
+
+impl Sessions {
+    pub fn any(rng: &mut Rng) -> Sessions {
+        // Some share a byte: a board that compares bytes would mix them up.
+        let sets: [&[u16]; 5] = [
+            &[5],
+            &[5, 6],
+            &[1, 2, 3, 65_535],
+            &[0x0105, 0x0005, 0x0500, 0x0501],
+            &[256, 255, 1, 0x8000, 0x7FFF],
+        ];
+        match rng.below(6) {
+            5 => Sessions((0..8).map(|_| rng.word().max(1)).collect()),
+            set => Sessions(sets[set].to_vec()),
+        }
+    }
+
+    /// One of them, now and then none.
+    pub fn pick(&self, rng: &mut Rng) -> u16 {
+        if rng.one_in(8) {
+            0
+        } else {
+            self.pick_some(rng)
+        }
+    }
+
+    fn pick_some(&self, rng: &mut Rng) -> u16 {
+        rng.pick(&self.0)
+    }
+}
+
+/// Halls of all sizes, the smallest and the largest among them.
+pub fn any_hall(rng: &mut Rng) -> Hall {
+    let (least, most) = match rng.below(16) {
+        0 => ([1, 1, 1], [1, 1, 1]),
+        1 => ([16, 4, 64], [16, 4, 64]),
+        2 | 3 => ([1, 1, 1], [16, 4, 64]),
+        4..=6 => ([1, 1, 1], [8, 3, 12]),
+        _ => ([1, 1, 1], [4, 2, 3]),
+    };
+    let mut number = |which: usize| rng.within(least[which], most[which]) as u16;
+    Hall::new(number(0), number(1), number(2)).expect("a hall within the limits")
+}
+
+pub fn any_bytes(rng: &mut Rng, length: usize) -> Vec<u8> {
+    match rng.below(4) {
+        0 => vec![0x00; length],
+        1 => vec![0xFF; length],
+        _ => any_words(rng, length),
+    }
+}
+
+pub fn any_words(rng: &mut Rng, length: usize) -> Vec<u8> {
+    (0..length).map(|_| rng.word() as u8).collect()
+}
+
+/// A sound table of exactly the need, arbitrary in all that soundness leaves.
+pub fn sound_table(rng: &mut Rng, hall: &Hall, sessions: &Sessions) -> Vec<u8> {
+    let mut table = vec![0; 2 * hall.need()];
+    set_word(&mut table, 0, hall.desks);
+    set_word(&mut table, 1, hall.screens);
+    set_word(&mut table, 2, hall.positions);
+    for at in 3..hall.screens_of_hall().end {
+        set_word(&mut table, at, sessions.pick(rng));
+    }
+    for desk in 1..=hall.desks {
+        let record = hall.record(desk);
+        let lengths = any_lengths(rng, hall.all_screens());
+        sound_record(rng, hall, sessions, lengths, &mut table[2 * record.start..2 * record.end]);
+    }
+    table
+}
+
+/// How many are ready, tested and waiting.
+type Lengths = [usize; 3];
+
+/// None, all places or any number of them used, parted anyhow.
+fn any_lengths(rng: &mut Rng, all_screens: usize) -> Lengths {
+    let places = 2 * all_screens;
+    let used = match rng.below(4) {
+        0 => 0,
+        1 => places,
+        _ => rng.within(0, places),
+    };
+    let (one, other) = (rng.within(0, used), rng.within(0, used));
+    let (first, second) = (one.min(other), one.max(other));
+    match rng.below(4) {
+        // With one or two screens nothing stays tested between steps.
+        _ if all_screens < 3 => [first, 0, used - first],
+        0 => [first, 0, used - first],
+        1 => [0, used, 0],
+        _ => [first, second - first, used - second],
+    }
+}
+
+fn sound_record(
+    rng: &mut Rng,
+    hall: &Hall,
+    sessions: &Sessions,
+    [ready, tested, waiting]: Lengths,
+    record: &mut [u8],
+) {
+    set_word(record, place::OWED, sessions.pick(rng));
+    set_word(record, place::READY, ready as u16);
+    set_word(record, place::TESTED, tested as u16);
+    set_word(record, place::WAITING, waiting as u16);
+    for at in 0..ready + tested + waiting {
+        set_word(record, place::LIST + at, sessions.pick_some(rng));
+    }
+    if tested > 0 {
+        let scanned = 2 * rng.within(1, (hall.all_screens() - 1) / 2);
+        set_word(record, place::SCANNED, scanned as u16);
+        let most = scanned.min(tested);
+        let some = rng.within(0, most);
+        let marked = rng.pick(&[0, most, some]);
+        let marks = any_marks(rng, tested, marked);
+        set_marks(record, marks);
+    }
+}
+
+/// So many marks among the first so many places.
+pub fn any_marks(rng: &mut Rng, places: usize, marked: usize) -> u128 {
+    let mut marks = 0;
+    let mut left = marked;
+    for place in 0..places {
+        if rng.below(places - place) < left {
+            marks |= 1 << place;
+            left -= 1;
+        }
+    }
+    marks
+}
+
+pub fn set_marks(record: &mut [u8], marks: u128) {
+    record[2 * place::MARKS..2 * place::LIST].copy_from_slice(&marks.to_le_bytes());
+}
+
+/// A record in mid-reading, for the damages that need one; `None` where the
+/// hall is too small for it.
+pub fn reading_record(rng: &mut Rng, hall: &Hall, record: &mut [u8]) -> Option<(usize, usize)> {
+    let all_screens = hall.all_screens();
+    if all_screens < 3 {
+        return None;
+    }
+    let scanned = 2 * rng.within(1, (all_screens - 1) / 2);
+    let tested = rng.within(scanned + 1, 2 * all_screens - 1);
+    record.fill(0);
+    let sessions = Sessions::any(rng);
+    let waiting = rng.below(2);
+    sound_record(rng, hall, &sessions, [0, tested, waiting], record);
+    set_word(record, place::SCANNED, scanned as u16);
+    set_marks(record, 0);
+    Some((scanned, tested))
+}

@@ -1,0 +1,71 @@
+//! The hall: its three numbers, and where in the table each part stands.
+
+use super::{ask, Refusal};
+use std::ops::Range;
+
+pub const MOST_DESKS: u16 = 16;
+pub const MOST_SCREENS: u16 = 4;
+pub const MOST_POSITIONS: u16 = 64;
+
+/// Words before the first position: the hall's three numbers.
+const HEADER: usize = 3;
+
+#[derive(Clone, Copy, Debug, PartialEq, Eq)]
+pub struct Hall {
+    pub desks: u16,
+    /// Of one desk.
+    pub screens: u16,
+    pub positions: u16,
+}
+
+impl Hall {
+    /// The hall of these numbers, asked in the order of the opening.
+    pub fn new(desks: u16, screens: u16, positions: u16) -> Result<Hall, Refusal> {
+        ask((1..=MOST_DESKS).contains(&desks), Refusal::BadDesks)?;
+        ask((1..=MOST_SCREENS).contains(&screens), Refusal::BadScreens)?;
+        ask((1..=MOST_POSITIONS).contains(&positions), Refusal::BadPositions)?;
+        Ok(Hall { desks, screens, positions })
+    }
+
+    /// S, the screens of the whole hall.
+    pub fn all_screens(&self) -> usize {
+        usize::from(self.desks) * usize::from(self.screens)
+    }
+
+    /// The words of the table that the board uses.
+    pub fn need(&self) -> usize {
+        self.records() + usize::from(self.desks) * self.record_length()
+    }
+
+    /// The word of a position.
+    pub fn position(&self, position: u16) -> usize {
+        HEADER + usize::from(position) - 1
+    }
+
+    /// The words of all screens, desk by desk.
+    pub fn screens_of_hall(&self) -> Range<usize> {
+        let first = HEADER + usize::from(self.positions);
+        first..first + self.all_screens()
+    }
+
+    /// The word of a desk's screen.
+    pub fn screen(&self, desk: u16, screen: u16) -> usize {
+        let desks_before = usize::from(desk) - 1;
+        let screens_before = desks_before * usize::from(self.screens) + usize::from(screen) - 1;
+        self.screens_of_hall().start + screens_before
+    }
+
+    /// The words of a desk's record.
+    pub fn record(&self, desk: u16) -> Range<usize> {
+        let first = self.records() + (usize::from(desk) - 1) * self.record_length();
+        first..first + self.record_length()
+    }
+
+    fn records(&self) -> usize {
+        self.screens_of_hall().end
+    }
+
+    fn record_length(&self) -> usize {
+        super::place::LIST + 2 * self.all_screens()
+    }
+}

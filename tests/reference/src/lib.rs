@@ -1,0 +1,146 @@
+//! The session board in plain Rust, written from document 01 alone.
+//!
+//! It is what the board is compared with, so it shares no line with it. The
+//! table is a slice of bytes, two to a word, low byte first; an odd last byte
+//! is no part of it.
+
+mod hall;
+mod record;
+mod sound;
+mod words;
+
+pub use self::hall::{Hall, MOST_DESKS, MOST_POSITIONS, MOST_SCREENS};
+pub use self::record::place;
+pub use self::sound::is_sound;
+pub use self::words::{set_word, word};
+
+use self::record::Record;
+use self::sound::sound_hall;
+
+/// The "no" to each question, with its number.
+#[derive(Clone, Copy, Debug, PartialEq, Eq)]
+#[repr(u16)]
+pub enum Refusal {
+    BadDesks = 1,
+    BadScreens = 2,
+    BadPositions = 3,
+    TableShort = 4,
+    Unsound = 5,
+    NoDesk = 6,
+    NoScreen = 7,
+    NoPosition = 8,
+    ScreenFull = 9,
+    PositionEmpty = 10,
+    ScreenEmpty = 11,
+    Owing = 12,
+    OwesNothing = 13,
+    NoRoom = 14,
+}
+
+/// The session of an accepted call, or the refusal.
+pub type Reply = Result<u16, Refusal>;
+
+/// The one number a host gets: the reply number times 65,536, plus the session.
+pub fn answer(reply: Reply) -> u32 {
+    match reply {
+        Ok(session) => u32::from(session),
+        Err(refusal) => (refusal as u32) << 16,
+    }
+}
+
+/// Opening: the hall's numbers, then zeros up to the need.
+pub fn open(desks: u16, screens: u16, positions: u16, table: &mut [u8]) -> Reply {
+    let hall = Hall::new(desks, screens, positions)?;
+    ask(words::count(table) >= hall.need(), Refusal::TableShort)?;
+    table[..2 * hall.need()].fill(0);
+    set_word(table, 0, desks);
+    set_word(table, 1, screens);
+    set_word(table, 2, positions);
+    Ok(0)
+}
+
+/// The screen shows the position's session.
+pub fn take(desk: u16, screen: u16, position: u16, table: &mut [u8]) -> Reply {
+    let hall = hall_with_desk(table, desk)?;
+    ask_screen(&hall, screen)?;
+    ask_position(&hall, position)?;
+    let shown = hall.screen(desk, screen);
+    let session = word(table, hall.position(position));
+    ask(word(table, shown) == 0, Refusal::ScreenFull)?;
+    ask(session != 0, Refusal::PositionEmpty)?;
+    set_word(table, shown, session);
+    Ok(session)
+}
+
+/// The screen shows nothing any more.
+pub fn drop(desk: u16, screen: u16, table: &mut [u8]) -> Reply {
+    let hall = hall_with_desk(table, desk)?;
+    ask_screen(&hall, screen)?;
+    let shown = hall.screen(desk, screen);
+    let session = word(table, shown);
+    ask(session != 0, Refusal::ScreenEmpty)?;
+    set_word(table, shown, 0);
+    Ok(session)
+}
+
+/// The position holds another session; the desk owes the old one.
+pub fn swap(desk: u16, position: u16, session: u16, table: &mut [u8]) -> Reply {
+    let hall = hall_with_desk(table, desk)?;
+    ask_position(&hall, position)?;
+    let owed = hall.record(desk).start + place::OWED;
+    ask(word(table, owed) == 0, Refusal::Owing)?;
+    let held = hall.position(position);
+    let old = word(table, held);
+    set_word(table, held, session);
+    if old != 0 {
+        set_word(table, owed, old);
+    }
+    Ok(old)
+}
+
+/// The owed session starts to wait.
+pub fn retire(desk: u16, table: &mut [u8]) -> Reply {
+    let hall = hall_with_desk(table, desk)?;
+    let (_, mut record) = screens_and_record(&hall, desk, table);
+    ask(record.owed() != 0, Refusal::OwesNothing)?;
+    ask(record.used() < 2 * hall.all_screens(), Refusal::NoRoom)?;
+    Ok(record.retire())
+}
+
+/// One more part of a reading of the hall, and at most one session handed back.
+pub fn collect(desk: u16, table: &mut [u8]) -> Reply {
+    let hall = hall_with_desk(table, desk)?;
+    let (screens, mut record) = screens_and_record(&hall, desk, table);
+    Ok(record.collect(screens))
+}
+
+fn ask(yes: bool, refusal: Refusal) -> Result<(), Refusal> {
+    if yes {
+        Ok(())
+    } else {
+        Err(refusal)
+    }
+}
+
+/// The two questions that every step asks first.
+fn hall_with_desk(table: &[u8], desk: u16) -> Result<Hall, Refusal> {
+    let hall = sound_hall(table).ok_or(Refusal::Unsound)?;
+    ask((1..=hall.desks).contains(&desk), Refusal::NoDesk)?;
+    Ok(hall)
+}
+
+fn ask_screen(hall: &Hall, screen: u16) -> Result<(), Refusal> {
+    ask((1..=hall.screens).contains(&screen), Refusal::NoScreen)
+}
+
+fn ask_position(hall: &Hall, position: u16) -> Result<(), Refusal> {
+    ask((1..=hall.positions).contains(&position), Refusal::NoPosition)
+}
+
+/// The screens of the whole hall, to read, and the desk's record, to write.
+fn screens_and_record<'a>(hall: &Hall, desk: u16, table: &'a mut [u8]) -> (&'a [u8], Record<'a>) {
+    let screens = words::bytes(hall.screens_of_hall());
+    let record = words::bytes(hall.record(desk));
+    let (before, from_record) = table.split_at_mut(record.start);
+    (&before[screens], Record::new(&mut from_record[..record.len()]))
+}

@@ -1,0 +1,61 @@
+//! Soundness, clause by clause as document 01 has it, and nothing more.
+
+use super::record::{marks, place};
+use super::words::{bytes, count, word};
+use super::Hall;
+
+pub fn is_sound(table: &[u8]) -> bool {
+    sound_hall(table).is_some()
+}
+
+/// The hall of a sound table.
+pub fn sound_hall(table: &[u8]) -> Option<Hall> {
+    let hall = header(table)?;
+    let long_enough = count(table) >= hall.need();
+    let sound = long_enough
+        && (1..=hall.desks)
+            .all(|desk| sound_record(&table[bytes(hall.record(desk))], hall.all_screens()));
+    sound.then_some(hall)
+}
+
+/// The ranges come first: only numbers within them give a need.
+fn header(table: &[u8]) -> Option<Hall> {
+    if count(table) < 3 {
+        return None;
+    }
+    Hall::new(word(table, 0), word(table, 1), word(table, 2)).ok()
+}
+
+fn sound_record(record: &[u8], all_screens: usize) -> bool {
+    let number = |at| usize::from(word(record, at));
+    let tested = number(place::TESTED);
+    // The sum is one of numbers, not of 16-bit words: it cannot wrap.
+    let used = number(place::READY) + tested + number(place::WAITING);
+    used <= 2 * all_screens
+        && sound_list(&record[2 * place::LIST..], used)
+        && sound_marks(marks(record), tested)
+        && sound_reading(number(place::SCANNED), tested, all_screens)
+        && marks(record).count_ones() as usize <= number(place::SCANNED)
+}
+
+/// Used places are not 0, unused ones are. Both loops go to their end: without
+/// a way out in the middle they can take many places at a time.
+fn sound_list(list: &[u8], used: usize) -> bool {
+    let (used, unused) = list.split_at(2 * used);
+    let none_is_zero = used.chunks_exact(2).fold(true, |none, place| none & (word(place, 0) != 0));
+    let all_are_zero = unused.iter().fold(0, |seen, byte| seen | byte) == 0;
+    none_is_zero && all_are_zero
+}
+
+/// Marks lie only on tested places, of which there are at most 128.
+fn sound_marks(marks: u128, tested: usize) -> bool {
+    marks.checked_shr(tested as u32).unwrap_or(0) == 0
+}
+
+fn sound_reading(scanned: usize, tested: usize, all_screens: usize) -> bool {
+    if tested == 0 {
+        scanned == 0
+    } else {
+        scanned % 2 == 0 && scanned >= 2 && scanned < all_screens
+    }
+}

@@ -1,0 +1,50 @@
+#!/bin/sh
+# Tests the board from outside, quietly, up to the first failure:
+#
+#     tests/run.sh LIBDIR        LIBDIR holds the archive libhost.a
+#
+# What is built goes to target/ beside include/, or to $TARGET.
+set -eu
+
+[ $# -eq 1 ] && [ -f "$1/libhost.a" ] || { echo "usage: $0 LIBDIR (with libhost.a)"; exit 2; }
+SESSION_BOARD_LIB=$(cd "$1" && pwd)
+root=$(cd "$(dirname "$0")/.." && pwd)
+CARGO_TARGET_DIR=${TARGET:-$root/target}
+export SESSION_BOARD_LIB CARGO_TARGET_DIR
+mkdir -p "$CARGO_TARGET_DIR"
+log=$CARGO_TARGET_DIR/run.log
+warnings="-std=c11 -Wall -Wextra -Wpedantic -Werror -O2"
+
+# step NAME LINES COMMAND...: shows the last lines, or all of them on failure.
+step() {
+    name=$1 lines=$2
+    shift 2
+    if "$@" >"$log" 2>&1; then
+        tail -n "$lines" "$log"
+    else
+        cat "$log"
+        echo "run: $name failed"
+        exit 1
+    fi
+}
+
+# link SOURCE PROGRAM
+link() {
+    gcc $warnings -I"$root/include" "$1" "$SESSION_BOARD_LIB/libhost.a" -o "$CARGO_TARGET_DIR/$2"
+}
+
+reference_tests() {
+    cargo test --quiet --offline --release --manifest-path "$root/tests/reference/Cargo.toml" \
+        --tests >"$log.full" 2>&1 || { cat "$log.full"; return 1; }
+    awk '/^test result: ok/ { n += $4 } END { print "reference: " n " tests passed" }' "$log.full"
+}
+
+step "reference" 1 reference_tests
+step "building compare" 0 \
+    cargo build --quiet --offline --release --manifest-path "$root/tests/compare/Cargo.toml"
+step "compare" 1 "$CARGO_TARGET_DIR/release/compare"
+step "building host_test" 0 link "$root/tests/host/host_test.c" host_test
+step "host_test" 1 "$CARGO_TARGET_DIR/host_test"
+step "building the example" 0 link "$root/examples/host.c" host_example
+step "the example" 0 "$CARGO_TARGET_DIR/host_example"
+echo "run: all passed"
