@@ -9,7 +9,7 @@ set -eu
 [ $# -eq 1 ] && [ -f "$1/libhost.a" ] || { echo "usage: $0 LIBDIR (with libhost.a)"; exit 2; }
 SESSION_BOARD_LIB=$(cd "$1" && pwd)
 root=$(cd "$(dirname "$0")/.." && pwd)
-CARGO_TARGET_DIR=${TARGET:-$root/target}
+CARGO_TARGET_DIR=${TARGET:-$root/target/outside}
 export SESSION_BOARD_LIB CARGO_TARGET_DIR
 mkdir -p "$CARGO_TARGET_DIR"
 log=$CARGO_TARGET_DIR/run.log
