@@ -1,4 +1,4 @@
--- "Words past the need are neither read nor written": a call on a table of at least the largest need, and anything behind it.
+-- "Words past the need are neither read nor written": a call on a table that is long enough for its hall, and anything behind it.
 use Prim.Native.Nat.{ℕ, _+_, _-_, _≤_, zero, suc, _*_, _<_}
 use native.Mathlib.Omega.{arith}
 use native.Mathlib.Nat.{mul-le-mul-right, mul-le-mul}
@@ -17,7 +17,7 @@ use Rattle.rules.specs.Table.{screenWord, sound, stepTable, written}
 use Rattle.rules.specs.laws.Effect.{Formed, in-range}
 use Rattle.rules.specs.laws.Links.{desk-fact, drop-facts, position-asked, swap-facts, swap-position-asked, take-facts}
 use Rattle.rules.specs.laws.ScreenIndex.{screen-in}
-use Rattle.rules.specs.laws.SoundTables.{known-opens, valid}
+use Rattle.rules.specs.laws.SoundTables.{valid}
 use Rattle.rules.specs.laws.TableSteps.{accepted-open, accepted-step, asked, known, refused-open, refused-step, unsound-step}
 use Rattle.rules.specs.laws.Tables.{Opens, hall-opens}
 
@@ -55,7 +55,7 @@ written-is-in t (Swap d p v) = refl
 written-is-in t (Retire d) = refl
 written-is-in t (Collect d) = refl
 
-module _ (a b : List ℕ) (long : mostWords ≤ length a) where
+module _ (a b : List ℕ) (three : 3 ≤ length a) where
   hall-same : hallIn (a ++ b) ≡ hallIn a
   hall-same = λ i. record {
     desks = List·getD-append a b 0 0 (omega arith) i;
@@ -63,10 +63,7 @@ module _ (a b : List ℕ) (long : mostWords ≤ length a) where
     positions = List·getD-append a b 0 2 (omega arith) i;
   }
 
-  module _ (H : Hall) (o : Opens H) where
-    far : need H ≤ length a
-    far = omega (arith, need-at-most H o)
-
+  module _ (H : Hall) (far : need H ≤ length a) where
     past-header : drop (H .positions) (drop 3 (a ++ b)) ≡ drop (H .positions) (drop 3 a) ++ b
     past-header =
         ap (drop (H .positions)) (drop-append-left 3 a b (omega (arith, far)))
@@ -147,10 +144,10 @@ module _ (a b : List ℕ) (long : mostWords ≤ length a) where
         (λ i. putRecord H (a ++ b) d (encodeDesk (allScreens H) (collect (allScreens H) (decode-same i .shown) (decodeDesk (record-same d r i)) .after)))
         ∙ put-same-rest d r (encodeDesk (allScreens H) (collect (allScreens H) (decode H a .shown) (decodeDesk (recordOf H a d)) .after))
 
-  -- ---- Soundness does not look past the largest need.
-  sound-same : sound (a ++ b) ≡ sound a
+  -- ---- Soundness does not look past the need.
+  sound-same : (Opens (hallIn a) → need (hallIn a) ≤ length a) → sound (a ++ b) ≡ sound a
   unfolding sound
-  sound-same =
+  sound-same enough =
       ap (λ (H : Hall). asks H (a ++ b)) hall-same
       ∙ by-ranges (inRange (hallIn a .desks) mostDesks) (inRange (hallIn a .screens) mostScreens)
       (inRange (hallIn a .positions) mostPositions) refl refl refl
@@ -172,52 +169,55 @@ module _ (a b : List ℕ) (long : mostWords ≤ length a) where
             positions = in-range (hallIn a .positions) mostPositions r;
           } in
           let both : leb (need (hallIn a)) (length (a ++ b)) ≡ leb (need (hallIn a)) (length a) =
-          le-leb (need (hallIn a)) (length (a ++ b)) (omega (arith, far (hallIn a) o, length-append a b))
-          ∙ sym (le-leb (need (hallIn a)) (length a) (far (hallIn a) o)) in
-          λ i. both i && everyRecord (recordSound (allScreens (hallIn a))) (records-same (hallIn a) o i)
+          le-leb (need (hallIn a)) (length (a ++ b)) (omega (arith, enough o, length-append a b))
+          ∙ sym (le-leb (need (hallIn a)) (length a) (enough o)) in
+          λ i. both i && everyRecord (recordSound (allScreens (hallIn a))) (records-same (hallIn a) (enough o) i)
       by-ranges true true false p q r = refl
       by-ranges true false z p q r = refl
       by-ranges false y z p q r = refl
 
   -- ---- A step.
-  pub step-append : (c : Call) → stepTable (a ++ b) c ≡ record { answer = stepTable a c .answer; after = stepTable a c .after ++ b }
-  step-append c = by-sound (sound a) refl
+  pub step-append : (Opens (hallIn a) → need (hallIn a) ≤ length a) → (c : Call)
+      → stepTable (a ++ b) c ≡ record { answer = stepTable a c .answer; after = stepTable a c .after ++ b }
+  step-append enough c = by-sound (sound a) refl
     where
       done : TableDone → TableDone
       done r = record { answer = r .answer; after = r .after ++ b }
 
       by-sound : (x : Bool) → sound a ≡ x → stepTable (a ++ b) c ≡ done (stepTable a c)
-      by-sound false s = unsound-step (a ++ b) c (sound-same ∙ s) ∙ sym (ap done (unsound-step a c s))
+      by-sound false s = unsound-step (a ++ b) c (sound-same enough ∙ s) ∙ sym (ap done (unsound-step a c s))
       by-sound true s = by-number (asked a c) refl
         where
-          o : Opens (hallIn a)
-          o = known-opens a (known a s)
+          far : need (hallIn a) ≤ length a
+          far = known a s .long
 
           -- the questions and the reply are those at the same state
           outcome-same : perform (hallIn (a ++ b)) (decode (hallIn (a ++ b)) (a ++ b)) c .session ≡ perform (hallIn a) (decode (hallIn a) a) c .session
           outcome-same =
               ap (λ (H : Hall). perform H (decode H (a ++ b)) c .session) hall-same
-              ∙ ap (λ (st : State). perform (hallIn a) st c .session) (decode-same (hallIn a) o)
+              ∙ ap (λ (st : State). perform (hallIn a) st c .session) (decode-same (hallIn a) far)
 
           asked-same : asked (a ++ b) c ≡ asked a c
           asked-same =
               ap (λ (H : Hall). firstNo (questions H (decode H (a ++ b)) c)) hall-same
-              ∙ ap (λ (st : State). firstNo (questions (hallIn a) st c)) (decode-same (hallIn a) o)
+              ∙ ap (λ (st : State). firstNo (questions (hallIn a) st c)) (decode-same (hallIn a) far)
 
           by-number : (n : ℕ) → asked a c ≡ n → stepTable (a ++ b) c ≡ done (stepTable a c)
           by-number zero q =
-              accepted-step (a ++ b) c (sound-same ∙ s) (asked-same ∙ q)
+              accepted-step (a ++ b) c (sound-same enough ∙ s) (asked-same ∙ q)
               ∙ (λ i. record {
                 answer = record { number = 0; session = outcome-same i };
                 after =
-                    (written-is-in (a ++ b) c ∙ ap (λ (H : Hall). writtenIn H (a ++ b) c) hall-same ∙ written-before (hallIn a) o (decode (hallIn a) a) (valid a (known a s) .formed) c q ∙ ap (λ (l : List ℕ). l ++ b) (sym (written-is-in a c))) i;
+                    (written-is-in (a ++ b) c ∙ ap (λ (H : Hall). writtenIn H (a ++ b) c) hall-same ∙ written-before (hallIn a) far (decode (hallIn a) a) (valid a (known a s) .formed) c q ∙ ap (λ (l : List ℕ). l ++ b) (sym (written-is-in a c))) i;
               })
               ∙ sym (ap done (accepted-step a c s q))
-          by-number (suc n) q = refused-step (a ++ b) c n (sound-same ∙ s) (asked-same ∙ q) ∙ sym (ap done (refused-step a c n s q))
+          by-number (suc n) q = refused-step (a ++ b) c n (sound-same enough ∙ s) (asked-same ∙ q) ∙ sym (ap done (refused-step a c n s q))
 
-  -- ---- The opening.
-  pub open-append : (H : Hall) → openTable H (a ++ b) ≡ record { answer = openTable H a .answer; after = openTable H a .after ++ b }
-  open-append H = by-number (firstNo (openQuestions H a)) refl
+-- ---- The opening.
+module _ (a b : List ℕ) where
+  pub open-append : (H : Hall) → (Opens H → need H ≤ length a)
+      → openTable H (a ++ b) ≡ record { answer = openTable H a .answer; after = openTable H a .after ++ b }
+  open-append H enough = by-number (firstNo (openQuestions H a)) refl
     where
       done : TableDone → TableDone
       done r = record { answer = r .answer; after = r .after ++ b }
@@ -236,7 +236,7 @@ module _ (a b : List ℕ) (long : mostWords ≤ length a) where
                 positions = in-range (H .positions) mostPositions r;
               } in
               let both : leb (need H) (length (a ++ b)) ≡ leb (need H) (length a) =
-              le-leb (need H) (length (a ++ b)) (omega (arith, far H o, length-append a b)) ∙ sym (le-leb (need H) (length a) (far H o)) in
+              le-leb (need H) (length (a ++ b)) (omega (arith, enough o, length-append a b)) ∙ sym (le-leb (need H) (length a) (enough o)) in
               ap (λ (y : Bool). cond {A = ℕ} y 0 4) both
           by-ranges true true false p q r = refl
           by-ranges true false z p q r = refl
