@@ -1,0 +1,300 @@
+use desk::LIST;
+use desk::SCANNED;
+use desk::collect_record;
+use desk::retire_record;
+use desk::sound_record;
+use marks::clear;
+use marks::word;
+use reply::Reply;
+ghost use mathlib.Core.Path.{_≡_};
+ghost use Prim.Native.Nat.{_+_, _-_, _*_, _≤_, _<_};
+ghost use lib.ListN.{length, drop as dropWords};
+ghost use Rattle.rules.specs.Hall.{hallOf};
+ghost use Rattle.rules.specs.Steps.{Collect, Drop, Retire, Swap, Take, inRange};
+ghost use Rattle.rules.specs.Table.{everyRecord, need as hallNeed, openTable, pieces, recordSound, sound as soundTable, stepTable};
+ghost use Rattle.reply.specs.Answer.{told};
+ghost use Rattle.board.specs.Entry.{entryOf};
+
+// Where things stand in a table: P, the desks.
+const DESKS: usize = 0;
+
+// c, the screens per desk.
+const SCREENS: usize = 1;
+
+// L, the positions.
+const POSITIONS: usize = 2;
+
+// The words before the session at each position.
+const HEADER: usize = 3;
+
+// The board of a hall: its limits, and the words that its table needs.
+pub struct Board;
+
+impl Board {
+    // The limits for P, c and L.
+    pub const MOST_DESKS: usize = 16;
+
+    pub const MOST_SCREENS: usize = 4;
+
+    pub const MOST_POSITIONS: usize = 64;
+
+    // The words that the largest hall needs.
+    pub const MOST_WORDS: usize = 2387;
+
+    // The words that a hall needs: 3 + L + S + P times (13 + 2S).
+    pub fn need(desks: u16, screens: u16, positions: u16) -> usize
+        ensures { λ r. ⌜ r ≡ hallNeed (hallOf desks screens positions) ⌝ }
+    {
+        let p = desks as usize;
+        let s = p * screens as usize;
+        HEADER + (positions as usize + (s + p * (LIST + 2 * s)))
+    }
+}
+
+// Whether a number is 1 to the most.
+fn in_range(n: u16, most: usize) -> bool
+    ensures { λ r. ⌜ r ≡ inRange n most ⌝ }
+{
+    let x = n as usize;
+    1 <= x && x <= most
+}
+
+// Where the record of desk d stands, with d counted from 0, in a hall of l positions and s screens.
+fn record_start(l: usize, s: usize, d: usize) -> usize
+    requires { ⌜ (l ≤ 64) × (s ≤ 64) × (d ≤ 16) ⌝ }
+    ensures { λ r. ⌜ (r ≡ 3 + l + s + d * (13 + 2 * s)) × (r ≤ 2387) ⌝ }
+{
+    HEADER + l + s + d * (LIST + 2 * s)
+}
+
+// Whether a table is sound.
+pub fn sound(t: &[u16]) -> bool
+    ensures { λ r. ⌜ r ≡ soundTable (now (t .entry)) ⌝ }
+{
+    if t.len() < HEADER {
+        return false;
+    }
+    let desks = t[DESKS];
+    let screens = t[SCREENS];
+    let positions = t[POSITIONS];
+    if !in_range(desks, Board::MOST_DESKS) {
+        return false;
+    }
+    if !in_range(screens, Board::MOST_SCREENS) {
+        return false;
+    }
+    if !in_range(positions, Board::MOST_POSITIONS) {
+        return false;
+    }
+    if t.len() < Board::need(desks, screens, positions) {
+        return false;
+    }
+    let p = desks as usize;
+    sound_records(t, p, positions as usize, p * screens as usize)
+}
+
+// Whether the record of each desk is sound, in a table that is long enough.
+fn sound_records(t: &[u16], p: usize, l: usize, s: usize) -> bool
+    requires { ⌜ (p ≤ 16) × (l ≤ 64) × (s ≤ 64) × (3 + l + s + p * (13 + 2 * s) ≤ length (now t)) ⌝ }
+    ensures { λ r. ⌜ r ≡ everyRecord (recordSound s) (pieces p (13 + 2 * s) (dropWords (3 + l + s) (now (t .entry)))) ⌝ }
+{
+    let size = LIST + 2 * s;
+    let mut d = 0;
+    while d < p {
+        let a = record_start(l, s, d);
+        let e = a + size;
+        if !sound_record(&t[a..e], s) {
+            return false;
+        }
+        d += 1;
+    }
+    true
+}
+
+// Where a desk's things stand in a sound table: the counts of positions, of screens per desk and of all screens, and the
+// start of the desk's record.
+struct Place {
+    pub positions: usize,
+    pub screens: usize,
+    pub all: usize,
+    pub start: usize,
+}
+
+// What the first questions of a step answer: a refusal, or the place of the desk.
+enum Entry {
+    No(Reply),
+    At(Place),
+}
+
+// What every step asks first: is the table sound, is the desk 1 to P.
+fn enter(t: &[u16], desk: u16) -> Entry
+    ensures { λ r. ⌜ r ≡ entryOf (now (t .entry)) desk ⌝ }
+{
+    if !sound(t) {
+        return Entry::No(Reply::Unsound);
+    }
+    let p = word(t, DESKS);
+    if !in_range(desk, p) {
+        return Entry::No(Reply::NoDesk);
+    }
+    let c = word(t, SCREENS);
+    let l = word(t, POSITIONS);
+    let s = p * c;
+    let d = desk as usize;
+    let a = record_start(l, s, d - 1);
+    Entry::At(Place {
+        positions: l,
+        screens: c,
+        all: s,
+        start: a,
+    })
+}
+
+// Opening writes P, c, L and zeros up to the need.
+pub fn open(t: &mut [u16], desks: u16, screens: u16, positions: u16) -> Reply
+    ensures { λ r. ⌜ told r (now (t .exit)) ≡ openTable (hallOf desks screens positions) (now (t .entry)) ⌝ }
+{
+    if !in_range(desks, Board::MOST_DESKS) {
+        return Reply::BadDesks;
+    }
+    if !in_range(screens, Board::MOST_SCREENS) {
+        return Reply::BadScreens;
+    }
+    if !in_range(positions, Board::MOST_POSITIONS) {
+        return Reply::BadPositions;
+    }
+    let n = Board::need(desks, screens, positions);
+    if t.len() < n {
+        return Reply::TooShort;
+    }
+    clear(&mut t[HEADER..n]);
+    t[DESKS] = desks;
+    t[SCREENS] = screens;
+    t[POSITIONS] = positions;
+    Reply::Accepted(0)
+}
+
+// Take: the screen shows the position's session; the reply is that session.
+pub fn take(t: &mut [u16], desk: u16, screen: u16, position: u16) -> Reply
+    ensures { λ r. ⌜ told r (now (t .exit)) ≡ stepTable (now (t .entry)) (Take desk screen position) ⌝ }
+{
+    let entry = enter(t, desk);
+    match entry {
+        Entry::No(reply) => reply,
+        Entry::At(place) => {
+            let c = place.screens;
+            let l = place.positions;
+            if !in_range(screen, c) {
+                return Reply::NoScreen;
+            }
+            if !in_range(position, l) {
+                return Reply::NoPosition;
+            }
+            let d = desk as usize;
+            let i = screen as usize;
+            let q = position as usize;
+            let at = HEADER + l + ((d - 1) * c + (i - 1));
+            if t[at] != 0 {
+                return Reply::ScreenInUse;
+            }
+            let held = t[HEADER + (q - 1)];
+            if held == 0 {
+                return Reply::PositionEmpty;
+            }
+            t[at] = held;
+            Reply::Accepted(held)
+        }
+    }
+}
+
+// Drop: the screen becomes 0; the reply is what it showed.
+pub fn drop(t: &mut [u16], desk: u16, screen: u16) -> Reply
+    ensures { λ r. ⌜ told r (now (t .exit)) ≡ stepTable (now (t .entry)) (Drop desk screen) ⌝ }
+{
+    let entry = enter(t, desk);
+    match entry {
+        Entry::No(reply) => reply,
+        Entry::At(place) => {
+            let c = place.screens;
+            let l = place.positions;
+            if !in_range(screen, c) {
+                return Reply::NoScreen;
+            }
+            let d = desk as usize;
+            let i = screen as usize;
+            let at = HEADER + l + ((d - 1) * c + (i - 1));
+            let shown = t[at];
+            if shown == 0 {
+                return Reply::ScreenEmpty;
+            }
+            t[at] = 0;
+            Reply::Accepted(shown)
+        }
+    }
+}
+
+// Swap: the position holds the new session or 0; the reply is the old one, and the desk owes it.
+pub fn swap(t: &mut [u16], desk: u16, position: u16, session: u16) -> Reply
+    ensures { λ r. ⌜ told r (now (t .exit)) ≡ stepTable (now (t .entry)) (Swap desk position session) ⌝ }
+{
+    let entry = enter(t, desk);
+    match entry {
+        Entry::No(reply) => reply,
+        Entry::At(place) => {
+            let l = place.positions;
+            let a = place.start;
+            if !in_range(position, l) {
+                return Reply::NoPosition;
+            }
+            if t[a] != 0 {
+                return Reply::DeskOwes;
+            }
+            let q = position as usize;
+            let at = HEADER + (q - 1);
+            let old = t[at];
+            t[at] = session;
+            t[a] = old;
+            Reply::Accepted(old)
+        }
+    }
+}
+
+// Retire: the owed session goes to the end of the list as waiting; nothing is owed; the reply is that session.
+pub fn retire(t: &mut [u16], desk: u16) -> Reply
+    ensures { λ r. ⌜ told r (now (t .exit)) ≡ stepTable (now (t .entry)) (Retire desk) ⌝ }
+{
+    let entry = enter(t, desk);
+    match entry {
+        Entry::No(reply) => reply,
+        Entry::At(place) => {
+            let s = place.all;
+            let a = place.start;
+            let e = a + (LIST + 2 * s);
+            retire_record(&mut t[a..e], s)
+        }
+    }
+}
+
+// Collect: (a) to (d), on the record of the desk, with the next two screens of the hall or the last one alone.
+pub fn collect(t: &mut [u16], desk: u16) -> Reply
+    ensures { λ r. ⌜ told r (now (t .exit)) ≡ stepTable (now (t .entry)) (Collect desk) ⌝ }
+{
+    let entry = enter(t, desk);
+    match entry {
+        Entry::No(reply) => reply,
+        Entry::At(place) => {
+            let s = place.all;
+            let a = place.start;
+            let e = a + (LIST + 2 * s);
+            let k = word(t, a + SCANNED);
+            let at = HEADER + place.positions + k;
+            let x = t[at];
+            if k + 1 < s {
+                let y = t[at + 1];
+                Reply::Accepted(collect_record(&mut t[a..e], s, 2, x, y))
+            } else {
+                Reply::Accepted(collect_record(&mut t[a..e], s, 1, x, 0))
+            }
+        }
+    }
+}

@@ -1,0 +1,340 @@
+-- Records and desk states: from a state to its record and back, and the words of a record after a part of it was replaced. Assumes nothing.
+use mathlib.Core.Path.{_≡_, refl, sym, ap, ap₂, _∙_, subst}
+use mathlib.Core.List.{List, [], _∷_, _++_, append-assoc, append-nil}
+use Prim.Native.Nat.{ℕ, zero, suc, _+_, _-_, _*_, _^_, _≤_, _<_}
+use native.Mathlib.Omega.{arith}
+use native.Mathlib.Nat.{not-suc-le-zero}
+use lib.ListN.{length, getD, take, drop, set, replicate, length-append, length-drop, length-replicate, drop-of-length-le, replicate-append-replicate}
+use lib.Seq.{drop-cons, getD-take, getD-drop, take-all, drop-drop, take-append-seam, drop-append-seam, take-at, drop-at, take-append-add, drop-append-add}
+use lib.Dec.{lit<}
+use borrow.Author.Tests.{eq-eqb, ne-eqb, lt-ltb, le-ltb}
+use borrow.Rule.Slice.PartMut.{putMid}
+use Rattle.marks.specs.Marks.{marks, onesIn, findPlace, markPlace, pick}
+use Rattle.desk.proofs.WordDesk.{Desk, deskOf, listed, recordOf}
+use Rattle.desk.proofs.WordDesk.{testing, seeing, settled, handed, Fit, Formed}
+use Rattle.marks.proofs.MarkLaws.{marks-length, mark-small}
+use Rattle.marks.proofs.PlaceLaws.{found-unmarked, marked-count, pick-all}
+
+-- ---- a record's words: five, the mark words and the places
+abbrev pub raw : ℕ → ℕ → ℕ → ℕ → ℕ → List ℕ → List ℕ → List ℕ
+raw o k a b c ws l = o ∷ k ∷ a ∷ b ∷ c ∷ (ws ++ l)
+
+-- ---- from a state to its record and back
+
+pub record-length : (s : ℕ) (d : Desk) → Fit s d → length (recordOf s d) ≡ 13 + 2 * s
+unfolding recordOf
+record-length s d f =
+    let z : List ℕ = replicate (2 * s - length (listed d)) 0 in
+    let a = f .room in
+    let b = f .eight in
+    omega (arith, length-append (d .words) (listed d ++ z), length-append (listed d) z, length-replicate {A = ℕ} (2 * s - length (listed d)) 0)
+
+pub round : (s : ℕ) (d : Desk) → length (d .words) ≡ 8 → deskOf (recordOf s d) ≡ d
+unfolding recordOf deskOf
+round s d e =
+    let z : List ℕ = replicate (2 * s - length (listed d)) 0 in
+    let w : take 8 (d .words ++ (listed d ++ z)) ≡ d .words = take-at (d .words) (listed d ++ z) 8 e in
+    let p : drop 8 (d .words ++ (listed d ++ z)) ≡ d .ready ++ (d .tested ++ (d .waiting ++ z))
+    = drop-at (d .words) (listed d ++ z) 8 e ∙ append-assoc (d .ready) (d .tested ++ d .waiting) z
+    ∙ ap (λ (t : List ℕ). d .ready ++ t) (append-assoc (d .tested) (d .waiting) z) in
+    let q : drop (length (d .ready)) (drop 8 (d .words ++ (listed d ++ z))) ≡ d .tested ++ (d .waiting ++ z)
+    = ap (drop (length (d .ready))) p ∙ drop-append-seam (d .ready) (d .tested ++ (d .waiting ++ z)) in
+    let a = ap (take (length (d .ready))) p ∙ take-append-seam (d .ready) (d .tested ++ (d .waiting ++ z)) in
+    let b = ap (take (length (d .tested))) q ∙ take-append-seam (d .tested) (d .waiting ++ z) in
+    let c = ap (λ (t : List ℕ). take (length (d .waiting)) (drop (length (d .tested)) t)) q
+    ∙ ap (take (length (d .waiting))) (drop-append-seam (d .tested) (d .waiting ++ z)) ∙ take-append-seam (d .waiting) z in
+    (λ i. record { owed = d .owed; read = d .read; ready = a i; tested = b i; waiting = c i; words = w i })
+
+pub formed : (s : ℕ) (d : Desk) → s ≤ 64 → Fit s d → Formed s (recordOf s d)
+formed s d h f =
+    let e = round s d (f .eight) in
+    record { most = h; is = ap (recordOf s) (sym e); fit = subst (λ (x : Desk). Fit s x) (sym e) f }
+
+-- ---- what the words of a formed record are
+pub record Facts (s : ℕ) (r : List ℕ) : Type 0 where
+  pub long : length r ≡ 13 + 2 * s
+  pub ready : getD r 2 0 ≡ length (deskOf r .ready)
+  pub tested : getD r 3 0 ≡ length (deskOf r .tested)
+  pub waiting : getD r 4 0 ≡ length (deskOf r .waiting)
+  pub sum : length (deskOf r .ready) + length (deskOf r .tested) + length (deskOf r .waiting) ≤ 2 * s
+  pub most : s ≤ 64
+
+pub facts : (s : ℕ) (r : List ℕ) → Formed s r → Facts s r
+unfolding recordOf
+facts s r f =
+    let d = deskOf r in
+    let m = f .fit .room in
+    record {
+      long = ap length (f .is) ∙ record-length s d (f .fit);
+      ready = ap (λ (x : List ℕ). getD x 2 0) (f .is);
+      tested = ap (λ (x : List ℕ). getD x 3 0) (f .is);
+      waiting = ap (λ (x : List ℕ). getD x 4 0) (f .is);
+      sum = omega (arith, length-append (d .ready) (d .tested ++ d .waiting), length-append (d .tested) (d .waiting));
+      most = f .most;
+    }
+
+pub read-of : (r : List ℕ) → getD r 1 0 ≡ deskOf r .read
+unfolding deskOf
+read-of r = refl
+
+pub words-of : (r : List ℕ) → take 8 (drop 5 r) ≡ deskOf r .words
+unfolding deskOf
+words-of r = refl
+
+-- ---- (a)
+nil-of : (l : List ℕ) → length l ≡ 0 → l ≡ []
+nil-of [] e = refl
+nil-of (x ∷ l) e = absurd (suc-not (length l) e)
+  where
+    suc-not : (n : ℕ) → suc n ≡ 0 → ⊥
+    suc-not n e = omega arith
+
+pub start-words : (s : ℕ) (d : Desk) → length (d .tested) ≡ 0 → set (set (recordOf s d) 3 (length (d .waiting))) 4 0 ≡ recordOf s (testing d)
+unfolding recordOf
+start-words s d e =
+    let t = nil-of (d .tested) e in
+    let l : listed d ≡ d .ready ++ (d .waiting ++ [])
+    = ap (λ (x : List ℕ). d .ready ++ (x ++ d .waiting)) t ∙ ap (λ (x : List ℕ). d .ready ++ x) (sym (append-nil (d .waiting))) in
+    simp (eq-eqb (length (d .tested)) 0 e)
+    (λ i. d .owed ∷ d .read ∷ length (d .ready) ∷ length (d .waiting) ∷ 0 ∷ (d .words ++ (l i ++ replicate (2 * s - length (l i)) 0)))
+
+-- ---- a part replaced
+
+-- the mark words
+pub put-marks : (o k a b c : ℕ) (ws l ys : List ℕ) → length ws ≡ 8 → putMid 5 8 (raw o k a b c ws l) ys ≡ raw o k a b c ys l
+put-marks o k a b c ws l ys e = ap (λ (t : List ℕ). o ∷ k ∷ a ∷ b ∷ c ∷ (ys ++ t)) (drop-at ws l 8 e)
+
+-- a part of the places
+pub put-places : (o k a b c : ℕ) (ws p q r ys : List ℕ) (i n m : ℕ) → length ws ≡ 8 → i ≡ 13 + n → length p ≡ n → length q ≡ m
+    → putMid i m (raw o k a b c ws (p ++ (q ++ r))) ys ≡ raw o k a b c ws (p ++ (ys ++ r))
+put-places o k a b c ws p q r ys i n m e h ep eq =
+    let j : i ≡ suc (suc (suc (suc (suc (length ws + n))))) = omega arith in
+    let t : take (length ws + n) (ws ++ (p ++ (q ++ r))) ≡ ws ++ p
+    = take-append-add ws (p ++ (q ++ r)) n ∙ ap (λ (x : List ℕ). ws ++ x) (take-at p (q ++ r) n ep) in
+    let u : drop m (drop (length ws + n) (ws ++ (p ++ (q ++ r)))) ≡ r
+    = ap (drop m) (drop-append-add ws (p ++ (q ++ r)) n ∙ drop-at p (q ++ r) n ep) ∙ drop-at q r m eq in
+    ap (λ (x : ℕ). putMid x m (raw o k a b c ws (p ++ (q ++ r))) ys) j
+    ∙ (λ x. o ∷ k ∷ a ∷ b ∷ c ∷ (t x ++ (ys ++ u x)))
+    ∙ ap (λ (x : List ℕ). o ∷ k ∷ a ∷ b ∷ c ∷ x) (append-assoc ws p (ys ++ r))
+
+-- ---- (b)
+abbrev pub withWords : Desk → List ℕ → Desk
+withWords d ws =
+    record { owed = d .owed; read = d .read + 1; ready = d .ready; tested = d .tested; waiting = d .waiting; words = ws }
+
+pub see-marked : (s : ℕ) (d : Desk) (ys : List ℕ) → length (d .words) ≡ 8 → set (putMid 5 8 (recordOf s d) ys) 1 (d .read + 1) ≡ recordOf s (withWords d ys)
+unfolding recordOf
+see-marked s d ys e =
+    ap (λ (x : List ℕ). set x 1 (d .read + 1))
+    (put-marks (d .owed) (d .read) (length (d .ready)) (length (d .tested)) (length (d .waiting)) (d .words) (listed d ++ replicate (2 * s - length (listed d)) 0) ys e)
+
+pub see-unmarked : (s : ℕ) (d : Desk) → set (recordOf s d) 1 (d .read + 1) ≡ recordOf s (withWords d (d .words))
+unfolding recordOf
+see-unmarked s d = refl
+
+-- ---- (d)
+
+-- all the places
+pub put-all : (o k a b c : ℕ) (ws l ys : List ℕ) (m : ℕ) → length ws ≡ 8 → length l ≤ m → putMid 13 m (raw o k a b c ws l) ys ≡ raw o k a b c ws ys
+put-all o k a b c ws l ys m e h =
+    let z : drop m (drop 8 (ws ++ l)) ≡ [] = ap (drop m) (drop-at ws l 8 e) ∙ drop-of-length-le l h in
+    (λ i. o ∷ k ∷ a ∷ b ∷ c ∷ (take-at ws l 8 e i ++ (ys ++ z i))) ∙ ap (λ (x : List ℕ). o ∷ k ∷ a ∷ b ∷ c ∷ (ws ++ x)) (append-nil ys)
+
+-- the first leaves a list that zeros follow
+hand-list : (q : ℕ) (rd tw : List ℕ) → 0 < length rd → length (rd ++ tw) ≤ q
+    → drop 1 ((rd ++ tw) ++ replicate (q - length (rd ++ tw)) 0) ++ (0 ∷ []) ≡ (drop 1 rd ++ tw) ++ replicate (q - length (drop 1 rd ++ tw)) 0
+hand-list q [] tw h g = absurd (not-suc-le-zero h)
+hand-list q (x ∷ rd) tw h g =
+    let e : (q - suc (length (rd ++ tw))) + 1 ≡ q - length (rd ++ tw) = omega arith in
+    append-assoc (rd ++ tw) (replicate (q - suc (length (rd ++ tw))) 0) (0 ∷ [])
+    ∙ ap (λ (t : List ℕ). (rd ++ tw) ++ t) (replicate-append-replicate {A = ℕ} (q - suc (length (rd ++ tw))) 1 0 ∙ ap (λ (k : ℕ). replicate k 0) e)
+
+-- what the code makes of a record x
+abbrev pub handing : List ℕ → List ℕ
+handing x = set (putMid 13 (length x - 13) x (drop 1 (take (length x - 13) (drop 13 x)) ++ (0 ∷ []))) 2 (getD x 2 0 - 1)
+
+hand-words : (s : ℕ) (d : Desk) → Fit s d → 0 < length (d .ready) → handing (recordOf s d) ≡ recordOf s (handed d)
+unfolding recordOf
+hand-words s d f h =
+    let l : List ℕ = listed d ++ replicate (2 * s - length (listed d)) 0 in
+    let n = length (recordOf s d) - 13 in
+    let e = f .eight in
+    let j : length l ≤ n = omega (arith, length-append (d .words) l) in
+    let p : drop 8 (d .words ++ l) ≡ l = drop-at (d .words) l 8 e in
+    let q : drop 1 (take n (drop 8 (d .words ++ l))) ++ (0 ∷ []) ≡ listed (handed d) ++ replicate (2 * s - length (listed (handed d))) 0
+    = ap (λ (t : List ℕ). drop 1 t ++ (0 ∷ [])) (ap (take n) p ∙ take-all n l j)
+    ∙ hand-list (2 * s) (d .ready) (d .tested ++ d .waiting) h (f .room) in
+    let t : length (d .ready) - 1 ≡ length (drop 1 (d .ready)) = sym (length-drop 1 (d .ready)) in
+    ap (λ (x : List ℕ). set x 2 (length (d .ready) - 1))
+    (put-all (d .owed) (d .read) (length (d .ready)) (length (d .tested)) (length (d .waiting)) (d .words) l (drop 1 (take n (drop 8 (d .words ++ l))) ++ (0 ∷ [])) n e j)
+    ∙ (λ i. d .owed ∷ d .read ∷ t i ∷ length (d .tested) ∷ length (d .waiting) ∷ (d .words ++ q i))
+
+pub hand-stores : (s : ℕ) (r : List ℕ) → Formed s r → 0 < getD r 2 0 → handing r ≡ recordOf s (handed (deskOf r))
+hand-stores s r f h =
+    let a = facts s r f .ready in
+    subst (λ (x : List ℕ). handing x ≡ recordOf s (handed (deskOf r))) (sym (f .is)) (hand-words s (deskOf r) (f .fit) (omega arith))
+
+-- nothing ready: the state stays
+pub hand-none : (s : ℕ) (r : List ℕ) → Formed s r → getD r 2 0 ≡ 0 → r ≡ recordOf s (handed (deskOf r))
+hand-none s r f h =
+    let d = deskOf r in
+    let e : d .ready ≡ [] = nil-of (d .ready) (sym (facts s r f .ready) ∙ h) in
+    f .is ∙ ap (λ (x : List ℕ). recordOf s (record { owed = d .owed; read = d .read; ready = x; tested = d .tested; waiting = d .waiting; words = d .words }))
+    (e ∙ sym (ap (drop 1) e))
+
+pub first-ready : (r : List ℕ) → 0 < getD r 2 0 → getD r 13 0 ≡ getD (deskOf r .ready) 0 0
+unfolding deskOf
+first-ready r h = sym (getD-take (getD r 2 0) (drop 13 r) 0 0 h ∙ getD-drop 13 r 0 0)
+
+pub none-ready : (r : List ℕ) → getD r 2 0 ≡ 0 → 0 ≡ getD (deskOf r .ready) 0 0
+unfolding deskOf
+none-ready r h = sym (ap (λ (k : ℕ). getD (take k (drop 13 r)) 0 0) h)
+
+-- ---- (a), of a formed record
+pub start-stores : (s : ℕ) (r : List ℕ) → Formed s r → getD r 3 0 ≡ 0 → set (set r 3 (getD r 4 0)) 4 0 ≡ recordOf s (testing (deskOf r))
+start-stores s r f h =
+    let d = deskOf r in
+    let a = facts s r f in
+    ap₂ (λ (x : List ℕ) (y : ℕ). set (set x 3 y) 4 0) (f .is) (a .waiting) ∙ start-words s d (sym (a .tested) ∙ h)
+
+pub start-none : (s : ℕ) (r : List ℕ) → Formed s r → (getD r 3 0 ≡ 0 → ⊥) → r ≡ recordOf s (testing (deskOf r))
+start-none s r f h =
+    let d = deskOf r in
+    f .is ∙ sym (rw (ne-eqb (length (d .tested)) 0 (λ z. h (facts s r f .tested ∙ z))))
+
+-- ---- (b), of a formed record: a, b and j as the code has them
+pub tested-part : (r : List ℕ) (a b : ℕ) → a ≡ getD r 2 0 → b ≡ getD r 3 0 → take (13 + a + b - (13 + a)) (drop (13 + a) r) ≡ deskOf r .tested
+unfolding deskOf
+tested-part r a b ea eb =
+    let n : 13 + a + b - (13 + a) ≡ b = omega arith in
+    ap₂ (λ (k : ℕ) (l : List ℕ). take k l) n (sym (drop-drop a 13 r)) ∙ ap₂ (λ (x y : ℕ). take x (drop y (drop 13 r))) eb ea
+
+pub see-stores : (s : ℕ) (r : List ℕ) (x j : ℕ) → Formed s r → j ≡ findPlace x (deskOf r .tested) (marks (deskOf r .words)) → j < length (deskOf r .tested)
+    → set (putMid 5 8 r (markPlace (take 8 (drop 5 r)) j)) 1 (getD r 1 0 + 1) ≡ recordOf s (seeing x (deskOf r))
+see-stores s r x j f e h =
+    let d = deskOf r in
+    let l = lt-ltb (findPlace x (d .tested) (marks (d .words))) (length (d .tested)) (omega arith) in
+    ap₂ (λ (y : List ℕ) (k : ℕ). set (putMid 5 8 y (markPlace (take 8 (drop 5 r)) j)) 1 (k + 1)) (f .is) (read-of r)
+    ∙ ap₂ (λ (ws : List ℕ) (i : ℕ). set (putMid 5 8 (recordOf s d) (markPlace ws i)) 1 (d .read + 1)) (words-of r) e
+    ∙ see-marked s d (markPlace (d .words) (findPlace x (d .tested) (marks (d .words)))) (f .fit .eight)
+    ∙ sym (rw l)
+
+pub see-none : (s : ℕ) (r : List ℕ) (x j : ℕ) → Formed s r → j ≡ findPlace x (deskOf r .tested) (marks (deskOf r .words)) → length (deskOf r .tested) ≤ j
+    → set r 1 (getD r 1 0 + 1) ≡ recordOf s (seeing x (deskOf r))
+see-none s r x j f e h =
+    let d = deskOf r in
+    let l = le-ltb (findPlace x (d .tested) (marks (d .words))) (length (d .tested)) (omega arith) in
+    ap₂ (λ (y : List ℕ) (k : ℕ). set y 1 (k + 1)) (f .is) (read-of r) ∙ see-unmarked s d ∙ sym (rw l)
+
+-- what the code finds, and what holds of it
+pub record Found (s : ℕ) (r : List ℕ) (x j : ℕ) : Type 0 where
+  pub is : j ≡ findPlace x (deskOf r .tested) (marks (deskOf r .words))
+  pub free : j < length (deskOf r .tested) → getD (marks (take 8 (drop 5 r))) j 0 ≡ 0
+
+pub found : (s : ℕ) (r : List ℕ) (x a b j : ℕ) → Formed s r → a ≡ getD r 2 0 → b ≡ getD r 3 0
+    → j ≡ findPlace x (take (13 + a + b - (13 + a)) (drop (13 + a) r)) (marks (take 8 (drop 5 r))) → Found s r x j
+found s r x a b j f ea eb p =
+    let d = deskOf r in
+    let q : j ≡ findPlace x (d .tested) (marks (d .words)) = p ∙ ap₂ (λ (l ws : List ℕ). findPlace x l (marks ws)) (tested-part r a b ea eb) (words-of r) in
+    let c = facts s r f in
+    let m = marks-length (d .words) in
+    let e = f .fit .eight in
+    record {
+      is = q;
+      free = λ h. ap₂ (λ (ws : List ℕ) (k : ℕ). getD (marks ws) k 0) (words-of r) q
+          ∙ found-unmarked x (d .tested) (marks (d .words)) (omega arith) (omega arith);
+    }
+
+-- ---- (c)
+
+-- a list of eight, word by word
+pub eight-is : (m : List ℕ) → length m ≡ 8 → m ≡ getD m 0 0 ∷ getD m 1 0 ∷ getD m 2 0 ∷ getD m 3 0 ∷ getD m 4 0 ∷ getD m 5 0 ∷ getD m 6 0 ∷ getD m 7 0 ∷ []
+eight-is m e = drop-cons m 0 0 (omega arith) ∙ ap (λ (t : List ℕ). getD m 0 0 ∷ t) (drop-cons m 1 0 (omega arith) ∙ ap (λ (t : List ℕ). getD m 1 0 ∷ t) (drop-cons m 2 0 (omega arith) ∙ ap (λ (t : List ℕ). getD m 2 0 ∷ t) (drop-cons m 3 0 (omega arith) ∙ ap (λ (t : List ℕ). getD m 3 0 ∷ t) (drop-cons m 4 0 (omega arith) ∙ ap (λ (t : List ℕ). getD m 4 0 ∷ t) (drop-cons m 5 0 (omega arith) ∙ ap (λ (t : List ℕ). getD m 5 0 ∷ t) (drop-cons m 6 0 (omega arith) ∙ ap (λ (t : List ℕ). getD m 6 0 ∷ t) (drop-cons m 7 0 (omega arith) ∙ ap (λ (t : List ℕ). getD m 7 0 ∷ t) (drop-of-length-le m {i = 8} (omega arith)))))))))
+
+-- what the code makes of a record x: ys in the place of the tested, no marks, and the counts
+abbrev pub settling : List ℕ → ℕ → ℕ → List ℕ → ℕ → ℕ → List ℕ
+settling x i n ys a w = set (set (set (set (putMid 5 8 (putMid i n x ys) (replicate 8 0)) 1 0) 2 a) 3 0) 4 w
+
+settle-words : (s : ℕ) (d : Desk) (i n a w : ℕ) (p q : List ℕ) → length (d .words) ≡ 8 → i ≡ 13 + length (d .ready) → n ≡ length (d .tested)
+    → length p + length q ≡ length (d .tested) → a ≡ length (d .ready ++ p) → w ≡ length (q ++ d .waiting)
+    → settling (recordOf s d) i n (p ++ q) a w
+    ≡ recordOf s (record { owed = d .owed; read = 0; ready = d .ready ++ p; tested = []; waiting = q ++ d .waiting; words = replicate 8 0 })
+unfolding recordOf
+settle-words s d i n a w p q e ei en h ea ew =
+    let z : List ℕ = replicate (2 * s - length (listed d)) 0 in
+    let nr = length (d .ready) in
+    let nt = length (d .tested) in
+    let nw = length (d .waiting) in
+    let l : listed d ++ z ≡ d .ready ++ (d .tested ++ (d .waiting ++ z)) = simp append-assoc in
+    let g : d .ready ++ ((p ++ q) ++ (d .waiting ++ z)) ≡ ((d .ready ++ p) ++ (q ++ d .waiting)) ++ z = simp append-assoc in
+    let c : length (listed d) ≡ length ((d .ready ++ p) ++ (q ++ d .waiting))
+    = omega (
+      arith,
+      length-append (d .ready) (d .tested ++ d .waiting),
+      length-append (d .tested) (d .waiting),
+      length-append (d .ready ++ p) (q ++ d .waiting),
+      length-append (d .ready) p,
+      length-append q (d .waiting),
+    ) in
+    let o1 : putMid i n (raw (d .owed) (d .read) nr nt nw (d .words) (listed d ++ z)) (p ++ q) ≡ raw (d .owed) (d .read) nr nt nw (d .words) (d .ready ++ ((p ++ q) ++ (d .waiting ++ z)))
+    = ap (λ (x : List ℕ). putMid i n (raw (d .owed) (d .read) nr nt nw (d .words) x) (p ++ q)) l
+    ∙ put-places (d .owed) (d .read) nr nt nw (d .words) (d .ready) (d .tested) (d .waiting ++ z) (p ++ q) i nr n e ei refl (sym en) in
+    ap (λ (x : List ℕ). set (set (set (set (putMid 5 8 x (replicate 8 0)) 1 0) 2 a) 3 0) 4 w) o1
+    ∙ ap (λ (x : List ℕ). set (set (set (set x 1 0) 2 a) 3 0) 4 w)
+    (put-marks (d .owed) (d .read) nr nt nw (d .words) (d .ready ++ ((p ++ q) ++ (d .waiting ++ z))) (replicate 8 0) e)
+    ∙ (λ j. d .owed ∷ 0 ∷ ea j ∷ 0 ∷ ew j ∷ (replicate 8 0 ++ (g j)))
+    ∙ ap (λ (k : ℕ). d .owed ∷ 0 ∷ length (d .ready ++ p) ∷ 0 ∷ length (q ++ d .waiting) ∷ (replicate 8 0 ++ (((d .ready ++ p) ++ (q ++ d .waiting)) ++ replicate (2 * s - k) 0))) c
+
+-- the words of a part are words
+take-small : (n : ℕ) (l : List ℕ) → ((i : ℕ) → getD l i 0 < 2 ^ 16) → (i : ℕ) → getD (take n l) i 0 < 2 ^ 16
+take-small zero l h i = lit< tt
+take-small (suc n) [] h i = lit< tt
+take-small (suc n) (x ∷ l) h zero = h 0
+take-small (suc n) (x ∷ l) h (suc i) = take-small n l (λ j. h (suc j)) i
+
+-- as the code has them: the three counts, the mark words and their count
+pub record Counted (s : ℕ) (r : List ℕ) (a b w k : ℕ) (m : List ℕ) : Type 0 where
+  pub ready : a ≡ length (deskOf r .ready)
+  pub tested : b ≡ length (deskOf r .tested)
+  pub waiting : w ≡ length (deskOf r .waiting)
+  pub marked : m ≡ deskOf r .words
+  pub part : take (13 + a + b - (13 + a)) (drop (13 + a) r) ≡ deskOf r .tested
+  pub kept : k ≡ length (pick 1 (marks (deskOf r .words)) (deskOf r .tested))
+  pub all : length (pick 0 (marks (deskOf r .words)) (deskOf r .tested)) + length (pick 1 (marks (deskOf r .words)) (deskOf r .tested)) ≡ length (deskOf r .tested)
+  pub eight : length m ≡ 8
+
+pub counted : (s : ℕ) (r : List ℕ) → Formed s r → ((i : ℕ) → getD r i 0 < 2 ^ 16) → (a b w k : ℕ) (m : List ℕ)
+    → a ≡ getD r 2 0 → b ≡ getD r 3 0 → w ≡ getD r 4 0 → m ≡ take 8 (drop 5 r) → k ≡ onesIn m → Counted s r a b w k m
+counted s r f h a b w k m ea eb ew em ek =
+    let d = deskOf r in
+    let c = facts s r f in
+    let e = f .fit .eight in
+    let n : length (d .tested) ≤ 16 * length (d .words) = omega arith in
+    let small : (i : ℕ) → getD (d .words) i 0 < 2 ^ 16
+    = subst (λ (l : List ℕ). (i : ℕ) → getD l i 0 < 2 ^ 16) (words-of r)
+    (take-small 8 (drop 5 r) (λ i. subst (λ (x : ℕ). x < 2 ^ 16) (sym (getD-drop 5 r i 0)) (h (5 + i)))) in
+    record {
+      ready = ea ∙ c .ready;
+      tested = eb ∙ c .tested;
+      waiting = ew ∙ c .waiting;
+      marked = em ∙ words-of r;
+      part = tested-part r a b ea eb;
+      kept = ek ∙ ap onesIn (em ∙ words-of r) ∙ marked-count (d .words) (d .tested) small n (f .fit .clear);
+      all = pick-all (marks (d .words)) (d .tested) (λ i. mark-small (d .words) i) (omega (arith, marks-length (d .words)));
+      eight = ap length (em ∙ words-of r) ∙ e;
+    }
+
+pub settle-stores : (s : ℕ) (r : List ℕ) → Formed s r → (a b w k : ℕ) (m : List ℕ) → Counted s r a b w k m → (ys zs : List ℕ)
+    → ys ≡ pick 0 (marks m) (take (13 + a + b - (13 + a)) (drop (13 + a) r)) ++ pick 1 (marks m) (take (13 + a + b - (13 + a)) (drop (13 + a) r))
+    → zs ≡ replicate 8 0
+    → set (set (set (set (putMid 5 8 (putMid (13 + a) (13 + a + b - (13 + a)) r ys) zs) 1 0) 2 (a + (b - k))) 3 0) 4 (w + k) ≡ recordOf s (settled (deskOf r))
+settle-stores s r f a b w k m c ys zs ey ez =
+    let d = deskOf r in
+    let p : List ℕ = pick 0 (marks (d .words)) (d .tested) in
+    let q : List ℕ = pick 1 (marks (d .words)) (d .tested) in
+    let y : ys ≡ p ++ q = ey ∙ ap₂ (λ (x l : List ℕ). pick 0 (marks x) l ++ pick 1 (marks x) l) (c .marked) (c .part) in
+    let n : 13 + a + b - (13 + a) ≡ b = omega arith in
+    let e1 : a + (b - k) ≡ length (d .ready ++ p) = omega (arith, length-append (d .ready) p, c .ready, c .tested, c .kept, c .all) in
+    let e2 : w + k ≡ length (q ++ d .waiting) = omega (arith, length-append q (d .waiting), c .waiting, c .kept) in
+    (λ i. set (set (set (set (putMid 5 8 (putMid (13 + a) (n i) (f .is i) (y i)) (ez i)) 1 0) 2 (a + (b - k))) 3 0) 4 (w + k))
+    ∙ settle-words s d (13 + a) b (a + (b - k)) (w + k) p q (f .fit .eight) (ap (λ (x : ℕ). 13 + x) (c .ready)) (c .tested) (c .all) e1 e2

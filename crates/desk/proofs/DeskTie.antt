@@ -1,0 +1,282 @@
+-- The desk in words, with its mark words, and the desk of the rules: the record is the same, and each part of a collect does the same. Assumes nothing.
+use mathlib.Core.Path.{_≡_, refl, sym, ap, ap₂, _∙_}
+use mathlib.Core.List.{List, [], _∷_, _++_, map}
+use mathlib.Core.Bool.{Bool, true, false, not, _&&_, cond}
+use Prim.Native.Nat.{ℕ, zero, suc, _+_, _-_, _*_, _%_, _^_, _≤_, _<_}
+use native.Mathlib.Omega.{arith}
+use lib.ListN.{length-take, length, getD, take, drop, set, replicate, length-append, length-map, replicate-append-replicate}
+use lib.Dec.{eqb, leb, ltb, eqb·suc-zero}
+use borrow.Author.Tests.{eqb-true, ltb-true}
+use Rattle.rules.specs.Hall.{TestedPlace, marked, unmarked, usedPlaces, Desk as RulesDesk}
+use Rattle.rules.specs.Steps.{begin, beginAt, handBack, mark, markEach, markedOf, readScreens, retire, scanAt, settle, settleIf, unmarkedOf}
+use Rattle.rules.specs.Table.{bitValue, bitsOfWords, decodeDesk, encodeDesk, every, listOf, marksOf, ones, recordSound, scanSound, sessionsOf, wordsOfBits}
+use Rattle.rules.specs.laws.Bools.{and-left, and-right}
+use Rattle.rules.specs.laws.Decoding.{length-places, record-again, small-drop, small-take}
+use Rattle.rules.specs.laws.Encoding.{desk-read-back, length-sessions}
+use Rattle.rules.specs.laws.Marks.{length-mark, length-mark-each, unmarked-and-marked}
+use Rattle.marks.specs.Words.{allZero}
+use Rattle.marks.specs.Marks.{pick}
+use Rattle.desk.proofs.WordDesk.{used, places, markWords, soundRecord, Desk, deskOf, listed, recordOf}
+use Rattle.desk.proofs.WordDesk.{testing, seeing, reading, settled, handed, Fit, Formed}
+use Rattle.desk.specs.Record.{Encoded}
+use Rattle.desk.proofs.FitLaws.{lengths, Left, left}
+use Rattle.desk.proofs.DeskLaws.{facts, record-length}
+use Rattle.desk.proofs.RecordLaws.{retire-words, owed-is, record-facts, ready-length, tested-length, waiting-length}
+use Rattle.desk.proofs.SoundRecordLaws.{sound-read-is}
+use Rattle.desk.proofs.MarkTie.{markBits, mark-bits, pick-unmarked, pick-marked, marking-is, none-zero-is, all-zero-is, clear-is, count-is}
+
+-- a desk of the rules, in words
+abbrev pub inWords : RulesDesk → Desk
+inWords D = record { owed = D .owed; read = D .scanned; ready = D .ready; tested = sessionsOf (D .tested); waiting = D .waiting; words = wordsOfBits 8 (markBits (D .tested)) }
+
+pub encoded-words : (s : ℕ) (D : RulesDesk) → encodeDesk s D ≡ recordOf s (inWords D)
+unfolding encodeDesk recordOf
+encoded-words s D = λ i. D .owed ∷ D .scanned ∷ length (D .ready) ∷ sym (length-sessions (D .tested)) i ∷ length (D .waiting) ∷ (wordsOfBits 8 (markBits (D .tested)) ++ (listOf D ++ replicate (2 * s - length (listOf D)) 0))
+
+zero-pad : (T : List TestedPlace) (m : ℕ) → allZero (drop (length (sessionsOf T)) (map bitValue (marksOf T ++ replicate m false))) ≡ true
+zero-pad [] zero = refl
+zero-pad [] (suc m) = zero-pad [] m
+zero-pad (unmarked x ∷ T) m = zero-pad T m
+zero-pad (marked x ∷ T) m = zero-pad T m
+
+pub room-is : (D : RulesDesk) → length (listed (inWords D)) ≡ usedPlaces D
+room-is D = omega (arith, lengths (inWords D), length-sessions (D .tested))
+
+pub fit-is : (s : ℕ) (D : RulesDesk) → s ≤ 64 → usedPlaces D ≤ 2 * s → Fit s (inWords D)
+fit-is s D h u =
+    record {
+      room = omega (arith, room-is D);
+      eight = refl;
+      clear = ap (λ (m : List ℕ). allZero (drop (length (sessionsOf (D .tested))) m)) (mark-bits (D .tested) (omega arith)) ∙ zero-pad (D .tested) (128 - length (D .tested));
+    }
+
+-- a record that codes the desk it is read as: what its words say
+pub encoded-left : (s : ℕ) (r : List ℕ) → Encoded s r → Left s (inWords (decodeDesk r)) r
+encoded-left s r c = left s (inWords (decodeDesk r)) r (c .most) (fit-is s (decodeDesk r) (c .most) (c .room)) (c .is ∙ encoded-words s (decodeDesk r))
+
+-- ---- (a)
+module _ (o k : ℕ) (R : List ℕ) where
+  abbrev mk : List TestedPlace → List ℕ → RulesDesk
+  mk T W = record { owed = o; scanned = k; ready = R; tested = T; waiting = W }
+
+  sessions-begin : (W : List ℕ) → W ≡ sessionsOf (map unmarked W)
+  sessions-begin [] = refl
+  sessions-begin (x ∷ W) = ap {B = List ℕ} (λ l. x ∷ l) (sessions-begin W)
+
+  marks-begin : (W : List ℕ) → marksOf (map unmarked W) ≡ replicate (length W) false
+  marks-begin [] = refl
+  marks-begin (x ∷ W) = ap {B = List Bool} (λ l. false ∷ l) (marks-begin W)
+
+  no-marks : (W : List ℕ) → length W ≤ 128 → markBits [] ≡ markBits (map unmarked W)
+  no-marks W h =
+      let n : length W + (128 - length W) ≡ 128 = omega arith in
+      sym (ap₂ {C = List Bool} (λ x y. x ++ y) (marks-begin W) (ap (λ (m : ℕ). replicate {A = Bool} (128 - m) false) (length-map W unmarked)) ∙ replicate-append-replicate (length W) (128 - length W) false ∙ ap (λ (m : ℕ). replicate {A = Bool} m false) n)
+
+  test-none : (W : List ℕ) → length W ≤ 128 → testing (inWords (mk [] W)) ≡ inWords (beginAt [] (mk [] W))
+  test-none W h = λ i. record { owed = o; read = k; ready = R; tested = sessions-begin W i; waiting = []; words = wordsOfBits 8 (no-marks W h i) }
+
+  test-some : (p : TestedPlace) (T : List TestedPlace) (W : List ℕ) → testing (inWords (mk (p ∷ T) W)) ≡ inWords (mk (p ∷ T) W)
+  test-some p T W = ap (λ (n : ℕ). cond (eqb n 0) (record { owed = o; read = k; ready = R; tested = W; waiting = []; words = wordsOfBits 8 (markBits (p ∷ T)) }) (inWords (mk (p ∷ T) W))) (length-sessions (p ∷ T)) ∙ ap (λ (b : Bool). cond b (record { owed = o; read = k; ready = R; tested = W; waiting = []; words = wordsOfBits 8 (markBits (p ∷ T)) }) (inWords (mk (p ∷ T) W))) (eqb·suc-zero (length T))
+
+  test-is : (T : List TestedPlace) (W : List ℕ) → length W ≤ 128 → testing (inWords (mk T W)) ≡ inWords (begin (mk T W))
+  test-is [] W h = test-none W h
+  test-is (p ∷ T) W h = test-some p T W
+
+pub testing-is : (D : RulesDesk) → length (D .waiting) ≤ 128 → testing (inWords D) ≡ inWords (begin D)
+testing-is D h = test-is (D .owed) (D .scanned) (D .ready) (D .tested) (D .waiting) h
+
+-- ---- (b)
+pub reading-is : (vs : List ℕ) (D : RulesDesk) → length (D .tested) ≤ 128 → reading vs (inWords D) ≡ inWords (readScreens vs D)
+reading-is [] D h = let e : D .scanned ≡ D .scanned + 0 = omega arith in λ i. record { owed = D .owed; read = e i; ready = D .ready; tested = sessionsOf (D .tested); waiting = D .waiting; words = wordsOfBits 8 (markBits (D .tested)) }
+reading-is (x ∷ vs) D h =
+    let E : RulesDesk = record { owed = D .owed; scanned = D .scanned + 1; ready = D .ready; tested = mark x (D .tested); waiting = D .waiting } in
+    let e : D .scanned + 1 + length vs ≡ D .scanned + suc (length vs) = omega arith in
+    ap (reading vs) (λ i. record { owed = D .owed; read = D .scanned + 1; ready = D .ready; tested = same x (D .tested) i; waiting = D .waiting; words = marking-is x (D .tested) h i })
+    ∙ reading-is vs E (omega (arith, length-mark x (D .tested)))
+    ∙ (λ i. record { owed = D .owed; read = e i; ready = D .ready; tested = sessionsOf (markEach vs (mark x (D .tested))); waiting = D .waiting; words = wordsOfBits 8 (markBits (markEach vs (mark x (D .tested)))) })
+  where
+    same : (v : ℕ) (T : List TestedPlace) → sessionsOf T ≡ sessionsOf (mark v T)
+    same v [] = refl
+    same v (marked y ∷ T) = ap {B = List ℕ} (λ l. y ∷ l) (same v T)
+    same v (unmarked y ∷ T) = go (eqb v y) (same v T)
+      where
+        go : (b : Bool) → sessionsOf T ≡ sessionsOf (mark v T) → y ∷ sessionsOf T ≡ sessionsOf (cond b (marked y ∷ T) (unmarked y ∷ mark v T))
+        go true ih = refl
+        go false ih = ap {B = List ℕ} (λ l. y ∷ l) ih
+
+-- ---- (c)
+pub settled-is : (D : RulesDesk) → length (D .tested) ≤ 128 → settled (inWords D) ≡ inWords (settleIf true D)
+settled-is D h =
+    let pad : List Bool = replicate (128 - length (D .tested)) false in
+    let m = mark-bits (D .tested) h in
+    let a = ap (λ (l : List ℕ). pick 0 l (sessionsOf (D .tested))) m ∙ pick-unmarked (D .tested) pad in
+    let b = ap (λ (l : List ℕ). pick 1 l (sessionsOf (D .tested))) m ∙ pick-marked (D .tested) pad in
+    (λ i. record { owed = D .owed; read = 0; ready = D .ready ++ a i; tested = []; waiting = b i ++ D .waiting; words = replicate 8 0 })
+
+-- ---- soundness
+six : (a b c d e f : Bool) → a && b && c && d && e && f ≡ a && (b && (c && (d && (e && f))))
+six true true true true e f = refl
+six true true true false e f = refl
+six true true false d e f = refl
+six true false c d e f = refl
+six false b c d e f = refl
+
+pub sound-is : (s : ℕ) (r : List ℕ) → ((i : ℕ) → getD (take 8 (drop 5 r)) i 0 < 2 ^ 16) → soundRecord s r ≡ recordSound s r
+unfolding soundRecord recordSound
+sound-is s r h =
+    (λ i. leb (used r) (2 * s) && none-zero-is (take (used r) (places r)) i && all-zero-is (drop (used r) (places r)) i && clear-is (getD r 3 0) (markWords r) i && sound-read-is s (getD r 3 0) (getD r 1 0) i && leb (count-is (markWords r) h i) (getD r 1 0))
+    ∙ six (leb (used r) (2 * s)) (every (λ x. not (eqb x 0)) (take (used r) (places r))) (every (λ x. eqb x 0) (drop (used r) (places r))) (eqb (ones (drop (getD r 3 0) (bitsOfWords (markWords r)))) 0) (scanSound s (getD r 3 0) (getD r 1 0)) (leb (ones (bitsOfWords (markWords r))) (getD r 1 0))
+
+pub sound-of : (s : ℕ) (r : List ℕ) → ((i : ℕ) → getD r i 0 < 2 ^ 16) → soundRecord s r ≡ recordSound s r
+sound-of s r h = sound-is s r (small-take 8 (drop 5 r) (small-drop 5 r h))
+
+pub sound-encoded : (s : ℕ) (r : List ℕ) → s ≤ 64 → length r ≡ 13 + 2 * s → ((i : ℕ) → getD r i 0 < 2 ^ 16) → recordSound s r ≡ true → Encoded s r
+unfolding decodeDesk
+sound-encoded s r h l sm e =
+    let g = record-facts s r (sound-of s r sm ∙ e) in
+    let u = g .room in
+    let a = ready-length s r l g in
+    let b = tested-length s r l g in
+    let c = waiting-length s r l g in
+    record { most = h; long = l; is = sym (record-again s r l h sm e); room = omega (arith, length-take (getD r 2 0) (drop 13 r), length-places (take (getD r 3 0) (drop (getD r 2 0) (drop 13 r))) (take (getD r 3 0) (bitsOfWords (take 8 (drop 5 r)))), length-take (getD r 3 0) (drop (getD r 2 0) (drop 13 r)), length-take (getD r 4 0) (drop (getD r 2 0 + getD r 3 0) (drop 13 r))) }
+
+-- ---- retire: what the code finds in the words, and its three stores
+pub record Finds (s : ℕ) (r : List ℕ) : Type 0 where
+  pub owed : getD r 0 0 ≡ decodeDesk r .owed
+  pub count : getD r 2 0 + getD r 3 0 + getD r 4 0 ≡ usedPlaces (decodeDesk r)
+  pub stores : (n : ℕ) → n ≡ usedPlaces (decodeDesk r) → n < 2 * s → set (set (set r (13 + n) (getD r 0 0)) 4 (getD r 4 0 + 1)) 0 0 ≡ encodeDesk s (retire (decodeDesk r))
+
+pub finds : (s : ℕ) (r : List ℕ) → Encoded s r → Finds s r
+unfolding decodeDesk deskOf
+finds s r c =
+    let D = decodeDesk r in
+    let l = encoded-left s r c in
+    let f = facts s r (l .formed-is) in
+    let t = ap (λ (d : Desk). length (d .tested)) (l .desk-is) in
+    let a = ap (λ (d : Desk). length (d .ready)) (l .desk-is) in
+    let w = ap (λ (d : Desk). length (d .waiting)) (l .desk-is) in
+    let o : getD r 0 0 ≡ D .owed = owed-is r in
+    let g : getD r 4 0 ≡ length (D .waiting) = f .waiting ∙ w in
+    record {
+      owed = o;
+      count = omega (arith, f .ready, f .tested, f .waiting, length-sessions (D .tested));
+      stores = λ n e h.
+          let q : n ≡ length (listed (inWords D)) = e ∙ sym (room-is D) in
+          (λ i. set (set (set ((c .is ∙ encoded-words s D) i) (13 + q i) (o i)) 4 (g i + 1)) 0 0)
+          ∙ retire-words s (inWords D) refl (omega arith) ∙ sym (encoded-words s (retire D));
+    }
+
+-- ---- the parts of a collect: the words that the code leaves, as the record of the rules' desk
+module _ (s : ℕ) (r : List ℕ) (c : Encoded s r) where
+  pub formed-of : Formed s r
+  formed-of = encoded-left s r c .formed-is
+
+  part-encoded : (f : Desk → Desk) (E : RulesDesk) → f (inWords (decodeDesk r)) ≡ inWords E → recordOf s (f (deskOf r)) ≡ encodeDesk s E
+  part-encoded f E e = ap (λ (d : Desk). recordOf s (f d)) (encoded-left s r c .desk-is) ∙ ap (recordOf s) e ∙ sym (encoded-words s E)
+
+  tested-most : length (decodeDesk r .tested) ≤ 128
+  tested-most = omega (arith, c .room, c .most)
+
+  pub begun-encoded : recordOf s (testing (deskOf r)) ≡ encodeDesk s (begin (decodeDesk r))
+  begun-encoded = part-encoded testing (begin (decodeDesk r)) (testing-is (decodeDesk r) (omega (arith, c .room, c .most)))
+
+  pub read-encoded : (x : ℕ) → recordOf s (seeing x (deskOf r)) ≡ encodeDesk s (readScreens (x ∷ []) (decodeDesk r))
+  read-encoded x = part-encoded (seeing x) (readScreens (x ∷ []) (decodeDesk r)) (reading-is (x ∷ []) (decodeDesk r) tested-most)
+
+  pub settled-encoded : recordOf s (settled (deskOf r)) ≡ encodeDesk s (settleIf true (decodeDesk r))
+  settled-encoded = part-encoded settled (settleIf true (decodeDesk r)) (settled-is (decodeDesk r) tested-most)
+
+  pub handed-encoded : recordOf s (handed (deskOf r)) ≡ encodeDesk s (handBack (decodeDesk r) .after)
+  handed-encoded = part-encoded handed (handBack (decodeDesk r) .after) refl
+
+  pub first-handed : getD (deskOf r .ready) 0 0 ≡ handBack (decodeDesk r) .session
+  first-handed = ap (λ (d : Desk). getD (d .ready) 0 0) (encoded-left s r c .desk-is)
+
+pub scanned-word : (r : List ℕ) → getD r 1 0 ≡ decodeDesk r .scanned
+unfolding decodeDesk
+scanned-word r = refl
+
+pub tested-word : (s : ℕ) (r : List ℕ) → Encoded s r → getD r 3 0 ≡ length (decodeDesk r .tested)
+tested-word s r c = facts s r (formed-of s r c) .tested ∙ ap (λ (d : Desk). length (d .tested)) (encoded-left s r c .desk-is) ∙ length-sessions (decodeDesk r .tested)
+
+-- ---- from one part to the next: a record that codes a desk
+pub record Again (s : ℕ) (D : RulesDesk) (r : List ℕ) : Type 0 where
+  pub encoded : Encoded s r
+  pub desk-is : decodeDesk r ≡ D
+
+pub again : (s : ℕ) (D : RulesDesk) (r : List ℕ) → s ≤ 64 → usedPlaces D ≤ 2 * s → r ≡ encodeDesk s D → Again s D r
+again s D r h u e =
+    let q : decodeDesk r ≡ D = ap decodeDesk e ∙ desk-read-back s D (omega arith) in
+    record {
+      encoded = record { most = h; long = ap length (e ∙ encoded-words s D) ∙ record-length s (inWords D) (fit-is s D h u); is = e ∙ ap (encodeDesk s) (sym q); room = omega (arith, ap usedPlaces q) };
+      desk-is = q;
+    }
+
+pub begin-places : (D : RulesDesk) → usedPlaces (begin D) ≡ usedPlaces D
+begin-places D = go (D .tested) refl
+  where
+    go : (T : List TestedPlace) → D .tested ≡ T → usedPlaces (beginAt T D) ≡ usedPlaces D
+    go [] e = omega (arith, length-map (D .waiting) unmarked, ap length e)
+    go (p ∷ T) e = refl
+
+pub scan-places : (T : List TestedPlace) (vs : List ℕ) (D : RulesDesk) → usedPlaces (scanAt T vs D) ≡ usedPlaces D
+scan-places [] vs D = refl
+scan-places (p ∷ T) vs D = omega (arith, length-mark-each vs (D .tested))
+
+pub settle-places : (s : ℕ) (D : RulesDesk) → usedPlaces (settle s D) ≡ usedPlaces D
+settle-places s D = go (eqb (D .scanned) s)
+  where
+    go : (b : Bool) → usedPlaces (settleIf b D) ≡ usedPlaces D
+    go true = omega (arith, length-append (D .ready) (unmarkedOf (D .tested)), length-append (markedOf (D .tested)) (D .waiting), unmarked-and-marked (D .tested))
+    go false = refl
+
+pub begin-scanned : (D : RulesDesk) → begin D .scanned ≡ D .scanned
+begin-scanned D = go (D .tested)
+  where
+    go : (T : List TestedPlace) → beginAt T D .scanned ≡ D .scanned
+    go [] = refl
+    go (p ∷ T) = refl
+
+pub scan-some : (T : List TestedPlace) (vs : List ℕ) (D : RulesDesk) → (length T ≡ 0 → ⊥) → readScreens vs D ≡ scanAt T vs D
+scan-some [] vs D h = absurd (h refl)
+scan-some (p ∷ T) vs D h = refl
+
+pub scan-none : (T : List TestedPlace) (vs : List ℕ) (D : RulesDesk) → length T ≡ 0 → D ≡ scanAt T vs D
+scan-none [] vs D h = refl
+scan-none (p ∷ T) vs D h = absurd (omega arith)
+
+-- ---- k is less than the number of screens
+pub scanned-below : (s : ℕ) (r : List ℕ) → 1 ≤ s → recordSound s r ≡ true → getD r 1 0 < s
+unfolding recordSound
+scanned-below s r h e = pass-k (getD r 3 0) (getD r 1 0) (and-left q5 q6 (and-right q4 (q5 && q6) (and-right q3 (q4 && (q5 && q6)) (and-right q2 (q3 && (q4 && (q5 && q6))) (and-right q1 (q2 && (q3 && (q4 && (q5 && q6)))) e)))))
+  where
+    q1 : Bool
+    q1 = leb (getD r 2 0 + getD r 3 0 + getD r 4 0) (2 * s)
+
+    q2 : Bool
+    q2 = every (λ x. not (eqb x 0)) (take (getD r 2 0 + getD r 3 0 + getD r 4 0) (drop 13 r))
+
+    q3 : Bool
+    q3 = every (λ x. eqb x 0) (drop (getD r 2 0 + getD r 3 0 + getD r 4 0) (drop 13 r))
+
+    q4 : Bool
+    q4 = eqb (ones (drop (getD r 3 0) (bitsOfWords (take 8 (drop 5 r))))) 0
+
+    q5 : Bool
+    q5 = scanSound s (getD r 3 0) (getD r 1 0)
+
+    q6 : Bool
+    q6 = leb (ones (bitsOfWords (take 8 (drop 5 r)))) (getD r 1 0)
+
+    pass-k : (n k : ℕ) → scanSound s n k ≡ true → k < s
+    pass-k zero k q = let z = eqb-true k 0 q in omega arith
+    pass-k (suc n) k q = ltb-true k s (and-right (leb 2 k) (ltb k s) (and-right (eqb (k % 2) 0) (leb 2 k && ltb k s) q))
+
+-- ---- two screens, one after the other
+pub read-places : (vs : List ℕ) (D : RulesDesk) → usedPlaces (readScreens vs D) ≡ usedPlaces D
+read-places vs D = omega (arith, length-mark-each vs (D .tested))
+
+pub two-read : (x y : ℕ) (D : RulesDesk) → readScreens (y ∷ []) (readScreens (x ∷ []) D) ≡ readScreens (x ∷ y ∷ []) D
+two-read x y D =
+    let e : D .scanned + 1 + 1 ≡ D .scanned + 2 = omega arith in
+    λ i. record { owed = D .owed; scanned = e i; ready = D .ready; tested = markEach (x ∷ y ∷ []) (D .tested); waiting = D .waiting }

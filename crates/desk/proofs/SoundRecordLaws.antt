@@ -1,0 +1,48 @@
+-- What the code of the soundness test of a record finds, as the parts of `soundRecord`. Assumes nothing.
+use mathlib.Core.Path.{_≡_, refl, sym, ap, _∙_}
+use mathlib.Core.List.{List}
+use mathlib.Core.Bool.{Bool, true, false, _&&_, cond}
+use Prim.Native.Nat.{ℕ, zero, suc, _+_, _-_, _*_, _%_, _≤_, _<_}
+use native.Mathlib.Omega.{arith}
+use lib.ListN.{length, getD, take, drop, length-drop}
+use lib.Seq.{drop-drop, take-all}
+use lib.Dec.{eqb, leb, ltb, eqb·suc-zero}
+use Rattle.rules.specs.Table.{scanSound}
+use borrow.Author.Tests.{le-leb, lt-leb}
+use Rattle.marks.specs.Words.{allZero, noneZero}
+use Rattle.marks.specs.Marks.{marks}
+use Rattle.desk.proofs.WordDesk.{used, places, markWords, soundRead}
+
+-- k fits the number of tested places: the rules' clauses, as one test
+pub sound-read-is : (s t k : ℕ) → soundRead s t k ≡ scanSound s t k
+sound-read-is s zero k = refl
+sound-read-is s (suc t) k = ap (λ (b : Bool). cond b (eqb k 0) (eqb (k % 2) 0 && leb 2 k && ltb k s)) (eqb·suc-zero t) ∙ and-and (eqb (k % 2) 0) (leb 2 k) (ltb k s)
+  where
+    and-and : (a b c : Bool) → a && b && c ≡ a && (b && c)
+    and-and true b c = refl
+    and-and false b c = refl
+
+-- ---- a record: n and t are the used places and the tested ones as the code has them, x is what a test of a part gave
+module _ (s : ℕ) (r : List ℕ) (n t : ℕ) (en : n ≡ used r) (et : t ≡ getD r 3 0) where
+  pub room : n ≤ 2 * s → leb (used r) (2 * s) ≡ true
+  room h = le-leb (used r) (2 * s) (omega arith)
+
+  pub no-room : 2 * s < n → leb (used r) (2 * s) ≡ false
+  no-room h = lt-leb (used r) (2 * s) (omega arith)
+
+  pub used-part : {x v : Bool} → x ≡ noneZero (take (13 + n - 13) (drop 13 r)) → x ≡ v → noneZero (take (used r) (places r)) ≡ v
+  used-part p q =
+      let e : used r ≡ 13 + n - 13 = omega arith in
+      ap (λ (k : ℕ). noneZero (take k (drop 13 r))) e ∙ sym p ∙ q
+
+  pub free-part : {x v : Bool} → x ≡ allZero (take (length r - (13 + n)) (drop (13 + n) r)) → x ≡ v → allZero (drop (used r) (places r)) ≡ v
+  free-part p q =
+      let h : length (drop (13 + n) r) ≤ length r - (13 + n) = omega (arith, length-drop (13 + n) r) in
+      ap (λ (k : ℕ). allZero (drop k (drop 13 r))) (sym en) ∙ ap allZero (drop-drop n 13 r ∙ sym (take-all (length r - (13 + n)) (drop (13 + n) r) h))
+      ∙ sym p ∙ q
+
+  pub mark-part : {x v : Bool} → x ≡ allZero (drop t (marks (take 8 (drop 5 r)))) → x ≡ v → allZero (drop (getD r 3 0) (marks (markWords r))) ≡ v
+  mark-part p q = ap (λ (k : ℕ). allZero (drop k (marks (markWords r)))) (sym et) ∙ sym p ∙ q
+
+  pub read-part : {x v : Bool} (k : ℕ) → k ≡ getD r 1 0 → x ≡ scanSound s t k → x ≡ v → soundRead s (getD r 3 0) (getD r 1 0) ≡ v
+  read-part k ek p q = sym (rw (← ek, ← et) (sym q ∙ p ∙ sym (sound-read-is s t k)))

@@ -1,0 +1,135 @@
+-- The desk in words, as the code works on it: its mark words stay words. No contract cites this; DeskTie ties it to the rules' desk.
+use Prim.Native.Nat.{ℕ, _+_, _*_, _-_, _%_, _≤_}
+use mathlib.Core.Path.{_≡_}
+use mathlib.Core.List.{List, [], _∷_, _++_}
+use mathlib.Core.Bool.{Bool, true, _&&_, cond}
+use lib.ListN.{length, getD, take, drop, replicate}
+use lib.Dec.{eqb, leb, ltb}
+use Rattle.marks.specs.Words.{allZero, noneZero}
+use Rattle.marks.specs.Marks.{marks, onesIn, findPlace, markPlace, pick}
+
+-- the words of a record
+abbrev pub size : ℕ → ℕ
+size s = 13 + 2 * s
+
+-- the mark words of a record, and its list of places
+abbrev pub markWords : List ℕ → List ℕ
+markWords r = take 8 (drop 5 r)
+
+abbrev pub places : List ℕ → List ℕ
+places r = drop 13 r
+
+-- the used places: the sum of the three counts
+abbrev pub used : List ℕ → ℕ
+used r = getD r 2 0 + getD r 3 0 + getD r 4 0
+
+-- with nothing tested k is 0; otherwise k is even, at least 2 and less than s
+abbrev pub soundRead : ℕ → ℕ → ℕ → Bool
+soundRead s tested k = cond (eqb tested 0) (eqb k 0) (eqb (k % 2) 0 && leb 2 k && ltb k s)
+
+unfoldable pub soundRecord : ℕ → List ℕ → Bool
+soundRecord s r =
+    leb (used r) (2 * s) && noneZero (take (used r) (places r)) && allZero (drop (used r) (places r))
+    && allZero (drop (getD r 3 0) (marks (markWords r)))
+    && soundRead s (getD r 3 0) (getD r 1 0)
+    && leb (onesIn (markWords r)) (getD r 1 0)
+
+-- What a record says: the owed session, k, the three groups of the list, and the mark words.
+pub record Desk : Type 0 where
+  pub owed : ℕ
+  pub read : ℕ
+  pub ready : List ℕ
+  pub tested : List ℕ
+  pub waiting : List ℕ
+  pub words : List ℕ
+
+unfoldable pub deskOf : List ℕ → Desk
+deskOf r =
+    record {
+      owed = getD r 0 0;
+      read = getD r 1 0;
+      ready = take (getD r 2 0) (places r);
+      tested = take (getD r 3 0) (drop (getD r 2 0) (places r));
+      waiting = take (getD r 4 0) (drop (getD r 3 0) (drop (getD r 2 0) (places r)));
+      words = markWords r;
+    }
+
+-- the list: ready first, then tested, then waiting
+abbrev pub listed : Desk → List ℕ
+listed d = d .ready ++ (d .tested ++ d .waiting)
+
+-- the record's words: owed, k, the three counts, the mark words, the list, then zeros up to 2s places
+unfoldable pub recordOf : ℕ → Desk → List ℕ
+recordOf s d =
+    d .owed ∷ d .read ∷ length (d .ready) ∷ length (d .tested) ∷ length (d .waiting)
+    ∷ (d .words ++ (listed d ++ replicate (2 * s - length (listed d)) 0))
+
+-- (a) nothing tested: all waiting become tested
+abbrev pub testing : Desk → Desk
+testing d =
+    cond (eqb (length (d .tested)) 0)
+    (record { owed = d .owed; read = d .read; ready = d .ready; tested = d .waiting; waiting = []; words = d .words })
+    d
+
+-- the mark words after a session was read: the first unmarked tested place with it is marked, if there is one
+abbrev pub marking : ℕ → List ℕ → List ℕ → List ℕ
+marking x tested ws =
+    cond (ltb (findPlace x tested (marks ws)) (length tested)) (markPlace ws (findPlace x tested (marks ws))) ws
+
+-- (b) one screen is read, and k grows by one
+abbrev pub seeing : ℕ → Desk → Desk
+seeing x d =
+    record {
+      owed = d .owed;
+      read = d .read + 1;
+      ready = d .ready;
+      tested = d .tested;
+      waiting = d .waiting;
+      words = marking x (d .tested) (d .words);
+    }
+
+-- several, in their order
+abbrev pub reading : List ℕ → Desk → Desk
+reading [] d = d
+reading (x ∷ xs) d = reading xs (seeing x d)
+
+-- (c) unmarked tested sessions join the end of ready, marked ones become waiting ahead of those waiting; marks and k go to 0
+abbrev pub settled : Desk → Desk
+settled d =
+    record {
+      owed = d .owed;
+      read = 0;
+      ready = d .ready ++ pick 0 (marks (d .words)) (d .tested);
+      tested = [];
+      waiting = pick 1 (marks (d .words)) (d .tested) ++ d .waiting;
+      words = replicate 8 0;
+    }
+
+-- (d) the first ready session leaves
+abbrev pub handed : Desk → Desk
+handed d =
+    record { owed = d .owed; read = d .read; ready = drop 1 (d .ready); tested = d .tested; waiting = d .waiting; words = d .words }
+
+-- What every part of a collect keeps: the list fits, there are eight mark words, and no place beyond the tested is marked.
+pub record Fit (s : ℕ) (d : Desk) : Type 0 where
+  pub room : length (listed d) ≤ 2 * s
+  pub eight : length (d .words) ≡ 8
+  pub clear : allZero (drop (length (d .tested)) (marks (d .words))) ≡ true
+
+-- a record that says such a state
+pub record Formed (s : ℕ) (r : List ℕ) : Type 0 where
+  pub most : s ≤ 64
+  pub is : r ≡ recordOf s (deskOf r)
+  pub fit : Fit s (deskOf r)
+
+-- the owed session goes to the end of the list as waiting, and nothing is owed
+abbrev pub retired : Desk → Desk
+retired d =
+    record {
+      owed = 0;
+      read = d .read;
+      ready = d .ready;
+      tested = d .tested;
+      waiting = d .waiting ++ (d .owed ∷ []);
+      words = d .words;
+    }

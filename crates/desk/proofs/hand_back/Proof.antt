@@ -1,0 +1,73 @@
+use Rattle.desk.proofs.DeskTie.{formed-of, first-handed, handed-encoded}
+use borrow.Rule.Slice.PartMut.{putMid}
+use lib.ListN.{getD, set}
+use mathlib.Core.List.{List}
+use mathlib.Core.Path.{ap}
+use Rattle.desk.proofs.DeskLaws.{facts, hand-stores, hand-none, first-ready, none-ready}
+use borrow.Rule.Slice.PartMut.{same-len-mid}
+use mathlib.Core.Path.{_∙_}
+use lib.ListN.{length, drop, length-take, length-drop}
+use Prim.Native.Nat.{ℕ, _-_}
+use native.Mathlib.Omega.{arith}
+use borrow.Author.Needs.{needs}
+use Rattle.desk.proofs.hand_back.Statement.{statement}
+use Rattle.desk.proofs.hand_back.Tie as tie
+
+slice-read-n : tie.Need-slice-read-n
+slice-read-n c = let a = facts (c .before .before .args .s) (c .before .before .args .r .now) (formed-of (c .before .before .args .s) (c .before .before .args .r .now) (c .before .before .pre)) in omega arith
+
+returns : tie.Need-returns
+returns c = (none-ready (c .before .before .before .args .r .now) (c .if1 .taken) ∙ first-handed (c .before .before .before .args .s) (c .before .before .before .args .r .now) (c .before .before .before .pre), hand-none (c .before .before .before .args .s) (c .before .before .before .args .r .now) (formed-of (c .before .before .before .args .s) (c .before .before .before .args .r .now) (c .before .before .before .pre)) (c .if1 .taken) ∙ handed-encoded (c .before .before .before .args .s) (c .before .before .before .args .r .now) (c .before .before .before .pre))
+
+slice-read-x : tie.Need-slice-read-x
+slice-read-x c = let a = facts (c .before .before .before .before .args .s) (c .before .before .before .before .args .r .now) (formed-of (c .before .before .before .before .args .s) (c .before .before .before .before .args .r .now) (c .before .before .before .before .pre)) in let z = c .before .if1 .left in omega arith
+
+sub-move-up : tie.Need-sub-move-up
+sub-move-up c = let a = facts (c .before .before .before .before .args .s) (c .before .before .before .before .args .r .now) (formed-of (c .before .before .before .before .args .s) (c .before .before .before .before .args .r .now) (c .before .before .before .before .pre)) in omega arith
+
+part-move-up-start : tie.Need-part-move-up-start
+part-move-up-start c = let a = facts (c .before .before .before .before .args .s) (c .before .before .before .before .args .r .now) (formed-of (c .before .before .before .before .args .s) (c .before .before .before .before .args .r .now) (c .before .before .before .before .pre)) in omega arith
+
+part-move-up-end : tie.Need-part-move-up-end
+part-move-up-end c = search needs
+
+move-up-requires : tie.Need-move-up-requires
+move-up-requires c κs =
+    let a = facts (c .before .before .before .before .before .args .s) (c .before .before .before .before .before .args .r .now) (formed-of (c .before .before .before .before .before .args .s) (c .before .before .before .before .before .args .r .now) (c .before .before .before .before .before .pre)) in
+    let z = c .before .before .if1 .left in
+    omega (arith, length-take (length (c .before .before .before .before .before .args .r .now) - 13) (drop 13 (c .before .before .before .before .before .args .r .now)), length-drop 13 (c .before .before .before .before .before .args .r .now))
+
+sub-r : tie.Need-sub-r
+sub-r c = search needs
+
+slice-write-r : tie.Need-slice-write-r
+slice-write-r c =
+    let a = facts (c .before .before .before .before .before .before .before .before .args .s) (c .before .before .before .before .before .before .before .before .args .r .now) (formed-of (c .before .before .before .before .before .before .before .before .args .s) (c .before .before .before .before .before .before .before .before .args .r .now) (c .before .before .before .before .before .before .before .before .pre)) in
+    let e = same-len-mid {X = ℕ} 13 (length (c .before .before .before .before .before .before .before .before .args .r .now) - 13) (c .before .before .before .before .before .before .before .before .args .r .now) (c .before .before .move-up .last .0) (c .before .before .move-up .kept .0) in
+    omega arith
+
+same-length : tie.Need-same-length
+same-length c = search needs
+
+returns-2 : tie.Need-returns-2
+returns-2 c =
+    let r = c .before .before .before .before .before .before .before .before .args .r .now in
+    let a = facts (c .before .before .before .before .before .before .before .before .args .s) r (formed-of (c .before .before .before .before .before .before .before .before .args .s) (c .before .before .before .before .before .before .before .before .args .r .now) (c .before .before .before .before .before .before .before .before .pre)) in
+    let z = c .before .before .before .before .before .if1 .left in
+    (first-ready r (omega arith) ∙ first-handed (c .before .before .before .before .before .before .before .before .args .s) (c .before .before .before .before .before .before .before .before .args .r .now) (c .before .before .before .before .before .before .before .before .pre), ap (λ (y : List ℕ). set (putMid 13 (length r - 13) r y) 2 (getD r 2 0 - 1)) (c .before .before .move-up .ensures) ∙ hand-stores (c .before .before .before .before .before .before .before .before .args .s) r (formed-of (c .before .before .before .before .before .before .before .before .args .s) (c .before .before .before .before .before .before .before .before .args .r .now) (c .before .before .before .before .before .before .before .before .pre)) (omega arith) ∙ handed-encoded (c .before .before .before .before .before .before .before .before .args .s) (c .before .before .before .before .before .before .before .before .args .r .now) (c .before .before .before .before .before .before .before .before .pre))
+
+pub hand-back-spec : {M : Type 1} → statement M
+hand-back-spec =
+    tie.close
+    (tie.spec
+    slice-read-n
+    returns
+    slice-read-x
+    sub-move-up
+    part-move-up-start
+    part-move-up-end
+    move-up-requires
+    sub-r
+    slice-write-r
+    same-length
+    returns-2)

@@ -1,0 +1,112 @@
+use Rattle.desk.proofs.DeskTie.{finds}
+use Rattle.rules.specs.Hall.{usedPlaces}
+use Rattle.rules.specs.Table.{decodeDesk}
+use borrow.Author.Tests.{eq-eqb, ne-eqb, lt-ltb, le-ltb}
+use lib.ListN.{length-set}
+use mathlib.Core.Path.{_≡_, refl, sym, _∙_}
+use Prim.Native.Nat.{_+_, _*_}
+use native.Mathlib.Omega.{arith}
+use borrow.Author.Needs.{needs}
+use Rattle.desk.proofs.retire_record.Statement.{statement}
+use Rattle.desk.proofs.retire_record.Tie as tie
+
+slice-read-owed : tie.Need-slice-read-owed
+slice-read-owed c = search needs
+
+returns : tie.Need-returns
+returns c =
+    let r = c .before .before .before .args .r .now in
+    let f = finds (c .before .before .before .args .s) r (c .before .before .before .pre) in
+    let e = eq-eqb (decodeDesk r .owed) 0 (sym (f .owed) ∙ c .if1 .taken) in
+    record { number = simp e; session = refl; after = refl }
+
+slice-read-waiting : tie.Need-slice-read-waiting
+slice-read-waiting c = search needs
+
+word-requires : tie.Need-word-requires
+word-requires c κs = search needs
+
+word-requires-2 : tie.Need-word-requires-2
+word-requires-2 c κs = search needs
+
+add-n : tie.Need-add-n
+add-n c = search needs
+
+word-requires-3 : tie.Need-word-requires-3
+word-requires-3 c κs = search needs
+
+add-n-2 : tie.Need-add-n-2
+add-n-2 c = search needs
+
+mul-if2 : tie.Need-mul-if2
+mul-if2 c = search needs
+
+same-length : tie.Need-same-length
+same-length c = search needs
+
+returns-2 : tie.Need-returns-2
+returns-2 c =
+    let r = c .before .before .before .before .before .before .before .before .before .before .before .args .r .now in
+    let s = c .before .before .before .before .before .before .before .before .before .before .before .args .s in
+    let f = finds s r (c .before .before .before .before .before .before .before .before .before .before .before .pre) in
+    let n = c .before .before .before .before .before .word .result + c .before .before .before .word2 .result + c .before .word3 .result in
+    let en : n ≡ usedPlaces (decodeDesk r) = omega (arith, c .before .before .before .before .before .word .ensures .0, c .before .before .before .word2 .ensures .0, c .before .word3 .ensures .0, f .count) in
+    let e1 = ne-eqb (decodeDesk r .owed) 0 (λ z. c .before .before .before .before .before .before .before .before .if1 .left (f .owed ∙ z)) in
+    let e2 = le-ltb (usedPlaces (decodeDesk r)) (2 * s) (omega (arith, c .if2 .taken)) in
+    record { number = simp (e1, e2); session = refl; after = refl }
+
+add-r : tie.Need-add-r
+add-r c = search needs
+
+mul-r : tie.Need-mul-r
+mul-r c = search needs
+
+slice-write-r : tie.Need-slice-write-r
+slice-write-r c = search needs
+
+add-r-2 : tie.Need-add-r-2
+add-r-2 c = search needs
+
+slice-write-r-2 : tie.Need-slice-write-r-2
+slice-write-r-2 c = simp length-set (omega arith)
+
+slice-write-r-3 : tie.Need-slice-write-r-3
+slice-write-r-3 c = simp length-set (omega arith)
+
+same-length-2 : tie.Need-same-length-2
+same-length-2 c = simp length-set
+
+returns-3 : tie.Need-returns-3
+returns-3 c =
+    let r = c .before .before .before .before .before .before .before .before .before .before .before .args .r .now in
+    let s = c .before .before .before .before .before .before .before .before .before .before .before .args .s in
+    let f = finds s r (c .before .before .before .before .before .before .before .before .before .before .before .pre) in
+    let n = c .before .before .before .before .before .word .result + c .before .before .before .word2 .result + c .before .word3 .result in
+    let en : n ≡ usedPlaces (decodeDesk r) = omega (arith, c .before .before .before .before .before .word .ensures .0, c .before .before .before .word2 .ensures .0, c .before .word3 .ensures .0, f .count) in
+    let e1 = ne-eqb (decodeDesk r .owed) 0 (λ z. c .before .before .before .before .before .before .before .before .if1 .left (f .owed ∙ z)) in
+    let e2 = lt-ltb (usedPlaces (decodeDesk r)) (2 * s) (omega (arith, c .if2 .left)) in
+    record { number = simp (e1, e2); session = f .owed; after = f .stores n en (c .if2 .left) }
+
+pub retire-record-spec : {M : Type 1} → statement M
+retire-record-spec =
+    tie.close
+    (tie.spec
+    slice-read-owed
+    returns
+    slice-read-waiting
+    word-requires
+    word-requires-2
+    add-n
+    word-requires-3
+    add-n-2
+    mul-if2
+    same-length
+    returns-2
+    add-r
+    mul-r
+    slice-write-r
+    add-r-2
+    slice-write-r-2
+    slice-write-r-3
+    same-length-2
+    returns-3)

@@ -1,0 +1,45 @@
+-- How many words of a table are enough.
+use Prim.Native.Nat.{ℕ, _≤_, _<_}
+use native.Mathlib.Omega.{arith}
+use mathlib.Core.Path.{_≡_, refl}
+use mathlib.Core.List.{List, [], _∷_}
+use lib.ListN.{length, getD}
+use Rattle.rules.specs.Hall.{Hall, hallOf, mostDesks, mostScreens, mostPositions}
+use Rattle.rules.specs.Table.{need, hallIn}
+use Rattle.rules.specs.Bytes.{wordsOfBytes}
+use Rattle.rules.specs.laws.Tables.{Opens}
+use Rattle.rules.specs.laws.Prefix.{need-at-most}
+use Rattle.host.specs.Heard.{Front}
+use Rattle.host.proofs.WordLaws.{words-length}
+
+header-alone : (H : Hall) → (Opens H → ⊥) → Front H 3
+header-alone H none = record { header = omega arith; most = omega arith; enough = λ o. absurd (none o) }
+
+-- by the hall's numbers: one is out of range, or all are in it
+module _ (P c L : ℕ) where
+  pub desks-out : (1 ≤ P → P ≤ mostDesks → ⊥) → Front (hallOf P c L) 3
+  desks-out none = header-alone (hallOf P c L) (λ o. none (o .desks .0) (o .desks .1))
+
+  pub screens-out : (1 ≤ c → c ≤ mostScreens → ⊥) → Front (hallOf P c L) 3
+  screens-out none = header-alone (hallOf P c L) (λ o. none (o .screens .0) (o .screens .1))
+
+  pub positions-out : (1 ≤ L → L ≤ mostPositions → ⊥) → Front (hallOf P c L) 3
+  positions-out none = header-alone (hallOf P c L) (λ o. none (o .positions .0) (o .positions .1))
+
+  pub all-in : (m : ℕ) → m ≡ need (hallOf P c L) → 1 ≤ P → P ≤ mostDesks → 1 ≤ c → c ≤ mostScreens → 1 ≤ L → L ≤ mostPositions
+      → Front (hallOf P c L) m
+  all-in m e p0 p1 c0 c1 l0 l1 =
+      let o : Opens (hallOf P c L) = record { desks = (p0, p1); screens = (c0, c1); positions = (l0, l1) } in
+      record { header = omega arith; most = omega (arith, need-at-most (hallOf P c L) o); enough = λ q. omega arith }
+
+-- a table of fewer than three words tells no hall
+no-third : (xs : List ℕ) → length xs ≤ 2 → getD xs 2 0 ≡ 0
+no-third [] h = refl
+no-third (x ∷ []) h = refl
+no-third (x ∷ y ∷ []) h = refl
+no-third (x ∷ y ∷ z ∷ xs) h = absurd (omega arith)
+
+pub no-header : (bytes : List ℕ) → length bytes < 6 → Front (hallIn (wordsOfBytes bytes)) 3
+no-header bytes h =
+    header-alone (hallIn (wordsOfBytes bytes))
+    (λ o. omega (arith, o .positions .0, no-third (wordsOfBytes bytes) (omega (arith, words-length bytes))))

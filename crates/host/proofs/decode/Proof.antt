@@ -1,0 +1,120 @@
+use Prim.Native.Nat.{ℕ, _≤_, _<_, _+_, _-_, _*_}
+use mathlib.Core.Path.{_≡_, refl, subst}
+use mathlib.Core.Logic.{⊎-elim}
+use native.Mathlib.Omega.{arith}
+use borrow.Author.Needs.{needs}
+use lib.ListN.{length, take, length-set}
+use Rattle.rules.specs.Bytes.{wordsOfBytes}
+use Rattle.host.proofs.WordLaws.{word-at2, words-length, read-more, read-all}
+use Rattle.host.proofs.decode.Statement.{statement}
+use Rattle.host.proofs.decode.Tie as tie
+
+abbrev Inv-loop : tie.InvT-loop
+Inv-loop bytes m words₀ half n i₀ words i =
+    (n ≤ m) × (n + n ≤ length bytes) × (n < m → length bytes ≤ n + n + 1) × (i ≤ n) × (length words ≡ length words₀) ×
+    (take i words ≡ take i (wordsOfBytes bytes))
+
+abbrev μ-loop : tie.MeasureT-loop
+μ-loop bytes m words₀ half n i₀ words i = n - i
+
+loop-holds : tie.Need-loop-holds Inv-loop μ-loop
+loop-holds c =
+    ⊎-elim (λ words. (omega arith, omega arith, (λ h. omega arith), omega arith, refl, refl))
+    (λ words. (omega arith, omega arith, (λ h. omega arith), omega arith, refl, refl)) (c .if1 .came)
+
+mul-low : tie.Need-mul-low Inv-loop μ-loop
+mul-low c = search needs
+
+shared-slice-read-low : tie.Need-shared-slice-read-low Inv-loop μ-loop
+shared-slice-read-low c = search needs
+
+cast-low : tie.Need-cast-low Inv-loop μ-loop
+cast-low c = omega (arith, c .shared-slice-known .given (2 * c .before .before .loop .i))
+
+mul-high : tie.Need-mul-high Inv-loop μ-loop
+mul-high c = search needs
+
+add-high : tie.Need-add-high Inv-loop μ-loop
+add-high c = search needs
+
+shared-slice-read-high : tie.Need-shared-slice-read-high Inv-loop μ-loop
+shared-slice-read-high c = search needs
+
+cast-high : tie.Need-cast-high Inv-loop μ-loop
+cast-high c = omega (arith, c .shared-slice-known2 .given (2 * c .before .before .before .loop .i + 1))
+
+mul-words : tie.Need-mul-words Inv-loop μ-loop
+mul-words c = omega (arith, c .shared-slice-known2 .given (2 * c .before .before .before .loop .i + 1))
+
+add-words : tie.Need-add-words Inv-loop μ-loop
+add-words c =
+    omega
+    (arith, c .shared-slice-known2 .given (2 * c .before .before .before .loop .i + 1), c .shared-slice-known2 .given (2 * c .before .before .before .loop .i))
+
+mul-words-2 : tie.Need-mul-words-2 Inv-loop μ-loop
+mul-words-2 c = search needs
+
+slice-write-words : tie.Need-slice-write-words Inv-loop μ-loop
+slice-write-words c = search needs
+
+add-i : tie.Need-add-i Inv-loop μ-loop
+add-i c = search needs
+
+loop-less : tie.Need-loop-less Inv-loop μ-loop
+loop-less c = search needs
+
+loop-again : tie.Need-loop-again Inv-loop μ-loop
+loop-again c =
+    let l = c .before .before .before .loop in
+    let s = c .before .before .before .before .before .args in
+    let h : l .i + l .i + 1 < length (s .bytes .now) = omega arith in (
+      search needs,
+      search needs,
+      l .inv .2,
+      omega arith,
+      simp length-set (l .inv .4),
+      read-more (l .words) (wordsOfBytes (s .bytes .now)) (l .i) _ (omega arith) (omega (arith, words-length (s .bytes .now)))
+          (word-at2 (s .bytes .now) (l .i) h) (l .inv .5),
+    )
+
+same-length : tie.Need-same-length Inv-loop μ-loop
+same-length c = search needs
+
+returns : tie.Need-returns Inv-loop μ-loop
+returns c =
+    let l = c .before .loop in
+    let s = c .before .before .before .args in
+    let n = c .before .before .if1 .n in
+    let e : l .i ≡ n = omega arith in
+    record {
+      fit = omega arith;
+      there = omega arith;
+      front =
+          read-all (l .words) (wordsOfBytes (s .bytes .now)) n (s .m)
+          (subst (λ (k : ℕ). take k (l .words) ≡ take k (wordsOfBytes (s .bytes .now))) e (l .inv .5)) (omega arith)
+          (λ h. let g : length (s .bytes .now) ≤ n + n + 1 = l .inv .2 h in omega (arith, words-length (s .bytes .now)));
+    }
+
+pub decode-spec : {M : Type 1} → statement M
+decode-spec =
+    tie.close
+    (tie.spec
+    Inv-loop
+    μ-loop
+    loop-holds
+    mul-low
+    shared-slice-read-low
+    cast-low
+    mul-high
+    add-high
+    shared-slice-read-high
+    cast-high
+    mul-words
+    add-words
+    mul-words-2
+    slice-write-words
+    add-i
+    loop-less
+    loop-again
+    same-length
+    returns)

@@ -1,0 +1,60 @@
+use Rattle.marks.proofs.Scan.{ended}
+use borrow.Author.Fill.{fill-more}
+use lib.ListN.{length, drop, set, length-set, replicate}
+use mathlib.Core.List.{List, _++_, append-nil}
+use mathlib.Core.Path.{_≡_, refl, _∙_, ap}
+use Prim.Native.Nat.{ℕ, _-_, _≤_}
+use native.Mathlib.Omega.{arith}
+use borrow.Author.Needs.{needs}
+use Rattle.marks.proofs.clear.Statement.{statement}
+use Rattle.marks.proofs.clear.Tie as tie
+
+abbrev Inv-loop : tie.InvT-loop
+Inv-loop l₀ i₀ l i = (i ≤ length l₀) × (length l ≡ length l₀) × (l ≡ replicate i 0 ++ drop i l₀)
+
+abbrev μ-loop : tie.MeasureT-loop
+μ-loop l₀ i₀ l i = length l₀ - i
+
+loop-holds : tie.Need-loop-holds Inv-loop μ-loop
+loop-holds c = (omega arith, refl, refl)
+
+mul-l : tie.Need-mul-l Inv-loop μ-loop
+mul-l c = search needs
+
+slice-write-l : tie.Need-slice-write-l Inv-loop μ-loop
+slice-write-l c = search needs
+
+add-i : tie.Need-add-i Inv-loop μ-loop
+add-i c = search needs
+
+loop-less : tie.Need-loop-less Inv-loop μ-loop
+loop-less c = search needs
+
+loop-again : tie.Need-loop-again Inv-loop μ-loop
+loop-again c =
+    let v = c .before .loop .inv in
+    (omega arith, length-set (c .before .loop .l) (c .before .loop .i) 0 ∙ c .before .loop .inv .1, ap (λ (t : List ℕ). set t (c .before .loop .i) 0) (c .before .loop .inv .2) ∙ fill-more (c .before .loop .i) 0 (c .before .before .args .l .now) (omega arith))
+
+same-length : tie.Need-same-length Inv-loop μ-loop
+same-length c = search needs
+
+returns : tie.Need-returns Inv-loop μ-loop
+returns c =
+    let v = c .before .loop .inv in
+    let e : c .before .loop .i ≡ length (c .before .before .args .l .now) = omega arith in
+    c .before .loop .inv .2 ∙ ap (λ (t : List ℕ). replicate (c .before .loop .i) 0 ++ t) (ended (c .before .before .args .l .now) (c .before .loop .i) (omega arith)) ∙ append-nil (replicate (c .before .loop .i) 0) ∙ ap (λ (k : ℕ). replicate k 0) e
+
+pub clear-spec : {M : Type 1} → statement M
+clear-spec =
+    tie.close
+    (tie.spec
+    Inv-loop
+    μ-loop
+    loop-holds
+    mul-l
+    slice-write-l
+    add-i
+    loop-less
+    loop-again
+    same-length
+    returns)

@@ -1,0 +1,113 @@
+use Rattle.marks.proofs.SplitLaws.{Going, going-none, going-unmarked, going-marked, going-end}
+use Rattle.marks.proofs.MarkLaws.{marks-length, is-unmarked, is-marked}
+use Rattle.marks.specs.Marks.{marks}
+use lib.ListN.{length}
+use mathlib.Core.Path.{sym, _∙_}
+use Prim.Native.Nat.{_-_}
+use native.Mathlib.Omega.{arith}
+use borrow.Author.Needs.{needs}
+use Rattle.marks.proofs.split.Statement.{statement}
+use Rattle.marks.proofs.split.Tie as tie
+
+abbrev Inv-loop : tie.InvT-loop
+Inv-loop l₀ m kept₀ j₀ u₀ l kept j u = Going l₀ (marks m) kept₀ l kept j u
+
+abbrev μ-loop : tie.MeasureT-loop
+μ-loop l₀ m kept₀ j₀ u₀ l kept j u = length l₀ - j
+
+loop-holds : tie.Need-loop-holds Inv-loop μ-loop
+loop-holds c = going-none (c .before .before .before .args .l .now) (marks (c .before .before .before .args .m .now)) (c .before .before .before .args .kept .now)
+
+mul-x : tie.Need-mul-x Inv-loop μ-loop
+mul-x c = search needs
+
+slice-read-x : tie.Need-slice-read-x Inv-loop μ-loop
+slice-read-x c = search needs
+
+marked-requires : tie.Need-marked-requires Inv-loop μ-loop
+marked-requires c κs = search needs
+
+sub-kept : tie.Need-sub-kept Inv-loop μ-loop
+sub-kept c = search needs
+
+mul-kept : tie.Need-mul-kept Inv-loop μ-loop
+mul-kept c = search needs
+
+slice-write-kept : tie.Need-slice-write-kept Inv-loop μ-loop
+slice-write-kept c = search needs
+
+add-j : tie.Need-add-j Inv-loop μ-loop
+add-j c = search needs
+
+loop-less : tie.Need-loop-less Inv-loop μ-loop
+loop-less c = search needs
+
+loop-again : tie.Need-loop-again Inv-loop μ-loop
+loop-again c =
+    let m = c .before .before .before .before .before .before .before .before .args .m .now in
+    let j = c .before .before .before .before .loop .j in
+    let i = c .before .before .before .before .loop .inv in
+    let g = marks-length m in
+    going-marked (c .before .before .before .before .before .before .before .before .args .l .now) (marks m) (c .before .before .before .before .before .before .before .before .args .kept .now) (c .before .before .before .before .loop .l) (c .before .before .before .before .loop .kept) j (c .before .before .before .before .loop .u) i (omega arith) (omega arith) (omega arith)
+    (is-marked m j (sym (c .before .marked .ensures) ∙ c .if1 .taken))
+
+mul-l : tie.Need-mul-l Inv-loop μ-loop
+mul-l c = search needs
+
+slice-write-l : tie.Need-slice-write-l Inv-loop μ-loop
+slice-write-l c = search needs
+
+add-u : tie.Need-add-u Inv-loop μ-loop
+add-u c = search needs
+
+add-j-2 : tie.Need-add-j-2 Inv-loop μ-loop
+add-j-2 c = search needs
+
+loop-less-2 : tie.Need-loop-less-2 Inv-loop μ-loop
+loop-less-2 c = search needs
+
+loop-again-2 : tie.Need-loop-again-2 Inv-loop μ-loop
+loop-again-2 c =
+    let m = c .before .before .before .before .before .before .before .before .args .m .now in
+    let j = c .before .before .before .before .loop .j in
+    let i = c .before .before .before .before .loop .inv in
+    let g = marks-length m in
+    going-unmarked (c .before .before .before .before .before .before .before .before .args .l .now) (marks m) (c .before .before .before .before .before .before .before .before .args .kept .now) (c .before .before .before .before .loop .l) (c .before .before .before .before .loop .kept) j (c .before .before .before .before .loop .u) i (omega arith) (omega arith) (omega arith)
+    (is-unmarked m j (omega arith) (sym (c .before .marked .ensures) ∙ c .if1 .left))
+
+same-length : tie.Need-same-length Inv-loop μ-loop
+same-length c = search needs
+
+same-length-2 : tie.Need-same-length-2 Inv-loop μ-loop
+same-length-2 c = search needs
+
+returns : tie.Need-returns Inv-loop μ-loop
+returns c =
+    let i = c .before .loop .inv in
+    going-end (c .before .before .before .before .before .args .l .now) (marks (c .before .before .before .before .before .args .m .now)) (c .before .before .before .before .before .args .kept .now) (c .before .loop .l) (c .before .loop .kept) (c .before .loop .j) (c .before .loop .u) i (omega arith)
+
+pub split-spec : {M : Type 1} → statement M
+split-spec =
+    tie.close
+    (tie.spec
+    Inv-loop
+    μ-loop
+    loop-holds
+    mul-x
+    slice-read-x
+    marked-requires
+    sub-kept
+    mul-kept
+    slice-write-kept
+    add-j
+    loop-less
+    loop-again
+    mul-l
+    slice-write-l
+    add-u
+    add-j-2
+    loop-less-2
+    loop-again-2
+    same-length
+    same-length-2
+    returns)
