@@ -1,9 +1,9 @@
--- What `enter` answers, taken apart: a refusal, or a sound table with the desk's place in it. Assumes nothing.
-use mathlib.Core.Path.{_≡_, refl, sym, ap, _∙_}
-use mathlib.Core.List.{List}
-use mathlib.Core.Bool.{Bool, true, false, cond}
+-- What `enter` answers, taken apart: a refusal, or a sound table with the desk's place in it.
 use Prim.Native.Nat.{ℕ, _≤_}
 use native.Mathlib.Omega.{arith}
+use mathlib.Core.Bool.{Bool, true, false, cond}
+use mathlib.Core.List.{List}
+use mathlib.Core.Path.{_≡_, refl, sym, ap, _∙_}
 use Rattle.rules.specs.Hall.{allScreens}
 use Rattle.rules.specs.Steps.{Call, inRange}
 use Rattle.rules.specs.Table.{hallIn, recordStart, sound, stepTable}

@@ -1,9 +1,9 @@
--- Where things stand in a table: bounds on products. Assumes nothing.
-use mathlib.Core.Path.{_≡_}
+-- Where things stand in a table: bounds on products.
 use Prim.Native.Nat.{ℕ, _+_, _-_, _*_, _≤_, _<_}
 use native.Mathlib.Nat.{mul-le-mul, mul-le-mul-right, suc-mul}
 use native.Mathlib.Omega.{arith}
 use mathlib.Core.List.{List}
+use mathlib.Core.Path.{_≡_}
 use lib.ListN.{take, drop}
 
 -- all records together, of the largest hall

@@ -1,14 +1,13 @@
--- The steps, return by return: what the code answers and leaves is what the rules say. Assumes nothing.
-use mathlib.Core.Path.{_≡_, refl, sym, ap, ap₂, _∙_}
-use mathlib.Core.List.{List, [], _∷_, _++_}
-use mathlib.Core.Bool.{Bool, true, false, not, cond}
+-- The steps, return by return: what the code answers and leaves is what the rules say.
 use Prim.Native.Nat.{ℕ, zero, suc, _+_, _-_, _*_, _^_, _≤_, _<_}
-use native.Mathlib.Omega.{arith}
 use native.Mathlib.Nat.{one-le-mul, add-assoc}
-use lib.ListN.{length, getD, take, drop, set, replicate}
-use lib.Seq.{getD-take, getD-drop, length-take-le, drop-drop}
-use lib.ListN.{length-drop}
+use native.Mathlib.Omega.{arith}
+use mathlib.Core.Bool.{Bool, true, false, not, cond}
+use mathlib.Core.List.{List, [], _∷_, _++_}
+use mathlib.Core.Path.{_≡_, refl, sym, ap, ap₂, _∙_}
 use lib.Dec.{eqb, leb}
+use lib.ListN.{length, getD, take, drop, set, replicate, length-drop}
+use lib.Seq.{getD-take, getD-drop, length-take-le, drop-drop}
 use borrow.Author.Tests.{eq-eqb, ne-eqb, le-leb, lt-leb}
 use Rattle.rules.specs.Hall.{Desk, Hall, allScreens, deskOf, screenIndex}
 use Rattle.rules.specs.Steps.{Collect, Collected, Drop, Retire, Swap, Take, collect, collectSeeing, firstNo, inRange, retire, retireQuestions}
@@ -19,9 +18,9 @@ use Rattle.rules.specs.laws.TableSteps.{accepted-open, accepted-step, asked, as
 use Rattle.reply.specs.declared.Reply.{Reply}
 use Rattle.reply.specs.declared.Reply.the-variants.{Accepted, BadDesks, BadScreens, BadPositions, TooShort, NoScreen, NoPosition, ScreenInUse, PositionEmpty, ScreenEmpty, DeskOwes}
 use Rattle.reply.specs.Answer.{answerOf, told}
+use Rattle.marks.proofs.Scan.{rest, ended}
 use Rattle.desk.specs.Record.{Encoded, Retired}
 use Rattle.desk.proofs.DeskTie.{sound-encoded, scanned-below}
-use Rattle.marks.proofs.Scan.{rest, ended}
 use Rattle.board.specs.declared.Place.{Place}
 use Rattle.board.proofs.EntryLaws.{Entered}
 use Rattle.board.proofs.SoundLaws.{Lent, lent, put-on, put-same}

@@ -1,12 +1,12 @@
 -- What every step asks first: is the table sound, is the desk one of the hall; and where the desk's things stand.
 use Prim.Native.Nat.{ℕ}
-use mathlib.Core.List.{List}
 use mathlib.Core.Bool.{cond}
+use mathlib.Core.List.{List}
 use Rattle.rules.specs.Hall.{allScreens}
 use Rattle.rules.specs.Steps.{inRange}
 use Rattle.rules.specs.Table.{hallIn, recordStart, sound}
-use Rattle.board.specs.declared.Place.{Place}
 use Rattle.reply.specs.declared.Reply.the-variants.{Unsound, NoDesk}
+use Rattle.board.specs.declared.Place.{Place}
 use Rattle.board.specs.declared.Entry.{Entry}
 use Rattle.board.specs.declared.Entry.the-variants.{No, At}
 

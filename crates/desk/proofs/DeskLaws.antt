@@ -1,19 +1,18 @@
--- Records and desk states: from a state to its record and back, and the words of a record after a part of it was replaced. Assumes nothing.
-use mathlib.Core.Path.{_≡_, refl, sym, ap, ap₂, _∙_, subst}
-use mathlib.Core.List.{List, [], _∷_, _++_, append-assoc, append-nil}
+-- Records and desk states: from a state to its record and back, and the words of a record after a part of it was replaced.
 use Prim.Native.Nat.{ℕ, zero, suc, _+_, _-_, _*_, _^_, _≤_, _<_}
-use native.Mathlib.Omega.{arith}
 use native.Mathlib.Nat.{not-suc-le-zero}
+use native.Mathlib.Omega.{arith}
+use mathlib.Core.List.{List, [], _∷_, _++_, append-assoc, append-nil}
+use mathlib.Core.Path.{_≡_, refl, sym, ap, ap₂, _∙_, subst}
+use lib.Dec.{lit<}
 use lib.ListN.{length, getD, take, drop, set, replicate, length-append, length-drop, length-replicate, drop-of-length-le, replicate-append-replicate}
 use lib.Seq.{drop-cons, getD-take, getD-drop, take-all, drop-drop, take-append-seam, drop-append-seam, take-at, drop-at, take-append-add, drop-append-add}
-use lib.Dec.{lit<}
 use borrow.Author.Tests.{eq-eqb, ne-eqb, lt-ltb, le-ltb}
 use borrow.Rule.Slice.PartMut.{putMid}
 use Rattle.marks.specs.Marks.{marks, onesIn, findPlace, markPlace, pick}
-use Rattle.desk.proofs.WordDesk.{Desk, deskOf, listed, recordOf}
-use Rattle.desk.proofs.WordDesk.{testing, seeing, settled, handed, Fit, Formed}
 use Rattle.marks.proofs.MarkLaws.{marks-length, mark-small}
 use Rattle.marks.proofs.PlaceLaws.{found-unmarked, marked-count, pick-all}
+use Rattle.desk.proofs.WordDesk.{WordDesk, wordDesk, listed, recordWords, testing, seeing, settled, handed, Fit, Formed}
 
 -- ---- a record's words: five, the mark words and the places
 abbrev pub raw : ℕ → ℕ → ℕ → ℕ → ℕ → List ℕ → List ℕ → List ℕ
@@ -21,16 +20,16 @@ raw o k a b c ws l = o ∷ k ∷ a ∷ b ∷ c ∷ (ws ++ l)
 
 -- ---- from a state to its record and back
 
-pub record-length : (s : ℕ) (d : Desk) → Fit s d → length (recordOf s d) ≡ 13 + 2 * s
-unfolding recordOf
+pub record-length : (s : ℕ) (d : WordDesk) → Fit s d → length (recordWords s d) ≡ 13 + 2 * s
+unfolding recordWords
 record-length s d f =
     let z : List ℕ = replicate (2 * s - length (listed d)) 0 in
     let a = f .room in
     let b = f .eight in
     omega (arith, length-append (d .words) (listed d ++ z), length-append (listed d) z, length-replicate {A = ℕ} (2 * s - length (listed d)) 0)
 
-pub round : (s : ℕ) (d : Desk) → length (d .words) ≡ 8 → deskOf (recordOf s d) ≡ d
-unfolding recordOf deskOf
+pub round : (s : ℕ) (d : WordDesk) → length (d .words) ≡ 8 → wordDesk (recordWords s d) ≡ d
+unfolding recordWords wordDesk
 round s d e =
     let z : List ℕ = replicate (2 * s - length (listed d)) 0 in
     let w : take 8 (d .words ++ (listed d ++ z)) ≡ d .words = take-at (d .words) (listed d ++ z) 8 e in
@@ -45,24 +44,24 @@ round s d e =
     ∙ ap (take (length (d .waiting))) (drop-append-seam (d .tested) (d .waiting ++ z)) ∙ take-append-seam (d .waiting) z in
     (λ i. record { owed = d .owed; read = d .read; ready = a i; tested = b i; waiting = c i; words = w i })
 
-pub formed : (s : ℕ) (d : Desk) → s ≤ 64 → Fit s d → Formed s (recordOf s d)
+pub formed : (s : ℕ) (d : WordDesk) → s ≤ 64 → Fit s d → Formed s (recordWords s d)
 formed s d h f =
     let e = round s d (f .eight) in
-    record { most = h; is = ap (recordOf s) (sym e); fit = subst (λ (x : Desk). Fit s x) (sym e) f }
+    record { most = h; is = ap (recordWords s) (sym e); fit = subst (λ (x : WordDesk). Fit s x) (sym e) f }
 
 -- ---- what the words of a formed record are
 pub record Facts (s : ℕ) (r : List ℕ) : Type 0 where
   pub long : length r ≡ 13 + 2 * s
-  pub ready : getD r 2 0 ≡ length (deskOf r .ready)
-  pub tested : getD r 3 0 ≡ length (deskOf r .tested)
-  pub waiting : getD r 4 0 ≡ length (deskOf r .waiting)
-  pub sum : length (deskOf r .ready) + length (deskOf r .tested) + length (deskOf r .waiting) ≤ 2 * s
+  pub ready : getD r 2 0 ≡ length (wordDesk r .ready)
+  pub tested : getD r 3 0 ≡ length (wordDesk r .tested)
+  pub waiting : getD r 4 0 ≡ length (wordDesk r .waiting)
+  pub sum : length (wordDesk r .ready) + length (wordDesk r .tested) + length (wordDesk r .waiting) ≤ 2 * s
   pub most : s ≤ 64
 
 pub facts : (s : ℕ) (r : List ℕ) → Formed s r → Facts s r
-unfolding recordOf
+unfolding recordWords
 facts s r f =
-    let d = deskOf r in
+    let d = wordDesk r in
     let m = f .fit .room in
     record {
       long = ap length (f .is) ∙ record-length s d (f .fit);
@@ -73,12 +72,12 @@ facts s r f =
       most = f .most;
     }
 
-pub read-of : (r : List ℕ) → getD r 1 0 ≡ deskOf r .read
-unfolding deskOf
+pub read-of : (r : List ℕ) → getD r 1 0 ≡ wordDesk r .read
+unfolding wordDesk
 read-of r = refl
 
-pub words-of : (r : List ℕ) → take 8 (drop 5 r) ≡ deskOf r .words
-unfolding deskOf
+pub words-of : (r : List ℕ) → take 8 (drop 5 r) ≡ wordDesk r .words
+unfolding wordDesk
 words-of r = refl
 
 -- ---- (a)
@@ -89,8 +88,8 @@ nil-of (x ∷ l) e = absurd (suc-not (length l) e)
     suc-not : (n : ℕ) → suc n ≡ 0 → ⊥
     suc-not n e = omega arith
 
-pub start-words : (s : ℕ) (d : Desk) → length (d .tested) ≡ 0 → set (set (recordOf s d) 3 (length (d .waiting))) 4 0 ≡ recordOf s (testing d)
-unfolding recordOf
+pub start-words : (s : ℕ) (d : WordDesk) → length (d .tested) ≡ 0 → set (set (recordWords s d) 3 (length (d .waiting))) 4 0 ≡ recordWords s (testing d)
+unfolding recordWords
 start-words s d e =
     let t = nil-of (d .tested) e in
     let l : listed d ≡ d .ready ++ (d .waiting ++ [])
@@ -118,18 +117,18 @@ put-places o k a b c ws p q r ys i n m e h ep eq =
     ∙ ap (λ (x : List ℕ). o ∷ k ∷ a ∷ b ∷ c ∷ x) (append-assoc ws p (ys ++ r))
 
 -- ---- (b)
-abbrev pub withWords : Desk → List ℕ → Desk
+abbrev pub withWords : WordDesk → List ℕ → WordDesk
 withWords d ws =
     record { owed = d .owed; read = d .read + 1; ready = d .ready; tested = d .tested; waiting = d .waiting; words = ws }
 
-pub see-marked : (s : ℕ) (d : Desk) (ys : List ℕ) → length (d .words) ≡ 8 → set (putMid 5 8 (recordOf s d) ys) 1 (d .read + 1) ≡ recordOf s (withWords d ys)
-unfolding recordOf
+pub see-marked : (s : ℕ) (d : WordDesk) (ys : List ℕ) → length (d .words) ≡ 8 → set (putMid 5 8 (recordWords s d) ys) 1 (d .read + 1) ≡ recordWords s (withWords d ys)
+unfolding recordWords
 see-marked s d ys e =
     ap (λ (x : List ℕ). set x 1 (d .read + 1))
     (put-marks (d .owed) (d .read) (length (d .ready)) (length (d .tested)) (length (d .waiting)) (d .words) (listed d ++ replicate (2 * s - length (listed d)) 0) ys e)
 
-pub see-unmarked : (s : ℕ) (d : Desk) → set (recordOf s d) 1 (d .read + 1) ≡ recordOf s (withWords d (d .words))
-unfolding recordOf
+pub see-unmarked : (s : ℕ) (d : WordDesk) → set (recordWords s d) 1 (d .read + 1) ≡ recordWords s (withWords d (d .words))
+unfolding recordWords
 see-unmarked s d = refl
 
 -- ---- (d)
@@ -153,11 +152,11 @@ hand-list q (x ∷ rd) tw h g =
 abbrev pub handing : List ℕ → List ℕ
 handing x = set (putMid 13 (length x - 13) x (drop 1 (take (length x - 13) (drop 13 x)) ++ (0 ∷ []))) 2 (getD x 2 0 - 1)
 
-hand-words : (s : ℕ) (d : Desk) → Fit s d → 0 < length (d .ready) → handing (recordOf s d) ≡ recordOf s (handed d)
-unfolding recordOf
+hand-words : (s : ℕ) (d : WordDesk) → Fit s d → 0 < length (d .ready) → handing (recordWords s d) ≡ recordWords s (handed d)
+unfolding recordWords
 hand-words s d f h =
     let l : List ℕ = listed d ++ replicate (2 * s - length (listed d)) 0 in
-    let n = length (recordOf s d) - 13 in
+    let n = length (recordWords s d) - 13 in
     let e = f .eight in
     let j : length l ≤ n = omega (arith, length-append (d .words) l) in
     let p : drop 8 (d .words ++ l) ≡ l = drop-at (d .words) l 8 e in
@@ -169,72 +168,72 @@ hand-words s d f h =
     (put-all (d .owed) (d .read) (length (d .ready)) (length (d .tested)) (length (d .waiting)) (d .words) l (drop 1 (take n (drop 8 (d .words ++ l))) ++ (0 ∷ [])) n e j)
     ∙ (λ i. d .owed ∷ d .read ∷ t i ∷ length (d .tested) ∷ length (d .waiting) ∷ (d .words ++ q i))
 
-pub hand-stores : (s : ℕ) (r : List ℕ) → Formed s r → 0 < getD r 2 0 → handing r ≡ recordOf s (handed (deskOf r))
+pub hand-stores : (s : ℕ) (r : List ℕ) → Formed s r → 0 < getD r 2 0 → handing r ≡ recordWords s (handed (wordDesk r))
 hand-stores s r f h =
     let a = facts s r f .ready in
-    subst (λ (x : List ℕ). handing x ≡ recordOf s (handed (deskOf r))) (sym (f .is)) (hand-words s (deskOf r) (f .fit) (omega arith))
+    subst (λ (x : List ℕ). handing x ≡ recordWords s (handed (wordDesk r))) (sym (f .is)) (hand-words s (wordDesk r) (f .fit) (omega arith))
 
 -- nothing ready: the state stays
-pub hand-none : (s : ℕ) (r : List ℕ) → Formed s r → getD r 2 0 ≡ 0 → r ≡ recordOf s (handed (deskOf r))
+pub hand-none : (s : ℕ) (r : List ℕ) → Formed s r → getD r 2 0 ≡ 0 → r ≡ recordWords s (handed (wordDesk r))
 hand-none s r f h =
-    let d = deskOf r in
+    let d = wordDesk r in
     let e : d .ready ≡ [] = nil-of (d .ready) (sym (facts s r f .ready) ∙ h) in
-    f .is ∙ ap (λ (x : List ℕ). recordOf s (record { owed = d .owed; read = d .read; ready = x; tested = d .tested; waiting = d .waiting; words = d .words }))
+    f .is ∙ ap (λ (x : List ℕ). recordWords s (record { owed = d .owed; read = d .read; ready = x; tested = d .tested; waiting = d .waiting; words = d .words }))
     (e ∙ sym (ap (drop 1) e))
 
-pub first-ready : (r : List ℕ) → 0 < getD r 2 0 → getD r 13 0 ≡ getD (deskOf r .ready) 0 0
-unfolding deskOf
+pub first-ready : (r : List ℕ) → 0 < getD r 2 0 → getD r 13 0 ≡ getD (wordDesk r .ready) 0 0
+unfolding wordDesk
 first-ready r h = sym (getD-take (getD r 2 0) (drop 13 r) 0 0 h ∙ getD-drop 13 r 0 0)
 
-pub none-ready : (r : List ℕ) → getD r 2 0 ≡ 0 → 0 ≡ getD (deskOf r .ready) 0 0
-unfolding deskOf
+pub none-ready : (r : List ℕ) → getD r 2 0 ≡ 0 → 0 ≡ getD (wordDesk r .ready) 0 0
+unfolding wordDesk
 none-ready r h = sym (ap (λ (k : ℕ). getD (take k (drop 13 r)) 0 0) h)
 
 -- ---- (a), of a formed record
-pub start-stores : (s : ℕ) (r : List ℕ) → Formed s r → getD r 3 0 ≡ 0 → set (set r 3 (getD r 4 0)) 4 0 ≡ recordOf s (testing (deskOf r))
+pub start-stores : (s : ℕ) (r : List ℕ) → Formed s r → getD r 3 0 ≡ 0 → set (set r 3 (getD r 4 0)) 4 0 ≡ recordWords s (testing (wordDesk r))
 start-stores s r f h =
-    let d = deskOf r in
+    let d = wordDesk r in
     let a = facts s r f in
     ap₂ (λ (x : List ℕ) (y : ℕ). set (set x 3 y) 4 0) (f .is) (a .waiting) ∙ start-words s d (sym (a .tested) ∙ h)
 
-pub start-none : (s : ℕ) (r : List ℕ) → Formed s r → (getD r 3 0 ≡ 0 → ⊥) → r ≡ recordOf s (testing (deskOf r))
+pub start-none : (s : ℕ) (r : List ℕ) → Formed s r → (getD r 3 0 ≡ 0 → ⊥) → r ≡ recordWords s (testing (wordDesk r))
 start-none s r f h =
-    let d = deskOf r in
+    let d = wordDesk r in
     f .is ∙ sym (rw (ne-eqb (length (d .tested)) 0 (λ z. h (facts s r f .tested ∙ z))))
 
 -- ---- (b), of a formed record: a, b and j as the code has them
-pub tested-part : (r : List ℕ) (a b : ℕ) → a ≡ getD r 2 0 → b ≡ getD r 3 0 → take (13 + a + b - (13 + a)) (drop (13 + a) r) ≡ deskOf r .tested
-unfolding deskOf
+pub tested-part : (r : List ℕ) (a b : ℕ) → a ≡ getD r 2 0 → b ≡ getD r 3 0 → take (13 + a + b - (13 + a)) (drop (13 + a) r) ≡ wordDesk r .tested
+unfolding wordDesk
 tested-part r a b ea eb =
     let n : 13 + a + b - (13 + a) ≡ b = omega arith in
     ap₂ (λ (k : ℕ) (l : List ℕ). take k l) n (sym (drop-drop a 13 r)) ∙ ap₂ (λ (x y : ℕ). take x (drop y (drop 13 r))) eb ea
 
-pub see-stores : (s : ℕ) (r : List ℕ) (x j : ℕ) → Formed s r → j ≡ findPlace x (deskOf r .tested) (marks (deskOf r .words)) → j < length (deskOf r .tested)
-    → set (putMid 5 8 r (markPlace (take 8 (drop 5 r)) j)) 1 (getD r 1 0 + 1) ≡ recordOf s (seeing x (deskOf r))
+pub see-stores : (s : ℕ) (r : List ℕ) (x j : ℕ) → Formed s r → j ≡ findPlace x (wordDesk r .tested) (marks (wordDesk r .words)) → j < length (wordDesk r .tested)
+    → set (putMid 5 8 r (markPlace (take 8 (drop 5 r)) j)) 1 (getD r 1 0 + 1) ≡ recordWords s (seeing x (wordDesk r))
 see-stores s r x j f e h =
-    let d = deskOf r in
+    let d = wordDesk r in
     let l = lt-ltb (findPlace x (d .tested) (marks (d .words))) (length (d .tested)) (omega arith) in
     ap₂ (λ (y : List ℕ) (k : ℕ). set (putMid 5 8 y (markPlace (take 8 (drop 5 r)) j)) 1 (k + 1)) (f .is) (read-of r)
-    ∙ ap₂ (λ (ws : List ℕ) (i : ℕ). set (putMid 5 8 (recordOf s d) (markPlace ws i)) 1 (d .read + 1)) (words-of r) e
+    ∙ ap₂ (λ (ws : List ℕ) (i : ℕ). set (putMid 5 8 (recordWords s d) (markPlace ws i)) 1 (d .read + 1)) (words-of r) e
     ∙ see-marked s d (markPlace (d .words) (findPlace x (d .tested) (marks (d .words)))) (f .fit .eight)
     ∙ sym (rw l)
 
-pub see-none : (s : ℕ) (r : List ℕ) (x j : ℕ) → Formed s r → j ≡ findPlace x (deskOf r .tested) (marks (deskOf r .words)) → length (deskOf r .tested) ≤ j
-    → set r 1 (getD r 1 0 + 1) ≡ recordOf s (seeing x (deskOf r))
+pub see-none : (s : ℕ) (r : List ℕ) (x j : ℕ) → Formed s r → j ≡ findPlace x (wordDesk r .tested) (marks (wordDesk r .words)) → length (wordDesk r .tested) ≤ j
+    → set r 1 (getD r 1 0 + 1) ≡ recordWords s (seeing x (wordDesk r))
 see-none s r x j f e h =
-    let d = deskOf r in
+    let d = wordDesk r in
     let l = le-ltb (findPlace x (d .tested) (marks (d .words))) (length (d .tested)) (omega arith) in
     ap₂ (λ (y : List ℕ) (k : ℕ). set y 1 (k + 1)) (f .is) (read-of r) ∙ see-unmarked s d ∙ sym (rw l)
 
 -- what the code finds, and what holds of it
 pub record Found (s : ℕ) (r : List ℕ) (x j : ℕ) : Type 0 where
-  pub is : j ≡ findPlace x (deskOf r .tested) (marks (deskOf r .words))
-  pub free : j < length (deskOf r .tested) → getD (marks (take 8 (drop 5 r))) j 0 ≡ 0
+  pub is : j ≡ findPlace x (wordDesk r .tested) (marks (wordDesk r .words))
+  pub free : j < length (wordDesk r .tested) → getD (marks (take 8 (drop 5 r))) j 0 ≡ 0
 
 pub found : (s : ℕ) (r : List ℕ) (x a b j : ℕ) → Formed s r → a ≡ getD r 2 0 → b ≡ getD r 3 0
     → j ≡ findPlace x (take (13 + a + b - (13 + a)) (drop (13 + a) r)) (marks (take 8 (drop 5 r))) → Found s r x j
 found s r x a b j f ea eb p =
-    let d = deskOf r in
+    let d = wordDesk r in
     let q : j ≡ findPlace x (d .tested) (marks (d .words)) = p ∙ ap₂ (λ (l ws : List ℕ). findPlace x l (marks ws)) (tested-part r a b ea eb) (words-of r) in
     let c = facts s r f in
     let m = marks-length (d .words) in
@@ -255,11 +254,11 @@ eight-is m e = drop-cons m 0 0 (omega arith) ∙ ap (λ (t : List ℕ). getD m 0
 abbrev pub settling : List ℕ → ℕ → ℕ → List ℕ → ℕ → ℕ → List ℕ
 settling x i n ys a w = set (set (set (set (putMid 5 8 (putMid i n x ys) (replicate 8 0)) 1 0) 2 a) 3 0) 4 w
 
-settle-words : (s : ℕ) (d : Desk) (i n a w : ℕ) (p q : List ℕ) → length (d .words) ≡ 8 → i ≡ 13 + length (d .ready) → n ≡ length (d .tested)
+settle-words : (s : ℕ) (d : WordDesk) (i n a w : ℕ) (p q : List ℕ) → length (d .words) ≡ 8 → i ≡ 13 + length (d .ready) → n ≡ length (d .tested)
     → length p + length q ≡ length (d .tested) → a ≡ length (d .ready ++ p) → w ≡ length (q ++ d .waiting)
-    → settling (recordOf s d) i n (p ++ q) a w
-    ≡ recordOf s (record { owed = d .owed; read = 0; ready = d .ready ++ p; tested = []; waiting = q ++ d .waiting; words = replicate 8 0 })
-unfolding recordOf
+    → settling (recordWords s d) i n (p ++ q) a w
+    ≡ recordWords s (record { owed = d .owed; read = 0; ready = d .ready ++ p; tested = []; waiting = q ++ d .waiting; words = replicate 8 0 })
+unfolding recordWords
 settle-words s d i n a w p q e ei en h ea ew =
     let z : List ℕ = replicate (2 * s - length (listed d)) 0 in
     let nr = length (d .ready) in
@@ -294,19 +293,19 @@ take-small (suc n) (x ∷ l) h (suc i) = take-small n l (λ j. h (suc j)) i
 
 -- as the code has them: the three counts, the mark words and their count
 pub record Counted (s : ℕ) (r : List ℕ) (a b w k : ℕ) (m : List ℕ) : Type 0 where
-  pub ready : a ≡ length (deskOf r .ready)
-  pub tested : b ≡ length (deskOf r .tested)
-  pub waiting : w ≡ length (deskOf r .waiting)
-  pub marked : m ≡ deskOf r .words
-  pub part : take (13 + a + b - (13 + a)) (drop (13 + a) r) ≡ deskOf r .tested
-  pub kept : k ≡ length (pick 1 (marks (deskOf r .words)) (deskOf r .tested))
-  pub all : length (pick 0 (marks (deskOf r .words)) (deskOf r .tested)) + length (pick 1 (marks (deskOf r .words)) (deskOf r .tested)) ≡ length (deskOf r .tested)
+  pub ready : a ≡ length (wordDesk r .ready)
+  pub tested : b ≡ length (wordDesk r .tested)
+  pub waiting : w ≡ length (wordDesk r .waiting)
+  pub marked : m ≡ wordDesk r .words
+  pub part : take (13 + a + b - (13 + a)) (drop (13 + a) r) ≡ wordDesk r .tested
+  pub kept : k ≡ length (pick 1 (marks (wordDesk r .words)) (wordDesk r .tested))
+  pub all : length (pick 0 (marks (wordDesk r .words)) (wordDesk r .tested)) + length (pick 1 (marks (wordDesk r .words)) (wordDesk r .tested)) ≡ length (wordDesk r .tested)
   pub eight : length m ≡ 8
 
 pub counted : (s : ℕ) (r : List ℕ) → Formed s r → ((i : ℕ) → getD r i 0 < 2 ^ 16) → (a b w k : ℕ) (m : List ℕ)
     → a ≡ getD r 2 0 → b ≡ getD r 3 0 → w ≡ getD r 4 0 → m ≡ take 8 (drop 5 r) → k ≡ onesIn m → Counted s r a b w k m
 counted s r f h a b w k m ea eb ew em ek =
-    let d = deskOf r in
+    let d = wordDesk r in
     let c = facts s r f in
     let e = f .fit .eight in
     let n : length (d .tested) ≤ 16 * length (d .words) = omega arith in
@@ -327,9 +326,9 @@ counted s r f h a b w k m ea eb ew em ek =
 pub settle-stores : (s : ℕ) (r : List ℕ) → Formed s r → (a b w k : ℕ) (m : List ℕ) → Counted s r a b w k m → (ys zs : List ℕ)
     → ys ≡ pick 0 (marks m) (take (13 + a + b - (13 + a)) (drop (13 + a) r)) ++ pick 1 (marks m) (take (13 + a + b - (13 + a)) (drop (13 + a) r))
     → zs ≡ replicate 8 0
-    → set (set (set (set (putMid 5 8 (putMid (13 + a) (13 + a + b - (13 + a)) r ys) zs) 1 0) 2 (a + (b - k))) 3 0) 4 (w + k) ≡ recordOf s (settled (deskOf r))
+    → set (set (set (set (putMid 5 8 (putMid (13 + a) (13 + a + b - (13 + a)) r ys) zs) 1 0) 2 (a + (b - k))) 3 0) 4 (w + k) ≡ recordWords s (settled (wordDesk r))
 settle-stores s r f a b w k m c ys zs ey ez =
-    let d = deskOf r in
+    let d = wordDesk r in
     let p : List ℕ = pick 0 (marks (d .words)) (d .tested) in
     let q : List ℕ = pick 1 (marks (d .words)) (d .tested) in
     let y : ys ≡ p ++ q = ey ∙ ap₂ (λ (x l : List ℕ). pick 0 (marks x) l ++ pick 1 (marks x) l) (c .marked) (c .part) in

@@ -1,13 +1,13 @@
--- The desk in words, with its mark words, and the desk of the rules: the record is the same, and each part of a collect does the same. Assumes nothing.
-use mathlib.Core.Path.{_≡_, refl, sym, ap, ap₂, _∙_}
-use mathlib.Core.List.{List, [], _∷_, _++_, map}
-use mathlib.Core.Bool.{Bool, true, false, not, _&&_, cond}
+-- The desk in words, with its mark words, and the desk of the rules: the record is the same, and each part of a collect does the same.
 use Prim.Native.Nat.{ℕ, zero, suc, _+_, _-_, _*_, _%_, _^_, _≤_, _<_}
 use native.Mathlib.Omega.{arith}
-use lib.ListN.{length-take, length, getD, take, drop, set, replicate, length-append, length-map, replicate-append-replicate}
+use mathlib.Core.Bool.{Bool, true, false, not, _&&_, cond}
+use mathlib.Core.List.{List, [], _∷_, _++_, map}
+use mathlib.Core.Path.{_≡_, refl, sym, ap, ap₂, _∙_}
 use lib.Dec.{eqb, leb, ltb, eqb·suc-zero}
+use lib.ListN.{length-take, length, getD, take, drop, set, replicate, length-append, length-map, replicate-append-replicate}
 use borrow.Author.Tests.{eqb-true, ltb-true}
-use Rattle.rules.specs.Hall.{TestedPlace, marked, unmarked, usedPlaces, Desk as RulesDesk}
+use Rattle.rules.specs.Hall.{TestedPlace, marked, unmarked, usedPlaces, Desk}
 use Rattle.rules.specs.Steps.{begin, beginAt, handBack, mark, markEach, markedOf, readScreens, retire, scanAt, settle, settleIf, unmarkedOf}
 use Rattle.rules.specs.Table.{bitValue, bitsOfWords, decodeDesk, encodeDesk, every, listOf, marksOf, ones, recordSound, scanSound, sessionsOf, wordsOfBits}
 use Rattle.rules.specs.laws.Bools.{and-left, and-right}
@@ -16,8 +16,7 @@ use Rattle.rules.specs.laws.Encoding.{desk-read-back, length-sessions}
 use Rattle.rules.specs.laws.Marks.{length-mark, length-mark-each, unmarked-and-marked}
 use Rattle.marks.specs.Words.{allZero}
 use Rattle.marks.specs.Marks.{pick}
-use Rattle.desk.proofs.WordDesk.{used, places, markWords, soundRecord, Desk, deskOf, listed, recordOf}
-use Rattle.desk.proofs.WordDesk.{testing, seeing, reading, settled, handed, Fit, Formed}
+use Rattle.desk.proofs.WordDesk.{used, places, markWords, soundRecord, WordDesk, wordDesk, listed, recordWords, testing, seeing, reading, settled, handed, Fit, Formed}
 use Rattle.desk.specs.Record.{Encoded}
 use Rattle.desk.proofs.FitLaws.{lengths, Left, left}
 use Rattle.desk.proofs.DeskLaws.{facts, record-length}
@@ -26,11 +25,11 @@ use Rattle.desk.proofs.SoundRecordLaws.{sound-read-is}
 use Rattle.desk.proofs.MarkTie.{markBits, mark-bits, pick-unmarked, pick-marked, marking-is, none-zero-is, all-zero-is, clear-is, count-is}
 
 -- a desk of the rules, in words
-abbrev pub inWords : RulesDesk → Desk
+abbrev pub inWords : Desk → WordDesk
 inWords D = record { owed = D .owed; read = D .scanned; ready = D .ready; tested = sessionsOf (D .tested); waiting = D .waiting; words = wordsOfBits 8 (markBits (D .tested)) }
 
-pub encoded-words : (s : ℕ) (D : RulesDesk) → encodeDesk s D ≡ recordOf s (inWords D)
-unfolding encodeDesk recordOf
+pub encoded-words : (s : ℕ) (D : Desk) → encodeDesk s D ≡ recordWords s (inWords D)
+unfolding encodeDesk recordWords
 encoded-words s D = λ i. D .owed ∷ D .scanned ∷ length (D .ready) ∷ sym (length-sessions (D .tested)) i ∷ length (D .waiting) ∷ (wordsOfBits 8 (markBits (D .tested)) ++ (listOf D ++ replicate (2 * s - length (listOf D)) 0))
 
 zero-pad : (T : List TestedPlace) (m : ℕ) → allZero (drop (length (sessionsOf T)) (map bitValue (marksOf T ++ replicate m false))) ≡ true
@@ -39,10 +38,10 @@ zero-pad [] (suc m) = zero-pad [] m
 zero-pad (unmarked x ∷ T) m = zero-pad T m
 zero-pad (marked x ∷ T) m = zero-pad T m
 
-pub room-is : (D : RulesDesk) → length (listed (inWords D)) ≡ usedPlaces D
+pub room-is : (D : Desk) → length (listed (inWords D)) ≡ usedPlaces D
 room-is D = omega (arith, lengths (inWords D), length-sessions (D .tested))
 
-pub fit-is : (s : ℕ) (D : RulesDesk) → s ≤ 64 → usedPlaces D ≤ 2 * s → Fit s (inWords D)
+pub fit-is : (s : ℕ) (D : Desk) → s ≤ 64 → usedPlaces D ≤ 2 * s → Fit s (inWords D)
 fit-is s D h u =
     record {
       room = omega (arith, room-is D);
@@ -56,7 +55,7 @@ encoded-left s r c = left s (inWords (decodeDesk r)) r (c .most) (fit-is s (deco
 
 -- ---- (a)
 module _ (o k : ℕ) (R : List ℕ) where
-  abbrev mk : List TestedPlace → List ℕ → RulesDesk
+  abbrev mk : List TestedPlace → List ℕ → Desk
   mk T W = record { owed = o; scanned = k; ready = R; tested = T; waiting = W }
 
   sessions-begin : (W : List ℕ) → W ≡ sessionsOf (map unmarked W)
@@ -82,14 +81,14 @@ module _ (o k : ℕ) (R : List ℕ) where
   test-is [] W h = test-none W h
   test-is (p ∷ T) W h = test-some p T W
 
-pub testing-is : (D : RulesDesk) → length (D .waiting) ≤ 128 → testing (inWords D) ≡ inWords (begin D)
+pub testing-is : (D : Desk) → length (D .waiting) ≤ 128 → testing (inWords D) ≡ inWords (begin D)
 testing-is D h = test-is (D .owed) (D .scanned) (D .ready) (D .tested) (D .waiting) h
 
 -- ---- (b)
-pub reading-is : (vs : List ℕ) (D : RulesDesk) → length (D .tested) ≤ 128 → reading vs (inWords D) ≡ inWords (readScreens vs D)
+pub reading-is : (vs : List ℕ) (D : Desk) → length (D .tested) ≤ 128 → reading vs (inWords D) ≡ inWords (readScreens vs D)
 reading-is [] D h = let e : D .scanned ≡ D .scanned + 0 = omega arith in λ i. record { owed = D .owed; read = e i; ready = D .ready; tested = sessionsOf (D .tested); waiting = D .waiting; words = wordsOfBits 8 (markBits (D .tested)) }
 reading-is (x ∷ vs) D h =
-    let E : RulesDesk = record { owed = D .owed; scanned = D .scanned + 1; ready = D .ready; tested = mark x (D .tested); waiting = D .waiting } in
+    let E : Desk = record { owed = D .owed; scanned = D .scanned + 1; ready = D .ready; tested = mark x (D .tested); waiting = D .waiting } in
     let e : D .scanned + 1 + length vs ≡ D .scanned + suc (length vs) = omega arith in
     ap (reading vs) (λ i. record { owed = D .owed; read = D .scanned + 1; ready = D .ready; tested = same x (D .tested) i; waiting = D .waiting; words = marking-is x (D .tested) h i })
     ∙ reading-is vs E (omega (arith, length-mark x (D .tested)))
@@ -105,7 +104,7 @@ reading-is (x ∷ vs) D h =
         go false ih = ap {B = List ℕ} (λ l. y ∷ l) ih
 
 -- ---- (c)
-pub settled-is : (D : RulesDesk) → length (D .tested) ≤ 128 → settled (inWords D) ≡ inWords (settleIf true D)
+pub settled-is : (D : Desk) → length (D .tested) ≤ 128 → settled (inWords D) ≡ inWords (settleIf true D)
 settled-is D h =
     let pad : List Bool = replicate (128 - length (D .tested)) false in
     let m = mark-bits (D .tested) h in
@@ -147,14 +146,14 @@ pub record Finds (s : ℕ) (r : List ℕ) : Type 0 where
   pub stores : (n : ℕ) → n ≡ usedPlaces (decodeDesk r) → n < 2 * s → set (set (set r (13 + n) (getD r 0 0)) 4 (getD r 4 0 + 1)) 0 0 ≡ encodeDesk s (retire (decodeDesk r))
 
 pub finds : (s : ℕ) (r : List ℕ) → Encoded s r → Finds s r
-unfolding decodeDesk deskOf
+unfolding decodeDesk wordDesk
 finds s r c =
     let D = decodeDesk r in
     let l = encoded-left s r c in
     let f = facts s r (l .formed-is) in
-    let t = ap (λ (d : Desk). length (d .tested)) (l .desk-is) in
-    let a = ap (λ (d : Desk). length (d .ready)) (l .desk-is) in
-    let w = ap (λ (d : Desk). length (d .waiting)) (l .desk-is) in
+    let t = ap (λ (d : WordDesk). length (d .tested)) (l .desk-is) in
+    let a = ap (λ (d : WordDesk). length (d .ready)) (l .desk-is) in
+    let w = ap (λ (d : WordDesk). length (d .waiting)) (l .desk-is) in
     let o : getD r 0 0 ≡ D .owed = owed-is r in
     let g : getD r 4 0 ≡ length (D .waiting) = f .waiting ∙ w in
     record {
@@ -171,40 +170,40 @@ module _ (s : ℕ) (r : List ℕ) (c : Encoded s r) where
   pub formed-of : Formed s r
   formed-of = encoded-left s r c .formed-is
 
-  part-encoded : (f : Desk → Desk) (E : RulesDesk) → f (inWords (decodeDesk r)) ≡ inWords E → recordOf s (f (deskOf r)) ≡ encodeDesk s E
-  part-encoded f E e = ap (λ (d : Desk). recordOf s (f d)) (encoded-left s r c .desk-is) ∙ ap (recordOf s) e ∙ sym (encoded-words s E)
+  part-encoded : (f : WordDesk → WordDesk) (E : Desk) → f (inWords (decodeDesk r)) ≡ inWords E → recordWords s (f (wordDesk r)) ≡ encodeDesk s E
+  part-encoded f E e = ap (λ (d : WordDesk). recordWords s (f d)) (encoded-left s r c .desk-is) ∙ ap (recordWords s) e ∙ sym (encoded-words s E)
 
   tested-most : length (decodeDesk r .tested) ≤ 128
   tested-most = omega (arith, c .room, c .most)
 
-  pub begun-encoded : recordOf s (testing (deskOf r)) ≡ encodeDesk s (begin (decodeDesk r))
+  pub begun-encoded : recordWords s (testing (wordDesk r)) ≡ encodeDesk s (begin (decodeDesk r))
   begun-encoded = part-encoded testing (begin (decodeDesk r)) (testing-is (decodeDesk r) (omega (arith, c .room, c .most)))
 
-  pub read-encoded : (x : ℕ) → recordOf s (seeing x (deskOf r)) ≡ encodeDesk s (readScreens (x ∷ []) (decodeDesk r))
+  pub read-encoded : (x : ℕ) → recordWords s (seeing x (wordDesk r)) ≡ encodeDesk s (readScreens (x ∷ []) (decodeDesk r))
   read-encoded x = part-encoded (seeing x) (readScreens (x ∷ []) (decodeDesk r)) (reading-is (x ∷ []) (decodeDesk r) tested-most)
 
-  pub settled-encoded : recordOf s (settled (deskOf r)) ≡ encodeDesk s (settleIf true (decodeDesk r))
+  pub settled-encoded : recordWords s (settled (wordDesk r)) ≡ encodeDesk s (settleIf true (decodeDesk r))
   settled-encoded = part-encoded settled (settleIf true (decodeDesk r)) (settled-is (decodeDesk r) tested-most)
 
-  pub handed-encoded : recordOf s (handed (deskOf r)) ≡ encodeDesk s (handBack (decodeDesk r) .after)
+  pub handed-encoded : recordWords s (handed (wordDesk r)) ≡ encodeDesk s (handBack (decodeDesk r) .after)
   handed-encoded = part-encoded handed (handBack (decodeDesk r) .after) refl
 
-  pub first-handed : getD (deskOf r .ready) 0 0 ≡ handBack (decodeDesk r) .session
-  first-handed = ap (λ (d : Desk). getD (d .ready) 0 0) (encoded-left s r c .desk-is)
+  pub first-handed : getD (wordDesk r .ready) 0 0 ≡ handBack (decodeDesk r) .session
+  first-handed = ap (λ (d : WordDesk). getD (d .ready) 0 0) (encoded-left s r c .desk-is)
 
 pub scanned-word : (r : List ℕ) → getD r 1 0 ≡ decodeDesk r .scanned
 unfolding decodeDesk
 scanned-word r = refl
 
 pub tested-word : (s : ℕ) (r : List ℕ) → Encoded s r → getD r 3 0 ≡ length (decodeDesk r .tested)
-tested-word s r c = facts s r (formed-of s r c) .tested ∙ ap (λ (d : Desk). length (d .tested)) (encoded-left s r c .desk-is) ∙ length-sessions (decodeDesk r .tested)
+tested-word s r c = facts s r (formed-of s r c) .tested ∙ ap (λ (d : WordDesk). length (d .tested)) (encoded-left s r c .desk-is) ∙ length-sessions (decodeDesk r .tested)
 
 -- ---- from one part to the next: a record that codes a desk
-pub record Again (s : ℕ) (D : RulesDesk) (r : List ℕ) : Type 0 where
+pub record Again (s : ℕ) (D : Desk) (r : List ℕ) : Type 0 where
   pub encoded : Encoded s r
   pub desk-is : decodeDesk r ≡ D
 
-pub again : (s : ℕ) (D : RulesDesk) (r : List ℕ) → s ≤ 64 → usedPlaces D ≤ 2 * s → r ≡ encodeDesk s D → Again s D r
+pub again : (s : ℕ) (D : Desk) (r : List ℕ) → s ≤ 64 → usedPlaces D ≤ 2 * s → r ≡ encodeDesk s D → Again s D r
 again s D r h u e =
     let q : decodeDesk r ≡ D = ap decodeDesk e ∙ desk-read-back s D (omega arith) in
     record {
@@ -212,36 +211,36 @@ again s D r h u e =
       desk-is = q;
     }
 
-pub begin-places : (D : RulesDesk) → usedPlaces (begin D) ≡ usedPlaces D
+pub begin-places : (D : Desk) → usedPlaces (begin D) ≡ usedPlaces D
 begin-places D = go (D .tested) refl
   where
     go : (T : List TestedPlace) → D .tested ≡ T → usedPlaces (beginAt T D) ≡ usedPlaces D
     go [] e = omega (arith, length-map (D .waiting) unmarked, ap length e)
     go (p ∷ T) e = refl
 
-pub scan-places : (T : List TestedPlace) (vs : List ℕ) (D : RulesDesk) → usedPlaces (scanAt T vs D) ≡ usedPlaces D
+pub scan-places : (T : List TestedPlace) (vs : List ℕ) (D : Desk) → usedPlaces (scanAt T vs D) ≡ usedPlaces D
 scan-places [] vs D = refl
 scan-places (p ∷ T) vs D = omega (arith, length-mark-each vs (D .tested))
 
-pub settle-places : (s : ℕ) (D : RulesDesk) → usedPlaces (settle s D) ≡ usedPlaces D
+pub settle-places : (s : ℕ) (D : Desk) → usedPlaces (settle s D) ≡ usedPlaces D
 settle-places s D = go (eqb (D .scanned) s)
   where
     go : (b : Bool) → usedPlaces (settleIf b D) ≡ usedPlaces D
     go true = omega (arith, length-append (D .ready) (unmarkedOf (D .tested)), length-append (markedOf (D .tested)) (D .waiting), unmarked-and-marked (D .tested))
     go false = refl
 
-pub begin-scanned : (D : RulesDesk) → begin D .scanned ≡ D .scanned
+pub begin-scanned : (D : Desk) → begin D .scanned ≡ D .scanned
 begin-scanned D = go (D .tested)
   where
     go : (T : List TestedPlace) → beginAt T D .scanned ≡ D .scanned
     go [] = refl
     go (p ∷ T) = refl
 
-pub scan-some : (T : List TestedPlace) (vs : List ℕ) (D : RulesDesk) → (length T ≡ 0 → ⊥) → readScreens vs D ≡ scanAt T vs D
+pub scan-some : (T : List TestedPlace) (vs : List ℕ) (D : Desk) → (length T ≡ 0 → ⊥) → readScreens vs D ≡ scanAt T vs D
 scan-some [] vs D h = absurd (h refl)
 scan-some (p ∷ T) vs D h = refl
 
-pub scan-none : (T : List TestedPlace) (vs : List ℕ) (D : RulesDesk) → length T ≡ 0 → D ≡ scanAt T vs D
+pub scan-none : (T : List TestedPlace) (vs : List ℕ) (D : Desk) → length T ≡ 0 → D ≡ scanAt T vs D
 scan-none [] vs D h = refl
 scan-none (p ∷ T) vs D h = absurd (omega arith)
 
@@ -273,10 +272,10 @@ scanned-below s r h e = pass-k (getD r 3 0) (getD r 1 0) (and-left q5 q6 (and-ri
     pass-k (suc n) k q = ltb-true k s (and-right (leb 2 k) (ltb k s) (and-right (eqb (k % 2) 0) (leb 2 k && ltb k s) q))
 
 -- ---- two screens, one after the other
-pub read-places : (vs : List ℕ) (D : RulesDesk) → usedPlaces (readScreens vs D) ≡ usedPlaces D
+pub read-places : (vs : List ℕ) (D : Desk) → usedPlaces (readScreens vs D) ≡ usedPlaces D
 read-places vs D = omega (arith, length-mark-each vs (D .tested))
 
-pub two-read : (x y : ℕ) (D : RulesDesk) → readScreens (y ∷ []) (readScreens (x ∷ []) D) ≡ readScreens (x ∷ y ∷ []) D
+pub two-read : (x y : ℕ) (D : Desk) → readScreens (y ∷ []) (readScreens (x ∷ []) D) ≡ readScreens (x ∷ y ∷ []) D
 two-read x y D =
     let e : D .scanned + 1 + 1 ≡ D .scanned + 2 = omega arith in
     λ i. record { owed = D .owed; scanned = e i; ready = D .ready; tested = markEach (x ∷ y ∷ []) (D .tested); waiting = D .waiting }

@@ -1,19 +1,17 @@
--- A sound record is what its desk's state says, word for word; and the words of a record after a store. Assumes nothing.
-use Rattle.marks.proofs.BoolLaws.{set-append-add}
-use mathlib.Core.Path.{_≡_, refl, sym, ap, ap₂, _∙_}
-use mathlib.Core.List.{List, [], _∷_, _++_, append-assoc}
-use mathlib.Core.Bool.{true, _&&_}
+-- A sound record is what its desk's state says, word for word; and the words of a record after a store.
 use Prim.Native.Nat.{ℕ, suc, _+_, _-_, _*_, _≤_, _<_}
 use native.Mathlib.Omega.{arith}
+use mathlib.Core.Bool.{true, _&&_}
+use mathlib.Core.List.{List, [], _∷_, _++_, append-assoc}
+use mathlib.Core.Path.{_≡_, refl, sym, ap, ap₂, _∙_}
+use lib.Dec.{leb}
 use lib.ListN.{length, getD, take, drop, set, replicate, length-append, length-drop}
 use lib.Seq.{length-take-le, set-at}
-use lib.Dec.{leb}
 use borrow.Author.Tests.{leb-true}
+use Rattle.marks.proofs.BoolLaws.{set-append-add, &&-left, &&-right}
 use Rattle.marks.specs.Words.{allZero, noneZero}
 use Rattle.marks.specs.Marks.{marks, onesIn}
-use Rattle.desk.proofs.WordDesk.{used, places, markWords, soundRead, soundRecord, Desk, deskOf, listed, recordOf}
-use Rattle.desk.proofs.WordDesk.{retired}
-use Rattle.marks.proofs.BoolLaws.{&&-left, &&-right}
+use Rattle.desk.proofs.WordDesk.{used, places, markWords, soundRead, soundRecord, WordDesk, wordDesk, listed, recordWords, retired}
 
 -- ---- what soundness says of a record
 pub record SoundRec (s : ℕ) (r : List ℕ) : Type 0 where
@@ -51,20 +49,20 @@ module _ (s : ℕ) (r : List ℕ) (len : length r ≡ 13 + 2 * s) (f : SoundRec 
   places-length : length (places r) ≡ 2 * s
   places-length = let e = length-drop 13 r in omega arith
 
-  pub ready-length : length (deskOf r .ready) ≡ getD r 2 0
-  unfolding deskOf
+  pub ready-length : length (wordDesk r .ready) ≡ getD r 2 0
+  unfolding wordDesk
   ready-length = let e = places-length in let h = f .room in length-take-le (getD r 2 0) (places r) (omega arith)
 
-  pub tested-length : length (deskOf r .tested) ≡ getD r 3 0
-  unfolding deskOf
+  pub tested-length : length (wordDesk r .tested) ≡ getD r 3 0
+  unfolding wordDesk
   tested-length =
       let e = places-length in
       let h = f .room in
       let g = length-drop (getD r 2 0) (places r) in
       length-take-le (getD r 3 0) (drop (getD r 2 0) (places r)) (omega arith)
 
-  pub waiting-length : length (deskOf r .waiting) ≡ getD r 4 0
-  unfolding deskOf
+  pub waiting-length : length (wordDesk r .waiting) ≡ getD r 4 0
+  unfolding wordDesk
   waiting-length =
       let e = places-length in
       let h = f .room in
@@ -88,9 +86,9 @@ set-end p q n v e h =
     ∙ sym (append-assoc p (v ∷ []) (replicate (q - (n + 1)) 0))
 
 -- ---- retire: three stores
-pub retire-words : (s : ℕ) (d : Desk) → length (d .words) ≡ 8 → length (listed d) < 2 * s
-    → set (set (set (recordOf s d) (13 + length (listed d)) (d .owed)) 4 (length (d .waiting) + 1)) 0 0 ≡ recordOf s (retired d)
-unfolding recordOf
+pub retire-words : (s : ℕ) (d : WordDesk) → length (d .words) ≡ 8 → length (listed d) < 2 * s
+    → set (set (set (recordWords s d) (13 + length (listed d)) (d .owed)) 4 (length (d .waiting) + 1)) 0 0 ≡ recordWords s (retired d)
+unfolding recordWords
 retire-words s d e h =
     let n = length (listed d) in
     let v = d .owed in
@@ -104,6 +102,6 @@ retire-words s d e h =
     (set-place v (d .read) (length (d .ready)) (length (d .tested)) (length (d .waiting)) (d .words) (listed d ++ z) n v e)
     ∙ (λ i. 0 ∷ d .read ∷ length (d .ready) ∷ length (d .tested) ∷ w i ∷ (d .words ++ p i))
 
-pub owed-is : (r : List ℕ) → deskOf r .owed ≡ getD r 0 0
-unfolding deskOf
+pub owed-is : (r : List ℕ) → wordDesk r .owed ≡ getD r 0 0
+unfolding wordDesk
 owed-is r = refl

@@ -1,14 +1,14 @@
--- What the code of the soundness test of a record finds, as the parts of `soundRecord`. Assumes nothing.
-use mathlib.Core.Path.{_≡_, refl, sym, ap, _∙_}
-use mathlib.Core.List.{List}
-use mathlib.Core.Bool.{Bool, true, false, _&&_, cond}
+-- What the code of the soundness test of a record finds, as the parts of `soundRecord`.
 use Prim.Native.Nat.{ℕ, zero, suc, _+_, _-_, _*_, _%_, _≤_, _<_}
 use native.Mathlib.Omega.{arith}
+use mathlib.Core.Bool.{Bool, true, false, _&&_, cond}
+use mathlib.Core.List.{List}
+use mathlib.Core.Path.{_≡_, refl, sym, ap, _∙_}
+use lib.Dec.{eqb, leb, ltb, eqb·suc-zero}
 use lib.ListN.{length, getD, take, drop, length-drop}
 use lib.Seq.{drop-drop, take-all}
-use lib.Dec.{eqb, leb, ltb, eqb·suc-zero}
-use Rattle.rules.specs.Table.{scanSound}
 use borrow.Author.Tests.{le-leb, lt-leb}
+use Rattle.rules.specs.Table.{scanSound}
 use Rattle.marks.specs.Words.{allZero, noneZero}
 use Rattle.marks.specs.Marks.{marks}
 use Rattle.desk.proofs.WordDesk.{used, places, markWords, soundRead}

@@ -1,10 +1,10 @@
 -- The desk in words, as the code works on it: its mark words stay words. No contract cites this; DeskTie ties it to the rules' desk.
 use Prim.Native.Nat.{ℕ, _+_, _*_, _-_, _%_, _≤_}
-use mathlib.Core.Path.{_≡_}
-use mathlib.Core.List.{List, [], _∷_, _++_}
 use mathlib.Core.Bool.{Bool, true, _&&_, cond}
-use lib.ListN.{length, getD, take, drop, replicate}
+use mathlib.Core.List.{List, [], _∷_, _++_}
+use mathlib.Core.Path.{_≡_}
 use lib.Dec.{eqb, leb, ltb}
+use lib.ListN.{length, getD, take, drop, replicate}
 use Rattle.marks.specs.Words.{allZero, noneZero}
 use Rattle.marks.specs.Marks.{marks, onesIn, findPlace, markPlace, pick}
 
@@ -35,7 +35,7 @@ soundRecord s r =
     && leb (onesIn (markWords r)) (getD r 1 0)
 
 -- What a record says: the owed session, k, the three groups of the list, and the mark words.
-pub record Desk : Type 0 where
+pub record WordDesk : Type 0 where
   pub owed : ℕ
   pub read : ℕ
   pub ready : List ℕ
@@ -43,8 +43,8 @@ pub record Desk : Type 0 where
   pub waiting : List ℕ
   pub words : List ℕ
 
-unfoldable pub deskOf : List ℕ → Desk
-deskOf r =
+unfoldable pub wordDesk : List ℕ → WordDesk
+wordDesk r =
     record {
       owed = getD r 0 0;
       read = getD r 1 0;
@@ -55,17 +55,17 @@ deskOf r =
     }
 
 -- the list: ready first, then tested, then waiting
-abbrev pub listed : Desk → List ℕ
+abbrev pub listed : WordDesk → List ℕ
 listed d = d .ready ++ (d .tested ++ d .waiting)
 
 -- the record's words: owed, k, the three counts, the mark words, the list, then zeros up to 2s places
-unfoldable pub recordOf : ℕ → Desk → List ℕ
-recordOf s d =
+unfoldable pub recordWords : ℕ → WordDesk → List ℕ
+recordWords s d =
     d .owed ∷ d .read ∷ length (d .ready) ∷ length (d .tested) ∷ length (d .waiting)
     ∷ (d .words ++ (listed d ++ replicate (2 * s - length (listed d)) 0))
 
 -- (a) nothing tested: all waiting become tested
-abbrev pub testing : Desk → Desk
+abbrev pub testing : WordDesk → WordDesk
 testing d =
     cond (eqb (length (d .tested)) 0)
     (record { owed = d .owed; read = d .read; ready = d .ready; tested = d .waiting; waiting = []; words = d .words })
@@ -77,7 +77,7 @@ marking x tested ws =
     cond (ltb (findPlace x tested (marks ws)) (length tested)) (markPlace ws (findPlace x tested (marks ws))) ws
 
 -- (b) one screen is read, and k grows by one
-abbrev pub seeing : ℕ → Desk → Desk
+abbrev pub seeing : ℕ → WordDesk → WordDesk
 seeing x d =
     record {
       owed = d .owed;
@@ -89,12 +89,12 @@ seeing x d =
     }
 
 -- several, in their order
-abbrev pub reading : List ℕ → Desk → Desk
+abbrev pub reading : List ℕ → WordDesk → WordDesk
 reading [] d = d
 reading (x ∷ xs) d = reading xs (seeing x d)
 
 -- (c) unmarked tested sessions join the end of ready, marked ones become waiting ahead of those waiting; marks and k go to 0
-abbrev pub settled : Desk → Desk
+abbrev pub settled : WordDesk → WordDesk
 settled d =
     record {
       owed = d .owed;
@@ -106,12 +106,12 @@ settled d =
     }
 
 -- (d) the first ready session leaves
-abbrev pub handed : Desk → Desk
+abbrev pub handed : WordDesk → WordDesk
 handed d =
     record { owed = d .owed; read = d .read; ready = drop 1 (d .ready); tested = d .tested; waiting = d .waiting; words = d .words }
 
 -- What every part of a collect keeps: the list fits, there are eight mark words, and no place beyond the tested is marked.
-pub record Fit (s : ℕ) (d : Desk) : Type 0 where
+pub record Fit (s : ℕ) (d : WordDesk) : Type 0 where
   pub room : length (listed d) ≤ 2 * s
   pub eight : length (d .words) ≡ 8
   pub clear : allZero (drop (length (d .tested)) (marks (d .words))) ≡ true
@@ -119,11 +119,11 @@ pub record Fit (s : ℕ) (d : Desk) : Type 0 where
 -- a record that says such a state
 pub record Formed (s : ℕ) (r : List ℕ) : Type 0 where
   pub most : s ≤ 64
-  pub is : r ≡ recordOf s (deskOf r)
-  pub fit : Fit s (deskOf r)
+  pub is : r ≡ recordWords s (wordDesk r)
+  pub fit : Fit s (wordDesk r)
 
 -- the owed session goes to the end of the list as waiting, and nothing is owed
-abbrev pub retired : Desk → Desk
+abbrev pub retired : WordDesk → WordDesk
 retired d =
     record {
       owed = 0;

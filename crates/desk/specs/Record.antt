@@ -1,10 +1,10 @@
 -- A desk's record as the code keeps it, and a retire on it.
 use Prim.Native.Nat.{ℕ, _+_, _*_, _≤_}
-use mathlib.Core.Path.{_≡_}
 use mathlib.Core.Bool.{cond}
 use mathlib.Core.List.{List}
-use lib.ListN.{length}
+use mathlib.Core.Path.{_≡_}
 use lib.Dec.{eqb}
+use lib.ListN.{length}
 use Rattle.rules.specs.Hall.{usedPlaces}
 use Rattle.rules.specs.Steps.{Answer, firstNo, retire, retireQuestions}
 use Rattle.rules.specs.Table.{decodeDesk, encodeDesk}

@@ -1,20 +1,20 @@
--- Laws of marks: the digits of a word, the marks of a row of words, and their count. Assumes nothing.
-use mathlib.Core.Path.{_≡_, refl, sym, ap, _∙_}
-use mathlib.Core.List.{List, [], _∷_, _++_}
+-- Laws of marks: the digits of a word, the marks of a row of words, and their count.
 use Prim.Native.Nat.{ℕ, zero, suc, _+_, _*_, _/_, _%_, _^_, _≤_, _<_}
+use native.Mathlib.Decide.{decLt}
 use native.Mathlib.Nat.{not-suc-le-zero, le-of-suc-le-suc, div-one}
 use native.Mathlib.Numerals.{one-add}
 use native.Mathlib.Omega.{arith}
-use native.Mathlib.Decide.{decLt}
-use lib.ListN.{length, getD, drop, List·getD-append, List·getD-eq-default, length-append}
-use lib.Seq.{getD-append-add}
-use lib.Count.{ones, ones-le}
-use lib.Pow.{shr-shr}
-use lib.Dec.{eqb}
 use mathlib.Core.Bool.{true, false}
+use mathlib.Core.List.{List, [], _∷_, _++_}
+use mathlib.Core.Path.{_≡_, refl, sym, ap, _∙_}
+use lib.Count.{ones, ones-le}
+use lib.Dec.{eqb}
+use lib.ListN.{length, getD, drop, List·getD-append, List·getD-eq-default, length-append}
+use lib.Pow.{shr-shr}
+use lib.Seq.{getD-append-add}
 use borrow.Author.Tests.{eqb-true, eqb-false}
-use mir.Val.{Fits}
 use mir.Syntax.{w16}
+use mir.Val.{Fits}
 use Rattle.marks.specs.Marks.{digits, marks, onesIn}
 use Rattle.marks.proofs.Scan.{rest}
 

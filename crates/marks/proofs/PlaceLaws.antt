@@ -1,18 +1,18 @@
--- Laws of marked places: finding one, marking it, and picking by marks. Assumes nothing.
-use mathlib.Core.Path.{_≡_, refl, sym, ap, _∙_}
-use mathlib.Core.List.{List, [], _∷_, _++_}
-use mathlib.Core.Bool.{Bool, true, false, _&&_, cond}
+-- Laws of marked places: finding one, marking it, and picking by marks.
 use Prim.Native.Nat.{ℕ, zero, suc, _+_, _*_, _/_, _%_, _^_, _≤_, _<_}
 use native.Mathlib.Nat.{not-suc-le-zero, le-of-suc-le-suc, pow-suc}
 use native.Mathlib.Numerals.{add-one}
 use native.Mathlib.Omega.{arith}
-use lib.ListN.{length, getD, take, drop, take-append-drop}
+use mathlib.Core.Bool.{Bool, true, false, _&&_, cond}
+use mathlib.Core.List.{List, [], _∷_, _++_}
+use mathlib.Core.Path.{_≡_, refl, sym, ap, _∙_}
 use lib.Count.{ones, ones-step, ones-le}
+use lib.Dec.{eqb, lit<}
+use lib.ListN.{length, getD, take, drop, take-append-drop}
+use lib.Pow.{shl-exact}
+use borrow.Author.Tests.{eq-eqb, ne-eqb, eqb-true, eqb-false}
 use Rattle.marks.specs.Words.{allZero}
 use Rattle.marks.proofs.BoolLaws.{&&-left, &&-right}
-use lib.Pow.{shl-exact}
-use lib.Dec.{eqb, lit<}
-use borrow.Author.Tests.{eq-eqb, ne-eqb, eqb-true, eqb-false}
 use Rattle.marks.specs.Marks.{digits, marks, onesIn, findPlace, pick}
 use Rattle.marks.proofs.Scan.{rest, ended}
 use Rattle.marks.proofs.MarkLaws.{marks-length, marks-cat, mark-small}

@@ -1,9 +1,9 @@
--- A partition of a list by its marks, in two passes. Assumes nothing.
-use mathlib.Core.Path.{_≡_, refl, sym, ap, ap₂, _∙_}
-use mathlib.Core.List.{List, [], _∷_, _++_, append-nil, append-assoc}
+-- A partition of a list by its marks, in two passes.
 use Prim.Native.Nat.{ℕ, _+_, _-_, _≤_, _<_}
 use native.Mathlib.Numerals.{add-one}
 use native.Mathlib.Omega.{arith}
+use mathlib.Core.List.{List, [], _∷_, _++_, append-nil, append-assoc}
+use mathlib.Core.Path.{_≡_, refl, sym, ap, ap₂, _∙_}
 use lib.ListN.{length, getD, take, drop, set, length-set, length-drop}
 use lib.Seq.{drop-drop, drop-set-lt, take-suc-set, take-suc, getD-drop, getD-append-add, take-all, length-take-le, set-at}
 use Rattle.marks.specs.Marks.{pick}

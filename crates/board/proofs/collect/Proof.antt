@@ -1,15 +1,15 @@
 -- `board::collect` meets its contract. Each need cites one of two facts: what is known once the questions are answered, and once k is read.
--- Assumes nothing.
+--
 use Prim.Native.Nat.{ℕ, _+_, _*_, _-_}
+use native.Mathlib.Omega.{arith}
+use mathlib.Core.Path.{refl, sym, _∙_}
+use borrow.Author.Needs.{needs}
+use borrow.Rule.Slice.PartMut.{same-len-mid}
 use Rattle.rules.specs.Steps.{Collect}
 use Rattle.board.proofs.EntryLaws.{Entered, entered, refused}
 use Rattle.board.proofs.StepLaws.{Ready, ready, Reads, reads, collect-told}
 use Rattle.board.proofs.collect.Statement.{statement}
 use Rattle.board.proofs.collect.Tie as tie
-use borrow.Author.Needs.{needs}
-use borrow.Rule.Slice.PartMut.{same-len-mid}
-use mathlib.Core.Path.{refl, sym, _∙_}
-use native.Mathlib.Omega.{arith}
 
 -- the questions are answered
 here : (c : tie.After-known-told2) → Entered (c .before .before .before .before .before .before .args .t .now) (c .before .before .before .before .before .before .args .desk) (c .before .entry2 .given .0 .0)

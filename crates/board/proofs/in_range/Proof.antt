@@ -1,5 +1,6 @@
-use mathlib.Core.Path.{sym, ap, _∙_}
+-- `board::in_range` meets its contract.
 use mathlib.Core.Bool.{Bool, _&&_}
+use mathlib.Core.Path.{sym, ap, _∙_}
 use lib.Dec.{leb}
 use borrow.Author.Tests.{le-leb, lt-leb}
 use Rattle.board.proofs.in_range.Statement.{statement}

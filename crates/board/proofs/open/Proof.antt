@@ -1,11 +1,12 @@
-use borrow.Author.Needs.{needs}
-use borrow.Rule.Slice.PartMut.{same-len-mid}
-use mathlib.Core.Path.{_≡_, refl}
+-- `board::open` meets its contract.
+use Prim.Native.Nat.{ℕ, _-_}
+use native.Mathlib.Omega.{arith}
 use mathlib.Core.Bool.{true}
 use mathlib.Core.List.{_++_}
-use native.Mathlib.Omega.{arith}
+use mathlib.Core.Path.{_≡_, refl}
 use lib.ListN.{length, take, drop, length-set}
-use Prim.Native.Nat.{ℕ, _-_}
+use borrow.Author.Needs.{needs}
+use borrow.Rule.Slice.PartMut.{same-len-mid}
 use Rattle.rules.specs.Hall.{hallOf}
 use Rattle.rules.specs.Steps.{inRange}
 use Rattle.board.proofs.SoundLaws.{is-in, is-out}

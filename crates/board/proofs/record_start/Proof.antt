@@ -1,6 +1,7 @@
-use Rattle.board.proofs.Rows.{records-bound}
+-- `board::record_start` meets its contract.
 use native.Mathlib.Omega.{arith}
 use borrow.Author.Needs.{needs}
+use Rattle.board.proofs.Rows.{records-bound}
 use Rattle.board.proofs.record_start.Statement.{statement}
 use Rattle.board.proofs.record_start.Tie as tie
 

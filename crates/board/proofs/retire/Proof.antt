@@ -1,14 +1,14 @@
--- `board::retire` meets its contract. Assumes nothing.
+-- `board::retire` meets its contract.
 use Prim.Native.Nat.{ℕ, _+_, _*_, _-_}
+use native.Mathlib.Omega.{arith}
+use mathlib.Core.Path.{refl, sym, _∙_}
+use borrow.Author.Needs.{needs}
+use borrow.Rule.Slice.PartMut.{same-len-mid}
 use Rattle.rules.specs.Steps.{Retire}
 use Rattle.board.proofs.EntryLaws.{Entered, entered, refused}
 use Rattle.board.proofs.StepLaws.{Ready, ready, retire-told}
 use Rattle.board.proofs.retire.Statement.{statement}
 use Rattle.board.proofs.retire.Tie as tie
-use borrow.Author.Needs.{needs}
-use borrow.Rule.Slice.PartMut.{same-len-mid}
-use mathlib.Core.Path.{refl, sym, _∙_}
-use native.Mathlib.Omega.{arith}
 
 -- the questions are answered, and the record is the desk's
 here : (c : tie.After-known-told2) → Entered (c .before .before .before .before .before .before .args .t .now) (c .before .before .before .before .before .before .args .desk) (c .before .entry2 .given .0 .0)

@@ -1,14 +1,14 @@
-use Rattle.marks.proofs.BoolLaws.{not-true, not-false}
-use Rattle.board.proofs.Rows.{row-part}
-use Rattle.board.proofs.Rows.{row-ends}
-use Rattle.board.proofs.SoundLaws.{each, each-next, each-stop, each-all}
-use Rattle.rules.specs.Table.{recordSound}
-use lib.ListN.{take, drop}
-use mathlib.Core.Bool.{Bool, true}
-use mathlib.Core.Path.{_≡_, refl, sym, _∙_, ap}
+-- `board::sound_records` meets its contract.
 use Prim.Native.Nat.{ℕ, _+_, _-_, _*_, _≤_}
 use native.Mathlib.Omega.{arith}
+use mathlib.Core.Bool.{Bool, true}
+use mathlib.Core.Path.{_≡_, refl, sym, _∙_, ap}
+use lib.ListN.{take, drop}
 use borrow.Author.Needs.{needs}
+use Rattle.rules.specs.Table.{recordSound}
+use Rattle.marks.proofs.BoolLaws.{not-true, not-false}
+use Rattle.board.proofs.Rows.{row-part, row-ends}
+use Rattle.board.proofs.SoundLaws.{each, each-next, each-stop, each-all}
 use Rattle.board.proofs.sound_records.Statement.{statement}
 use Rattle.board.proofs.sound_records.Tie as tie
 

@@ -1,8 +1,9 @@
-use borrow.Author.Needs.{needs}
-use mathlib.Core.Path.{_≡_, refl, sym, _∙_}
-use mathlib.Core.Bool.{true}
+-- `board::swap` meets its contract.
 use native.Mathlib.Omega.{arith}
+use mathlib.Core.Bool.{true}
+use mathlib.Core.Path.{_≡_, refl, sym, _∙_}
 use lib.ListN.{length-set}
+use borrow.Author.Needs.{needs}
 use Rattle.rules.specs.Steps.{Swap, inRange}
 use Rattle.rules.specs.Table.{hallIn}
 use Rattle.board.proofs.EntryLaws.{Entered, entered, refused}

@@ -1,7 +1,8 @@
-use borrow.Author.Needs.{needs}
-use mathlib.Core.Path.{_≡_, refl, sym, _∙_}
-use mathlib.Core.Bool.{true}
+-- `board::take` meets its contract.
 use native.Mathlib.Omega.{arith}
+use mathlib.Core.Bool.{true}
+use mathlib.Core.Path.{_≡_, refl, sym, _∙_}
+use borrow.Author.Needs.{needs}
 use Rattle.rules.specs.Steps.{Take, inRange}
 use Rattle.rules.specs.Table.{hallIn}
 use Rattle.board.proofs.EntryLaws.{Entered, entered, refused}

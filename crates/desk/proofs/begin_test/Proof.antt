@@ -1,8 +1,9 @@
+-- `desk::begin_test` meets its contract.
+use native.Mathlib.Omega.{arith}
 use mathlib.Core.Path.{_∙_}
+use lib.ListN.{length-set}
 use Rattle.desk.proofs.DeskTie.{formed-of, begun-encoded}
 use Rattle.desk.proofs.DeskLaws.{facts, start-stores, start-none}
-use lib.ListN.{length-set}
-use native.Mathlib.Omega.{arith}
 use Rattle.desk.proofs.begin_test.Statement.{statement}
 use Rattle.desk.proofs.begin_test.Tie as tie
 

@@ -1,13 +1,13 @@
--- `desk::collect_record` meets its contract: each part leaves the record of a desk, from which the next goes on. Assumes nothing.
+-- `desk::collect_record` meets its contract: each part leaves the record of a desk, from which the next goes on.
+use native.Mathlib.Omega.{arith}
+use mathlib.Core.List.{[], _∷_}
+use mathlib.Core.Path.{_∙_, ap}
+use lib.ListN.{take}
+use borrow.Author.Needs.{needs}
 use Rattle.rules.specs.Hall.{Desk}
 use Rattle.rules.specs.Steps.{begin, handBack, scanAt, settle}
 use Rattle.rules.specs.Table.{decodeDesk, encodeDesk}
 use Rattle.desk.proofs.DeskTie.{Again, again, begin-places, scan-places, settle-places, begin-scanned}
-use lib.ListN.{take}
-use mathlib.Core.List.{[], _∷_}
-use mathlib.Core.Path.{_∙_, ap}
-use native.Mathlib.Omega.{arith}
-use borrow.Author.Needs.{needs}
 use Rattle.desk.proofs.collect_record.Statement.{statement}
 use Rattle.desk.proofs.collect_record.Tie as tie
 

@@ -1,15 +1,13 @@
-use Rattle.desk.proofs.DeskTie.{formed-of, first-handed, handed-encoded}
-use borrow.Rule.Slice.PartMut.{putMid}
-use lib.ListN.{getD, set}
-use mathlib.Core.List.{List}
-use mathlib.Core.Path.{ap}
-use Rattle.desk.proofs.DeskLaws.{facts, hand-stores, hand-none, first-ready, none-ready}
-use borrow.Rule.Slice.PartMut.{same-len-mid}
-use mathlib.Core.Path.{_∙_}
-use lib.ListN.{length, drop, length-take, length-drop}
+-- `desk::hand_back` meets its contract.
 use Prim.Native.Nat.{ℕ, _-_}
 use native.Mathlib.Omega.{arith}
+use mathlib.Core.List.{List}
+use mathlib.Core.Path.{ap, _∙_}
+use lib.ListN.{getD, set, length, drop, length-take, length-drop}
 use borrow.Author.Needs.{needs}
+use borrow.Rule.Slice.PartMut.{putMid, same-len-mid}
+use Rattle.desk.proofs.DeskTie.{formed-of, first-handed, handed-encoded}
+use Rattle.desk.proofs.DeskLaws.{facts, hand-stores, hand-none, first-ready, none-ready}
 use Rattle.desk.proofs.hand_back.Statement.{statement}
 use Rattle.desk.proofs.hand_back.Tie as tie
 

@@ -1,15 +1,13 @@
-use Rattle.desk.proofs.DeskTie.{formed-of, read-encoded, scanned-word}
-use Rattle.desk.proofs.DeskLaws.{tested-part, words-of, found, see-stores, see-none}
-use lib.ListN.{set, getD}
-use mathlib.Core.List.{List}
-use mathlib.Core.Path.{ap}
-use Rattle.desk.proofs.DeskLaws.{facts}
-use borrow.Rule.Slice.PartMut.{same-len-mid, putMid}
-use mathlib.Core.Path.{_∙_}
-use lib.ListN.{length}
+-- `desk::read_screen` meets its contract.
 use Prim.Native.Nat.{ℕ, _+_}
 use native.Mathlib.Omega.{arith}
+use mathlib.Core.List.{List}
+use mathlib.Core.Path.{ap, _∙_}
+use lib.ListN.{set, getD, length}
 use borrow.Author.Needs.{needs}
+use borrow.Rule.Slice.PartMut.{same-len-mid, putMid}
+use Rattle.desk.proofs.DeskTie.{formed-of, read-encoded, scanned-word}
+use Rattle.desk.proofs.DeskLaws.{tested-part, words-of, found, see-stores, see-none, facts}
 use Rattle.desk.proofs.read_screen.Statement.{statement}
 use Rattle.desk.proofs.read_screen.Tie as tie
 

@@ -1,14 +1,14 @@
--- `desk::read_screens` meets its contract. Assumes nothing.
+-- `desk::read_screens` meets its contract.
+use Prim.Native.Nat.{ℕ}
+use native.Mathlib.Omega.{arith}
+use mathlib.Core.List.{[], _∷_}
+use mathlib.Core.Path.{_≡_, _∙_, ap}
+use lib.ListN.{take}
+use borrow.Author.Needs.{needs}
 use Rattle.rules.specs.Hall.{Desk}
 use Rattle.rules.specs.Steps.{readScreens}
 use Rattle.rules.specs.Table.{decodeDesk, encodeDesk}
 use Rattle.desk.proofs.DeskTie.{Again, again, read-places, two-read}
-use lib.ListN.{take}
-use mathlib.Core.List.{[], _∷_}
-use mathlib.Core.Path.{_≡_, _∙_, ap}
-use Prim.Native.Nat.{ℕ}
-use native.Mathlib.Omega.{arith}
-use borrow.Author.Needs.{needs}
 use Rattle.desk.proofs.read_screens.Statement.{statement}
 use Rattle.desk.proofs.read_screens.Tie as tie
 

@@ -1,12 +1,13 @@
-use Rattle.desk.proofs.DeskTie.{finds}
-use Rattle.rules.specs.Hall.{usedPlaces}
-use Rattle.rules.specs.Table.{decodeDesk}
-use borrow.Author.Tests.{eq-eqb, ne-eqb, lt-ltb, le-ltb}
-use lib.ListN.{length-set}
-use mathlib.Core.Path.{_≡_, refl, sym, _∙_}
+-- `desk::retire_record` meets its contract.
 use Prim.Native.Nat.{_+_, _*_}
 use native.Mathlib.Omega.{arith}
+use mathlib.Core.Path.{_≡_, refl, sym, _∙_}
+use lib.ListN.{length-set}
 use borrow.Author.Needs.{needs}
+use borrow.Author.Tests.{eq-eqb, ne-eqb, lt-ltb, le-ltb}
+use Rattle.rules.specs.Hall.{usedPlaces}
+use Rattle.rules.specs.Table.{decodeDesk}
+use Rattle.desk.proofs.DeskTie.{finds}
 use Rattle.desk.proofs.retire_record.Statement.{statement}
 use Rattle.desk.proofs.retire_record.Tie as tie
 

@@ -1,11 +1,11 @@
--- `desk::scan` meets its contract. Assumes nothing.
-use Rattle.rules.specs.Table.{decodeDesk, encodeDesk}
-use Rattle.desk.proofs.DeskTie.{tested-word, scan-some, scan-none}
-use lib.ListN.{take}
+-- `desk::scan` meets its contract.
+use native.Mathlib.Omega.{arith}
 use mathlib.Core.List.{[], _∷_}
 use mathlib.Core.Path.{sym, _∙_, ap}
-use native.Mathlib.Omega.{arith}
+use lib.ListN.{take}
 use borrow.Author.Needs.{needs}
+use Rattle.rules.specs.Table.{decodeDesk, encodeDesk}
+use Rattle.desk.proofs.DeskTie.{tested-word, scan-some, scan-none}
 use Rattle.desk.proofs.scan.Statement.{statement}
 use Rattle.desk.proofs.scan.Tie as tie
 

@@ -1,12 +1,12 @@
--- `desk::settle` meets its contract. Assumes nothing.
+-- `desk::settle` meets its contract.
+use native.Mathlib.Omega.{arith}
+use mathlib.Core.Bool.{Bool}
+use mathlib.Core.Path.{sym, _∙_, ap}
+use borrow.Author.Needs.{needs}
+use borrow.Author.Tests.{eq-eqb, ne-eqb}
 use Rattle.rules.specs.Steps.{settleIf}
 use Rattle.rules.specs.Table.{decodeDesk, encodeDesk}
 use Rattle.desk.proofs.DeskTie.{scanned-word}
-use mathlib.Core.Bool.{Bool}
-use mathlib.Core.Path.{sym, _∙_, ap}
-use native.Mathlib.Omega.{arith}
-use borrow.Author.Needs.{needs}
-use borrow.Author.Tests.{eq-eqb, ne-eqb}
 use Rattle.desk.proofs.settle.Statement.{statement}
 use Rattle.desk.proofs.settle.Tie as tie
 

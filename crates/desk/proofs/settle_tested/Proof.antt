@@ -1,12 +1,13 @@
-use Rattle.desk.proofs.DeskTie.{formed-of, settled-encoded}
-use Rattle.desk.proofs.DeskLaws.{facts, counted, settle-stores}
-use borrow.Rule.Slice.PartMut.{same-len-mid, putMid}
+-- `desk::settle_tested` meets its contract.
+use Prim.Native.Nat.{ℕ, _-_, _+_}
+use native.Mathlib.Omega.{arith}
 use mathlib.Core.List.{List}
 use mathlib.Core.Path.{_≡_, _∙_, ap}
 use lib.ListN.{length, length-set, drop, take, length-take, length-drop, replicate}
-use Prim.Native.Nat.{ℕ, _-_, _+_}
-use native.Mathlib.Omega.{arith}
 use borrow.Author.Needs.{needs}
+use borrow.Rule.Slice.PartMut.{same-len-mid, putMid}
+use Rattle.desk.proofs.DeskTie.{formed-of, settled-encoded}
+use Rattle.desk.proofs.DeskLaws.{facts, counted, settle-stores}
 use Rattle.desk.proofs.settle_tested.Statement.{statement}
 use Rattle.desk.proofs.settle_tested.Tie as tie
 

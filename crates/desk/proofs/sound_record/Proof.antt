@@ -1,14 +1,14 @@
-use Rattle.marks.proofs.BoolLaws.{not-true, not-false}
-use Rattle.desk.proofs.DeskTie.{sound-of}
-use Rattle.desk.proofs.WordDesk.{used}
-use lib.Dec.{leb}
-use lib.ListN.{getD}
-use mathlib.Core.Path.{_≡_, ap₂}
-use Rattle.desk.proofs.SoundRecordLaws.{room, no-room, used-part, free-part, mark-part, read-part}
-use Rattle.desk.proofs.WordDesk.{soundRecord}
+-- `desk::sound_record` meets its contract.
 use Prim.Native.Nat.{_+_}
 use native.Mathlib.Omega.{arith}
+use mathlib.Core.Path.{_≡_, ap₂}
+use lib.Dec.{leb}
+use lib.ListN.{getD}
 use borrow.Author.Needs.{needs}
+use Rattle.marks.proofs.BoolLaws.{not-true, not-false}
+use Rattle.desk.proofs.DeskTie.{sound-of}
+use Rattle.desk.proofs.WordDesk.{used, soundRecord}
+use Rattle.desk.proofs.SoundRecordLaws.{room, no-room, used-part, free-part, mark-part, read-part}
 use Rattle.desk.proofs.sound_record.Statement.{statement}
 use Rattle.desk.proofs.sound_record.Tie as tie
 

@@ -1,5 +1,6 @@
-use Rattle.desk.proofs.SoundRecordLaws.{sound-read-is}
+-- `desk::sound_scan` meets its contract.
 use borrow.Author.Tests.{eq-eqb, ne-eqb, le-leb, lt-leb}
+use Rattle.desk.proofs.SoundRecordLaws.{sound-read-is}
 use Rattle.desk.proofs.sound_scan.Statement.{statement}
 use Rattle.desk.proofs.sound_scan.Tie as tie
 

@@ -1,11 +1,12 @@
-use Rattle.marks.proofs.Scan.{ended}
-use borrow.Author.Fill.{fill-more}
-use lib.ListN.{length, drop, set, length-set, replicate}
-use mathlib.Core.List.{List, _++_, append-nil}
-use mathlib.Core.Path.{_≡_, refl, _∙_, ap}
+-- `marks::clear` meets its contract.
 use Prim.Native.Nat.{ℕ, _-_, _≤_}
 use native.Mathlib.Omega.{arith}
+use mathlib.Core.List.{List, _++_, append-nil}
+use mathlib.Core.Path.{_≡_, refl, _∙_, ap}
+use lib.ListN.{length, drop, set, length-set, replicate}
+use borrow.Author.Fill.{fill-more}
 use borrow.Author.Needs.{needs}
+use Rattle.marks.proofs.Scan.{ended}
 use Rattle.marks.proofs.clear.Statement.{statement}
 use Rattle.marks.proofs.clear.Tie as tie
 

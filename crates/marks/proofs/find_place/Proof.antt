@@ -1,12 +1,13 @@
+-- `marks::find_place` meets its contract.
+use Prim.Native.Nat.{_+_, _-_, _≤_}
+use native.Mathlib.Omega.{arith}
+use mathlib.Core.Logic.{⊎-elim}
+use mathlib.Core.Path.{_≡_, sym, _∙_}
+use lib.ListN.{length, drop}
+use borrow.Author.Needs.{needs}
 use Rattle.marks.proofs.PlaceLaws.{find-other, find-marked, find-found, find-end}
 use Rattle.marks.proofs.MarkLaws.{marks-length, is-unmarked, is-marked}
 use Rattle.marks.specs.Marks.{marks, findPlace}
-use lib.ListN.{length, drop}
-use mathlib.Core.Logic.{⊎-elim}
-use mathlib.Core.Path.{_≡_, sym, _∙_}
-use Prim.Native.Nat.{_+_, _-_, _≤_}
-use native.Mathlib.Omega.{arith}
-use borrow.Author.Needs.{needs}
 use Rattle.marks.proofs.find_place.Statement.{statement}
 use Rattle.marks.proofs.find_place.Tie as tie
 

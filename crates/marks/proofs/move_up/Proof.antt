@@ -1,10 +1,11 @@
-use Rattle.marks.proofs.SplitLaws.{move-next, move-end}
-use lib.ListN.{length, take, drop, getD, set, length-set}
-use mathlib.Core.List.{_++_}
-use mathlib.Core.Path.{_≡_, refl, _∙_, ap}
+-- `marks::move_up` meets its contract.
 use Prim.Native.Nat.{ℕ, _+_, _-_, _≤_}
 use native.Mathlib.Omega.{arith}
+use mathlib.Core.List.{_++_}
+use mathlib.Core.Path.{_≡_, refl, _∙_, ap}
+use lib.ListN.{length, take, drop, getD, set, length-set}
 use borrow.Author.Needs.{needs}
+use Rattle.marks.proofs.SplitLaws.{move-next, move-end}
 use Rattle.marks.proofs.move_up.Statement.{statement}
 use Rattle.marks.proofs.move_up.Tie as tie
 

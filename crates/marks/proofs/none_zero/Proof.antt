@@ -1,8 +1,9 @@
+-- `marks::none_zero` meets its contract.
+use Prim.Native.Nat.{_≤_, _-_}
+use native.Mathlib.Omega.{arith}
 use mathlib.Core.Bool.{_&&_}
 use mathlib.Core.Logic.{⊎-elim}
 use mathlib.Core.Path.{_≡_, refl}
-use Prim.Native.Nat.{_≤_, _-_}
-use native.Mathlib.Omega.{arith}
 use lib.ListN.{length, drop}
 use Rattle.marks.specs.Words.{noneZero}
 use Rattle.marks.proofs.Scan.{noneZero-broken, noneZero-next, noneZero-end}

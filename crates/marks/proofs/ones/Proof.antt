@@ -1,13 +1,13 @@
+-- `marks::ones` meets its contract.
+use Prim.Native.Nat.{_≤_, _-_, _+_, _*_}
+use native.Mathlib.Omega.{arith}
+use mathlib.Core.Logic.{⊎-elim}
+use mathlib.Core.Path.{ap, _≡_}
+use lib.ListN.{length, drop, getD}
+use borrow.Author.Needs.{needs}
 use Rattle.marks.proofs.Scan.{ended}
 use Rattle.marks.proofs.MarkLaws.{ones-small, ones-of-none, onesIn-rest}
-use mathlib.Core.Path.{ap}
 use Rattle.marks.specs.Marks.{onesIn}
-use lib.ListN.{length, drop, getD}
-use mathlib.Core.Logic.{⊎-elim}
-use Prim.Native.Nat.{_≤_, _-_, _+_, _*_}
-use mathlib.Core.Path.{_≡_}
-use native.Mathlib.Omega.{arith}
-use borrow.Author.Needs.{needs}
 use Rattle.marks.proofs.ones.Statement.{statement}
 use Rattle.marks.proofs.ones.Tie as tie
 

@@ -1,6 +1,7 @@
+-- `marks::partition` meets its contract.
+use borrow.Author.Needs.{needs}
 use Rattle.marks.proofs.SplitLaws.{split-end}
 use Rattle.marks.specs.Marks.{marks}
-use borrow.Author.Needs.{needs}
 use Rattle.marks.proofs.partition.Statement.{statement}
 use Rattle.marks.proofs.partition.Tie as tie
 

@@ -1,11 +1,12 @@
+-- `marks::split` meets its contract.
+use Prim.Native.Nat.{_-_}
+use native.Mathlib.Omega.{arith}
+use mathlib.Core.Path.{sym, _∙_}
+use lib.ListN.{length}
+use borrow.Author.Needs.{needs}
 use Rattle.marks.proofs.SplitLaws.{Going, going-none, going-unmarked, going-marked, going-end}
 use Rattle.marks.proofs.MarkLaws.{marks-length, is-unmarked, is-marked}
 use Rattle.marks.specs.Marks.{marks}
-use lib.ListN.{length}
-use mathlib.Core.Path.{sym, _∙_}
-use Prim.Native.Nat.{_-_}
-use native.Mathlib.Omega.{arith}
-use borrow.Author.Needs.{needs}
 use Rattle.marks.proofs.split.Statement.{statement}
 use Rattle.marks.proofs.split.Tie as tie
 

@@ -1,7 +1,8 @@
+-- `board::Board::need` meets its contract.
 use Prim.Native.Nat.{ℕ, _+_, _*_, _≤_}
-use mathlib.Core.Path.{refl}
 use native.Mathlib.Nat.{mul-le-mul}
 use native.Mathlib.Omega.{arith}
+use mathlib.Core.Path.{refl}
 use Rattle.board.proofs.Board.need.Statement.{statement}
 use Rattle.board.proofs.Board.need.Tie as tie
 
