@@ -85,8 +85,9 @@ enum place { AT_START, AT_END, ALIGNED_0 /* to ALIGNED_0 + 7 */ };
 
 static struct {
     uint8_t *table;
-    size_t bytes; /* as told to the board */
-    size_t need;  /* bytes that the board may write; the rest is guarded */
+    size_t bytes;
+    size_t need; /* bytes that the board may write; the rest is guarded */
+    size_t told; /* as told to the board */
 } lent;
 
 static uint8_t before[BOARD_MOST_BYTES + SPARE];
@@ -103,6 +104,7 @@ static void lend(int place, size_t bytes)
         lent.table = ground + GUARD + (place - ALIGNED_0);
     lent.bytes = bytes;
     lent.need = bytes;
+    lent.told = bytes;
 }
 
 static bool guards_intact(void)
@@ -138,37 +140,37 @@ static uint32_t after(uint32_t answer)
 static uint32_t open_hall(uint16_t desks, uint16_t screens, uint16_t positions)
 {
     keep();
-    return after(board_open(desks, screens, positions, lent.table, lent.bytes));
+    return after(board_open(desks, screens, positions, lent.table, lent.told));
 }
 
 static uint32_t take(uint16_t desk, uint16_t screen, uint16_t position)
 {
     keep();
-    return after(board_take(desk, screen, position, lent.table, lent.bytes));
+    return after(board_take(desk, screen, position, lent.table, lent.told));
 }
 
 static uint32_t drop(uint16_t desk, uint16_t screen)
 {
     keep();
-    return after(board_drop(desk, screen, lent.table, lent.bytes));
+    return after(board_drop(desk, screen, lent.table, lent.told));
 }
 
 static uint32_t swap(uint16_t desk, uint16_t position, uint16_t session)
 {
     keep();
-    return after(board_swap(desk, position, session, lent.table, lent.bytes));
+    return after(board_swap(desk, position, session, lent.table, lent.told));
 }
 
 static uint32_t retire(uint16_t desk)
 {
     keep();
-    return after(board_retire(desk, lent.table, lent.bytes));
+    return after(board_retire(desk, lent.table, lent.told));
 }
 
 static uint32_t collect(uint16_t desk)
 {
     keep();
-    return after(board_collect(desk, lent.table, lent.bytes));
+    return after(board_collect(desk, lent.table, lent.told));
 }
 
 static void accepts(uint32_t answer, uint16_t session, const char *what)
@@ -198,6 +200,7 @@ static size_t record(uint16_t desk)
 
 static int book_place;
 static size_t book_spare;
+static size_t book_out_of_reach; /* told beyond what is lent, on the page after */
 
 /* A fresh hall, with some bytes past its need that stay guarded. */
 static void hall(uint16_t desks, uint16_t screens, uint16_t positions)
@@ -205,6 +208,7 @@ static void hall(uint16_t desks, uint16_t screens, uint16_t positions)
     size_t need = 2 * board_need(desks, screens, positions);
     lend(book_place, need + book_spare);
     lent.need = need;
+    lent.told = need + book_spare + book_out_of_reach;
     accepts(open_hall(desks, screens, positions), 0, "the opening");
     check(word(0) == desks && word(1) == screens && word(2) == positions, "the header");
     bool zeros = true;
@@ -510,6 +514,13 @@ int main(void)
     for (size_t spare = 0; spare <= SPARE; spare++)
         hall_book(AT_END, spare);
     far_corner(AT_END);
+    end();
+
+    begin("hall book with the words past the need out of reach");
+    book_out_of_reach = BOARD_MOST_BYTES;
+    hall_book(AT_END, 0);
+    far_corner(AT_END);
+    book_out_of_reach = 0;
     end();
 
     begin("hall book against the page before");
