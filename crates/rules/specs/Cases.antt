@@ -176,6 +176,8 @@ ours =
     ∷ board (hallOf 1 4 65) 19 (refused 3) []
     -- opened with garbage past the need: the steps do not see it
     ∷ board (hallOf 1 1 1) 25 (ok 0) ((Collect 1 ⇒ ok 0) ∷ [])
+    -- a number of four bytes, though three of them are 0
+    ∷ reads (0x81 ∷ 0x80 ∷ 0x80 ∷ 0x00 ∷ []) (refusal 0 16)
     ∷ []
 
 pub our-cases : map computed ours ≡ ours
