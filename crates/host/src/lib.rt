@@ -103,7 +103,7 @@ pub extern "C" fn board_open(desks: u16, screens: u16, positions: u16, table: &m
     ensures { λ r. ⌜ heard r (now (table .exit)) ≡ openBytes (hallOf desks screens positions) (now (table .entry)) ⌝ }
 {
     let m = front(desks, screens, positions);
-    let mut words = [0u16; 2387];
+    let mut words = [0u16; Board::MOST_WORDS];
     let n = decode(table, m, &mut words);
     let r = open(&mut words[..n], desks, screens, positions);
     encode(&words, n, table);
@@ -116,7 +116,7 @@ pub extern "C" fn board_take(desk: u16, screen: u16, position: u16, table: &mut 
     ensures { λ r. ⌜ heard r (now (table .exit)) ≡ stepBytes (now (table .entry)) (Take desk screen position) ⌝ }
 {
     let m = looked_at(table);
-    let mut words = [0u16; 2387];
+    let mut words = [0u16; Board::MOST_WORDS];
     let n = decode(table, m, &mut words);
     let r = take(&mut words[..n], desk, screen, position);
     encode(&words, n, table);
@@ -129,7 +129,7 @@ pub extern "C" fn board_drop(desk: u16, screen: u16, table: &mut [u8]) -> u32
     ensures { λ r. ⌜ heard r (now (table .exit)) ≡ stepBytes (now (table .entry)) (Drop desk screen) ⌝ }
 {
     let m = looked_at(table);
-    let mut words = [0u16; 2387];
+    let mut words = [0u16; Board::MOST_WORDS];
     let n = decode(table, m, &mut words);
     let r = drop(&mut words[..n], desk, screen);
     encode(&words, n, table);
@@ -142,7 +142,7 @@ pub extern "C" fn board_swap(desk: u16, position: u16, session: u16, table: &mut
     ensures { λ r. ⌜ heard r (now (table .exit)) ≡ stepBytes (now (table .entry)) (Swap desk position session) ⌝ }
 {
     let m = looked_at(table);
-    let mut words = [0u16; 2387];
+    let mut words = [0u16; Board::MOST_WORDS];
     let n = decode(table, m, &mut words);
     let r = swap(&mut words[..n], desk, position, session);
     encode(&words, n, table);
@@ -155,7 +155,7 @@ pub extern "C" fn board_retire(desk: u16, table: &mut [u8]) -> u32
     ensures { λ r. ⌜ heard r (now (table .exit)) ≡ stepBytes (now (table .entry)) (Retire desk) ⌝ }
 {
     let m = looked_at(table);
-    let mut words = [0u16; 2387];
+    let mut words = [0u16; Board::MOST_WORDS];
     let n = decode(table, m, &mut words);
     let r = retire(&mut words[..n], desk);
     encode(&words, n, table);
@@ -168,7 +168,7 @@ pub extern "C" fn board_collect(desk: u16, table: &mut [u8]) -> u32
     ensures { λ r. ⌜ heard r (now (table .exit)) ≡ stepBytes (now (table .entry)) (Collect desk) ⌝ }
 {
     let m = looked_at(table);
-    let mut words = [0u16; 2387];
+    let mut words = [0u16; Board::MOST_WORDS];
     let n = decode(table, m, &mut words);
     let r = collect(&mut words[..n], desk);
     encode(&words, n, table);

@@ -1,17 +1,15 @@
 -- The theorems say something: histories that meet their premises, the bound that is reached, and answers that the statements refuse.
-use Prim.Native.Nat.{ℕ, zero, suc, _+_, _≤_, _<_}
+use Prim.Native.Nat.{ℕ, suc, _+_, _≤_, _<_}
 use native.Mathlib.Omega.{arith}
 use mathlib.Core.Path.{_≡_, refl, sym, ap, _∙_, subst}
-use mathlib.Core.Bool.{Bool, true, false}
-use mathlib.Core.List.{List, [], _∷_, _++_, map}
-use lib.ListN.{length, take, replicate}
-use lib.Dec.{eqb}
-use borrow.Author.Tests.{eq-eqb, eqb-true}
-use Rattle.rules.specs.Hall.{Hall, hallOf, allScreens}
+use mathlib.Core.List.{List, [], _∷_, _++_}
+use lib.ListN.{take, replicate}
+use borrow.Author.Tests.{eq-eqb}
+use Rattle.rules.specs.Hall.{Hall, hallOf}
 use Rattle.rules.specs.Steps.{Call, Take, Drop, Swap, Retire, Collect, Event}
-use Rattle.rules.specs.Table.{openTable, runTable, endTable, stepTable, sound, recordSound, encodeDesk, decodeDesk}
-use Rattle.rules.specs.History.{Deed, takes, drops, swaps, retires, handsBack, nothing, deedAt, deedsOf, Disciplined, Unshown, Linked, DroppedBefore, NextSwap, NextRetire, isRetirement, isRetirementOf, isHandBackOf, retirements, handBacks, retirementsOf, handBacksOf, collectsOf, own}
-use Rattle.rules.specs.Demands.{Demand2, Demand3, Guarantee, BackWithin, exactBound}
+use Rattle.rules.specs.Table.{openTable, runTable, stepTable, sound, recordSound, encodeDesk, decodeDesk}
+use Rattle.rules.specs.History.{Deed, takes, swaps, retires, handsBack, deedAt, Disciplined, Linked, DroppedBefore, isRetirementOf, retirements, handBacks, handBacksOf}
+use Rattle.rules.specs.Demands.{Guarantee, BackWithin, exactBound}
 use Rattle.rules.specs.Theorems.{demand-2, demand-3, back-sooner}
 use Rattle.rules.specs.Cases.{_⇒_, ok}
 use Rattle.rules.specs.laws.Checks.{disciplined, placesWhere, nowhere, only-at, one-of-two, isDrop, never-shown}
@@ -162,7 +160,7 @@ refuses-marked-twice =
     (2, linked-at-once (deedAt markedTwice) 2 1 1 1 5 1 5 refl refl refl)
     (5, linked-at-once (deedAt markedTwice) 5 2 1 2 5 1 5 refl refl refl) r (ap (isRetirementOf 5) e))
 
--- ---- A pairing need not go in order: the first of two retirements of 5 is linked to a take that guard-kept shows it, so the hand-back
+-- ---- A pairing need not go in order: the first of two retirements of 5 is linked to a take that still shows it, so the hand-back
 -- is paired with the second.
 abbrev outOfOrder : List Call
 outOfOrder = Swap 1 1 5 ∷ Take 2 1 1 ∷ Swap 1 1 0 ∷ Retire 1 ∷ Swap 1 1 5 ∷ Swap 1 1 0 ∷ Retire 1 ∷ Collect 1 ∷ []

@@ -5,7 +5,7 @@ use mathlib.Core.Bool.{true}
 use mathlib.Core.List.{List}
 use lib.ListN.{take}
 use Rattle.rules.specs.Hall.{Hall, allScreens}
-use Rattle.rules.specs.Steps.{Call, Event}
+use Rattle.rules.specs.Steps.{Call}
 use Rattle.rules.specs.Table.{sound, openTable, stepTable, runTable, endTable}
 use Rattle.rules.specs.Bytes.{Words16, IsBytes, Call16, Calls16, wordsOfBytes, Agrees, openBytes, stepBytes, runBytes, endBytes}
 use Rattle.rules.specs.History.{numberAt}

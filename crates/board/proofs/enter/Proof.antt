@@ -17,11 +17,11 @@ use Rattle.board.proofs.enter.Statement.{statement}
 use Rattle.board.proofs.enter.Tie as tie
 
 -- the table is sound
-encode-is-sound : (c : tie.Else1) → sound (c .before .before .before .args .t .now) ≡ true
-encode-is-sound c = sym (c .before .sound .ensures) ∙ not-false (c .if1 .left)
+table-is-sound : (c : tie.Else1) → sound (c .before .before .before .args .t .now) ≡ true
+table-is-sound c = sym (c .before .sound .ensures) ∙ not-false (c .if1 .left)
 
 facts : (c : tie.Else1) → Known (c .before .before .before .args .t .now)
-facts c = known (c .before .before .before .args .t .now) (encode-is-sound c)
+facts c = known (c .before .before .before .args .t .now) (table-is-sound c)
 
 -- the desk is one of the hall's
 is-desk : (c : tie.Else2) → inRange (c .before .before .before .before .before .before .args .desk) (hallIn (c .before .before .before .before .before .before .args .t .now) .desks) ≡ true
@@ -49,7 +49,7 @@ in-range-requires c κs = search needs
 
 returns-2 : tie.Need-returns-2
 unfolding entryOf
-returns-2 c = simp (encode-is-sound (c .before .before .before), is-out (c .before .in-range .result) (c .before .before .before .before .before .before .args .desk) (c .before .before .word .result) (hallIn (c .before .before .before .before .before .before .args .t .now) .desks) (c .before .in-range .ensures) (c .before .before .word .ensures .0) (c .if2 .taken))
+returns-2 c = simp (table-is-sound (c .before .before .before), is-out (c .before .in-range .result) (c .before .before .before .before .before .before .args .desk) (c .before .before .word .result) (hallIn (c .before .before .before .before .before .before .args .t .now) .desks) (c .before .in-range .ensures) (c .before .before .word .ensures .0) (c .if2 .taken))
 
 word-requires-2 : tie.Need-word-requires-2
 word-requires-2 c κs = let f = facts (c .before .before .before) in omega arith
@@ -68,7 +68,7 @@ record-start-requires c κs = let f = facts (c .before .before .before .before .
 
 returns-3 : tie.Need-returns-3
 unfolding entryOf
-returns-3 c = let e = all-is (c .before) in let g : c .record-start .result ≡ recordStart (hallIn (c .before .before .before .before .before .before .before .before .before .args .t .now)) (c .before .before .before .before .before .before .before .before .before .args .desk) = c .record-start .ensures .0 ∙ (λ i. 3 + c .before .word3 .ensures .0 i + e i + (c .before .before .before .before .before .before .before .before .before .args .desk - 1) * (13 + 2 * e i)) in simp (encode-is-sound (c .before .before .before .before .before .before), is-desk (c .before .before .before)) (λ i. Entry.At (record { positions = c .before .word3 .ensures .0 i; screens = c .before .before .word2 .ensures .0 i; all = e i; start = g i }))
+returns-3 c = let e = all-is (c .before) in let g : c .record-start .result ≡ recordStart (hallIn (c .before .before .before .before .before .before .before .before .before .args .t .now)) (c .before .before .before .before .before .before .before .before .before .args .desk) = c .record-start .ensures .0 ∙ (λ i. 3 + c .before .word3 .ensures .0 i + e i + (c .before .before .before .before .before .before .before .before .before .args .desk - 1) * (13 + 2 * e i)) in simp (table-is-sound (c .before .before .before .before .before .before), is-desk (c .before .before .before)) (λ i. Entry.At (record { positions = c .before .word3 .ensures .0 i; screens = c .before .before .word2 .ensures .0 i; all = e i; start = g i }))
 
 pub enter-spec : {M : Type 1} → statement M
 enter-spec =

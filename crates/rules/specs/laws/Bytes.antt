@@ -3,7 +3,7 @@ use Prim.Native.Nat.{ℕ, zero, suc, _+_, _*_, _-_, _/_, _%_, _≤_, _<_}
 use native.Mathlib.Omega.{arith}
 use mathlib.Core.Path.{_≡_, refl, sym, ap, subst, _∙_}
 use mathlib.Core.Bool.{false}
-use mathlib.Core.List.{List, [], _∷_, _++_}
+use mathlib.Core.List.{List, [], _∷_, _++_, append-nil}
 use lib.ListN.{length, getD, drop, length-append, length-drop}
 use lib.Seq.{drop-at, getD-drop}
 use Rattle.rules.specs.Bytes.{Agrees, Call16, Calls16, IsBytes, Words16, answerIn, bytesOfWords, endBytes, laidOver, onBytes, openBytes, reply}
@@ -46,13 +46,6 @@ no-word [] h = refl
 no-word (low ∷ []) h = refl
 no-word (low ∷ high ∷ bytes) h = absurd (omega arith)
 
-append-nothing : (words : List ℕ) → words ++ [] ≡ words
-append-nothing [] = refl
-append-nothing (word ∷ words) = ap {B = List ℕ} (λ r. word ∷ r) (append-nothing words)
-
-pub words-back : (words : List ℕ) → Words16 words → wordsOfBytes (bytesOfWords words) ≡ words
-words-back words h = ap wordsOfBytes (sym (append-nothing (bytesOfWords words))) ∙ words-then words [] h ∙ append-nothing words
-
 -- ---- Words laid over bytes.
 low-and-high : (low high : ℕ) → low < 256 → high < 256 → ((low + 256 * high) % 256 ≡ low) × ((low + 256 * high) / 256 % 256 ≡ high)
 low-and-high low high l h = let d : (low + 256 * high) / 256 ≡ high = omega arith in (omega arith, omega arith)
@@ -89,7 +82,7 @@ laid-words words bytes h e =
     words-then words (drop (2 * length words) bytes) h
     ∙ ap (λ (r : List ℕ). words ++ r)
     (no-word (drop (2 * length words) bytes) (omega (arith, length-drop (2 * length words) bytes, words-length bytes)))
-    ∙ append-nothing words
+    ∙ append-nil words
 
 -- ---- The answer in one number.
 pub heard-back : (answer : Answer) → answer .session < 65536 → answerIn (reply answer) ≡ answer

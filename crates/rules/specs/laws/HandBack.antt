@@ -1,4 +1,4 @@
--- The hand-back at thisReading desk: how many collects a retired session guard-kept takes.
+-- The hand-back at one desk: how many collects a retired session still takes.
 use Prim.Native.Nat.{_%_, ℕ, suc, _+_, _*_, _≤_, _<_}
 use native.Mathlib.Omega.{arith}
 use mathlib.Core.Path.{_≡_, refl, sym, ap, _∙_}

@@ -1,4 +1,4 @@
--- The pairing of hand-backs with retirements, of one session by one desk, built as the calls by-cases on.
+-- The pairing of hand-backs with retirements, of one session by one desk, built as the calls go on.
 use Prim.Native.Nat.{ℕ, zero, suc, _+_, _≤_, _<_}
 use native.Mathlib.Omega.{arith}
 use native.Mathlib.Decide.{ℕ-discrete, decLe}

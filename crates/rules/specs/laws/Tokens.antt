@@ -1,5 +1,5 @@
 -- The retirements of one session by one desk that are not handed back, one for each copy on the desk's list;
--- those that a screen is linkedTo to are no more than the copies tested and waiting.
+-- those that a screen is linked to are no more than the copies tested and waiting.
 use Prim.Native.Nat.{ℕ, zero, suc, _+_, _≤_, _<_, min, max}
 use native.Mathlib.Omega.{arith}
 use native.Mathlib.Decide.{ℕ-discrete, decLt, decLe}
@@ -18,7 +18,7 @@ use Rattle.rules.specs.laws.Links.{Agree, Link, ScreensAgree, beforeReti
 use Rattle.rules.specs.laws.Lists.{copies-append, matches, matches-at-most-one, matches-other, matches-same}
 use Rattle.rules.specs.laws.Marks.{tested-copies-begin, tested-copies-mark, tested-copies-mark-each, testedCopies}
 
--- 1 if the screen is linkedTo to the retirement at r
+-- 1 if the screen is linked to the retirement at r
 abbrev pub ties : ℕ → Link → ℕ
 ties r unlinked = 0
 ties r (beforeSwap p) = 0
@@ -54,7 +54,7 @@ sum-max : (g h : ℕ → ℕ) (us : List ℕ) → sumOver (λ r. max (g r) (h r)
 sum-max g h [] = omega arith
 sum-max g h (r ∷ us) = omega (arith, sum-max g h us)
 
--- A retirement that is made stays linkedTo to no more screens.
+-- A retirement that is made stays linked to no more screens.
 ties-next : (H : Hall) (x n : ℕ) (D : Deed) (l : Link) (r : ℕ) → r < n → ties r (next H x n D l) ≤ ties r l
 ties-next H x n (takes d c p v) unlinked r h = by-cases (eqb (screenIndex H d c) x)
   where
@@ -184,7 +184,7 @@ pub record Tokens (H : Hall) (f : ℕ → Deed) (s n : ℕ) (D : Desk) (count : 
   pub same : (r : ℕ) → copies r old + copies r new ≡ count r
   pub held : Held H f s n D old new
 
--- One leaves that no screen is linkedTo to.
+-- One leaves that no screen is linked to.
 pub record Leaves (H : Hall) (f : ℕ → Deed) (s n : ℕ) (D : Desk) (count : ℕ → ℕ) : Type 0 where
   pub it : ℕ
   pub loose : live H f n (allScreens H) it ≡ 0

@@ -1,4 +1,4 @@
--- A take that is linked to a retirement is dropped, or its screen is linkedTo to that retirement.
+-- A take that is linked to a retirement is dropped, or its screen is linked to that retirement.
 use Prim.Native.Nat.{ℕ, zero, suc, _+_, _-_, _≤_, _<_}
 use native.Mathlib.Omega.{arith}
 use native.Mathlib.Decide.{ℕ-discrete}

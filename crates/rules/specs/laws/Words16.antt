@@ -5,17 +5,16 @@ use mathlib.Core.Path.{_≡_, refl, sym, ap, subst, _∙_}
 use mathlib.Core.Bool.{Bool, true, false, cond, not}
 use mathlib.Core.List.{List, [], _∷_, _++_, map}
 use lib.ListN.{length, getD, take, drop, set, replicate, length-append, length-drop, length-replicate, length-take}
-use lib.Dec.{leb, ltb, eqb}
-use borrow.Author.Tests.{ltb-true, ltb-false, leb-true, eqb-false, not-true}
+use lib.Dec.{ltb, eqb}
+use borrow.Author.Tests.{ltb-true, ltb-false, eqb-false, not-true}
 use Rattle.rules.specs.Bytes.{Call16, Words16}
 use Rattle.rules.specs.Demands.{refusals}
 use Rattle.rules.specs.Hall.{Desk, Hall, State, TestedPlace, allScreens, deskOf, emptyDesk, screenIndex, usedPlaces}
 use Rattle.rules.specs.History.{copies}
 use Rattle.rules.specs.Steps.{Call, Collect, Drop, Question, Retire, Swap, Take, collect, decide, firstNo, inRange, perform, questions, retire}
-use Rattle.rules.specs.Table.{TableDone, decode, decodeDesk, encode, encodeDesk, every, hallIn, listOf, marksIn, marksOf, need, openQuestions}
+use Rattle.rules.specs.Table.{TableDone, decode, decodeDesk, encode, encodeDesk, hallIn, listOf, marksIn, marksOf, need, openQuestions}
 use Rattle.rules.specs.Table.{openTable, openedTable, placesOf, positionWord, putRecord, recordOf, recordStart, recordWidth, screenWord, sound}
 use Rattle.rules.specs.Table.{stepTable, wordOfBits, wordsOfBits, written}
-use Rattle.rules.specs.laws.Bools.{and-left, and-right}
 use Rattle.rules.specs.laws.Collect.{collect-copies, copiesOn, retire-copies}
 use Rattle.rules.specs.laws.Decoding.{small-drop, small-take}
 use Rattle.rules.specs.laws.Effect.{in-range, retire-questions}
@@ -188,7 +187,7 @@ by-open Q H t refused accepted = told (firstNo (openQuestions H t)) refl
     told (suc n) q = subst Q (sym (refused-open H t n q)) (refused n q)
 
 -- ---- The number in an answer.
--- the first question that is answered no guard-retire its own number
+-- the first question that is answered no gives its own number
 pub first-no-is-asked : (qs : List Question) (n : ℕ) → firstNo qs ≡ suc n → 1 ≤ copies (suc n) (map (λ q. q .number) qs)
 first-no-is-asked [] n h = absurd (omega arith)
 first-no-is-asked (q ∷ qs) n h = by-cases (q .yes?) h (first-no-is-asked qs n)
@@ -198,14 +197,6 @@ first-no-is-asked (q ∷ qs) n h = by-cases (q .yes?) h (first-no-is-asked qs n)
     by-cases true e later = omega (arith, later e)
     by-cases false e later = omega (arith, ap (matches (suc n)) e, matches-same (suc n))
 
-first-no-at-most : (m : ℕ) (qs : List Question) → every (λ n. leb n m) (map (λ q. q .number) qs) ≡ true → firstNo qs ≤ m
-first-no-at-most m [] h = omega arith
-first-no-at-most m (q ∷ qs) h = by-cases (q .yes?) (first-no-at-most m qs (and-right (leb (q .number) m) (every (λ n. leb n m) (map (λ p. p .number) qs)) h))
-  where
-    by-cases : (b : Bool) → firstNo qs ≤ m → cond b (firstNo qs) (q .number) ≤ m
-    by-cases true e = e
-    by-cases false e = leb-true (q .number) m (and-left (leb (q .number) m) (every (λ n. leb n m) (map (λ p. p .number) qs)) h)
-
 refusals-are-asked : (H : Hall) (st : State) (c : Call) → refusals c ≡ 5 ∷ map (λ q. q .number) (questions H st c)
 refusals-are-asked H st (Take d c p) = refl
 refusals-are-asked H st (Drop d c) = refl
@@ -213,22 +204,7 @@ refusals-are-asked H st (Swap d p w) = refl
 refusals-are-asked H st (Retire d) = refl
 refusals-are-asked H st (Collect d) = refl
 
-asked-at-most : (H : Hall) (st : State) (c : Call) → firstNo (questions H st c) ≤ 14
-asked-at-most H st (Take d c p) = first-no-at-most 14 (questions H st (Take d c p)) refl
-asked-at-most H st (Drop d c) = first-no-at-most 14 (questions H st (Drop d c)) refl
-asked-at-most H st (Swap d p w) = first-no-at-most 14 (questions H st (Swap d p w)) refl
-asked-at-most H st (Retire d) = first-no-at-most 14 (questions H st (Retire d)) refl
-asked-at-most H st (Collect d) = first-no-at-most 14 (questions H st (Collect d)) refl
-
-pub step-number : (t : List ℕ) (c : Call) → stepTable t c .answer .number ≤ 14
-step-number t c =
-    by-step (λ r. r .answer .number ≤ 14) t c (omega arith) (λ n q. omega (arith, asked-at-most (hallIn t) (decode (hallIn t) t) c))
-    (λ s q. omega arith)
-
-pub open-number : (H : Hall) (t : List ℕ) → openTable H t .answer .number ≤ 4
-open-number H t = by-open (λ r. r .answer .number ≤ 4) H t (λ n q. omega (arith, first-no-at-most 4 (openQuestions H t) refl)) (λ q. omega arith)
-
--- "A refused call guard-retire its number from document 01 and session 0, and every lent word .. keeps its content."
+-- "A refused call gives its number from document 01 and session 0, and every lent word .. keeps its content."
 pub step-refused : (t : List ℕ) (c : Call) (n : ℕ) → stepTable t c .answer .number ≡ suc n
     → (1 ≤ copies (suc n) (refusals c)) × (stepTable t c .answer .session ≡ 0) × (stepTable t c .after ≡ t)
 step-refused t c =

@@ -418,7 +418,7 @@ opening-ranges hall e =
     by-answers true false positions long d c p q = absurd (omega arith)
     by-answers false screens positions long d c p q = absurd (omega arith)
 
--- "Is the table at least the need? 4": the table that the program lends is, so its opening guard-retire 1, 2, 3 or 0.
+-- "Is the table at least the need? 4": the table that the program lends is, so its opening gives 1, 2, 3 or 0.
 need-at-most : (hall : Hall) → Ranges hall → need hall ≤ 2387
 unfolding IsLe
 need-at-most hall ranges =

@@ -2,7 +2,7 @@
 use Prim.Native.Nat.{ℕ, zero, suc, _+_, _≤_, min}
 use native.Mathlib.Omega.{arith}
 use mathlib.Core.Path.{_≡_, refl, sym, ap, _∙_}
-use mathlib.Core.Bool.{Bool, true, false, cond, not}
+use mathlib.Core.Bool.{Bool, true, false, cond}
 use mathlib.Core.List.{List, [], _∷_, _++_, append-assoc}
 use lib.Dec.{ltb, eqb}
 use borrow.Author.Tests.{ltb-true, ltb-false, not-true}
@@ -93,7 +93,7 @@ tally-from total (event ∷ events) fits =
     (more-up-to (isRefused event) (total .refused) (howMany isRefused events))
     (more-up-to (isHandedBack event) (total .handedBack) (howMany isHandedBack events))
 
--- "Started at zeros, the total equals the counts in the list of replies, each up to that largest"
+-- "Started at zeros, the tally equals the counts in the list of replies, each up to that largest"
 pub tally-from-zeros : (events : List Event) → tallied zeros events ≡ countsIn events
 tally-from-zeros events =
     tally-from zeros events (record { accepted = omega arith; refused = omega arith; handedBack = omega arith })
