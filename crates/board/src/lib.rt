@@ -6,14 +6,17 @@ use desk::sound_record;
 use marks::clear;
 use marks::word;
 use reply::Reply;
+use reply::number;
 ghost use mathlib.Core.Path.{_≡_};
 ghost use Prim.Native.Nat.{_+_, _-_, _*_, _≤_, _<_};
 ghost use lib.ListN.{length, drop as dropWords};
 ghost use Rattle.rules.specs.Hall.{hallOf};
 ghost use Rattle.rules.specs.Steps.{Collect, Drop, Retire, Swap, Take, inRange};
 ghost use Rattle.rules.specs.Table.{everyRecord, need as hallNeed, openTable, pieces, recordSound, sound as soundTable, stepTable};
-ghost use Rattle.reply.specs.Answer.{told};
+ghost use Rattle.reply.specs.Answer.{answerOf, told};
 ghost use Rattle.board.specs.Entry.{entryOf};
+ghost use Rattle.board.specs.Asked.{callOf};
+ghost use Rattle.board.specs.Opening.{OpeningAnswer};
 
 // Where things stand in a table: P, the desks.
 const DESKS: usize = 0;
@@ -150,9 +153,9 @@ fn enter(t: &[u16], desk: u16) -> Entry
     })
 }
 
-// Opening writes P, c, L and zeros up to the need.
-pub fn open(t: &mut [u16], desks: u16, screens: u16, positions: u16) -> Reply
-    ensures { λ r. ⌜ told r (now (t .exit)) ≡ openTable (hallOf desks screens positions) (now (t .entry)) ⌝ }
+// What the opening of a hall asks, in order, of its three numbers and of the words that the table has.
+pub fn opening(desks: u16, screens: u16, positions: u16, words: usize) -> Reply
+    ensures { λ r. ⌜ OpeningAnswer (hallOf desks screens positions) words (answerOf r) ⌝ }
 {
     if !in_range(desks, Board::MOST_DESKS) {
         return Reply::BadDesks;
@@ -163,10 +166,21 @@ pub fn open(t: &mut [u16], desks: u16, screens: u16, positions: u16) -> Reply
     if !in_range(positions, Board::MOST_POSITIONS) {
         return Reply::BadPositions;
     }
-    let n = Board::need(desks, screens, positions);
-    if t.len() < n {
+    if words < Board::need(desks, screens, positions) {
         return Reply::TooShort;
     }
+    Reply::Accepted(0)
+}
+
+// Opening writes P, c, L and zeros up to the need.
+pub fn open(t: &mut [u16], desks: u16, screens: u16, positions: u16) -> Reply
+    ensures { λ r. ⌜ told r (now (t .exit)) ≡ openTable (hallOf desks screens positions) (now (t .entry)) ⌝ }
+{
+    let r = opening(desks, screens, positions, t.len());
+    if number(r) != 0 {
+        return r;
+    }
+    let n = Board::need(desks, screens, positions);
     clear(&mut t[HEADER..n]);
     t[DESKS] = desks;
     t[SCREENS] = screens;
@@ -296,5 +310,27 @@ pub fn collect(t: &mut [u16], desk: u16) -> Reply
                 Reply::Accepted(collect_record(&mut t[a..e], s, 1, x, 0))
             }
         }
+    }
+}
+
+// A step with the numbers in its call.
+pub enum Call {
+    Take(u16, u16, u16),
+    Drop(u16, u16),
+    Swap(u16, u16, u16),
+    Retire(u16),
+    Collect(u16),
+}
+
+// The step that a call asks for.
+pub fn step(t: &mut [u16], call: Call) -> Reply
+    ensures { λ r. ⌜ told r (now (t .exit)) ≡ stepTable (now (t .entry)) (callOf call) ⌝ }
+{
+    match call {
+        Call::Take(desk, screen, position) => take(t, desk, screen, position),
+        Call::Drop(desk, screen) => drop(t, desk, screen),
+        Call::Swap(desk, position, session) => swap(t, desk, position, session),
+        Call::Retire(desk) => retire(t, desk),
+        Call::Collect(desk) => collect(t, desk),
     }
 }

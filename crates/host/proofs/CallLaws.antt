@@ -1,39 +1,57 @@
--- A call that decodes the front of the table, calls the board and encodes what it left does what the rules do on the bytes.
-use Prim.Native.Nat.{ℕ, _≤_}
+-- A step that decodes the front of the table, calls the board and encodes what it left does what the rules do on the bytes.
+use Prim.Native.Nat.{ℕ, zero, suc, _≤_}
 use native.Mathlib.Omega.{arith}
-use mathlib.Core.Path.{_≡_, ap, _∙_}
+use mathlib.Core.Path.{_≡_, refl, sym, ap, _∙_}
 use mathlib.Core.List.{List, _++_}
 use lib.ListN.{length, take, drop}
 use lib.Seq.{length-take-le, take-at}
-use Rattle.rules.specs.Hall.{Hall}
 use Rattle.rules.specs.Steps.{Call}
-use Rattle.rules.specs.Table.{hallIn, stepTable, openTable}
-use Rattle.rules.specs.Bytes.{IsBytes, wordsOfBytes, laidOver, reply, stepBytes, openBytes}
-use Rattle.rules.specs.laws.Front.{step-on-front, open-on-front}
+use Rattle.rules.specs.Table.{TableDone, hallIn, stepTable}
+use Rattle.rules.specs.Bytes.{IsBytes, laidOver, reply, stepBytes, wordsOfBytes}
+use Rattle.rules.specs.laws.Bytes.{words-are-16}
+use Rattle.rules.specs.laws.Decoding.{small-take}
+use Rattle.rules.specs.laws.Front.{front-laid-back, step-on-front}
+use Rattle.rules.specs.laws.Words16.{step-length, step-refused}
 use Rattle.reply.specs.declared.Reply.{Reply}
 use Rattle.reply.specs.Answer.{answerOf, told}
-use Rattle.host.specs.Heard.{heard, Front, Decoded}
+use Rattle.host.specs.Heard.{heard, Front, Seen, Told}
 
--- At most m words were read into the buffer, and the first n of it were lent to the board.
-module _ (m n number : ℕ) (bytes words after out : List ℕ) (r : Reply) (are : IsBytes bytes) (room : m ≤ length words)
-    (decoded : Decoded bytes m words n)
-    (as-long : length after ≡ length (take n words)) (written : out ≡ laidOver (take n (after ++ drop n words)) bytes) (answer : number ≡ reply (answerOf r)) where
-  laid : out ≡ laidOver after bytes
-  laid =
-      written
-      ∙ ap (λ (l : List ℕ). laidOver l bytes) (take-at after (drop n words) n (as-long ∙ length-take-le n words (omega (arith, decoded .fit))))
+-- The board was lent the first n words of a buffer, and left others in their place.
+module _ (n number : ℕ) (call : Call) (buffer bytes after : List ℕ) (r : Reply) (answer : number ≡ reply (answerOf r))
+    (e : told r after ≡ stepTable (take n buffer) call) where
+  number-is : answerOf r .number ≡ stepTable (take n buffer) call .answer .number
+  number-is = ap (λ (d : TableDone). d .answer .number) e
 
-  heard-is : heard number out ≡ record { reply = reply (answerOf r); after = laidOver after bytes }
-  heard-is = λ i. record { reply = answer i; after = laid i }
+  answer-is : number ≡ reply (stepTable (take n buffer) call .answer)
+  answer-is = answer ∙ ap (λ (d : TableDone). reply (d .answer)) e
 
-  pub step-heard : Front (hallIn (wordsOfBytes bytes)) m → (c : Call) → told r after ≡ stepTable (take n words) c
-      → heard number out ≡ stepBytes bytes c
-  step-heard front c e =
-      heard-is
-      ∙ step-on-front m bytes are (told r after) (as-long ∙ ap length (decoded .front)) (front .header) (front .enough) c
-      (e ∙ ap (λ (t : List ℕ). stepTable t c) (decoded .front))
+  pub refusal-told : (answerOf r .number ≡ 0 → ⊥) → Told number call (take n buffer) bytes bytes
+  refusal-told refused =
+      record { answer = answer-is; written = λ z. absurd (refused (number-is ∙ z)); refused = λ _. refl }
 
-  pub open-heard : (H : Hall) → Front H m → told r after ≡ openTable H (take n words) → heard number out ≡ openBytes H bytes
-  open-heard H front e =
-      heard-is
-      ∙ open-on-front m bytes are (told r after) (as-long ∙ ap length (decoded .front)) H (front .enough) (e ∙ ap (openTable H) (decoded .front))
+  pub step-told : answerOf r .number ≡ 0 → n ≤ length buffer → length after ≡ length (take n buffer) → (out : List ℕ)
+      → out ≡ laidOver (take n (after ++ drop n buffer)) bytes → Told number call (take n buffer) bytes out
+  step-told accepted room as-long out laid =
+      let lent : take n (after ++ drop n buffer) ≡ after = take-at after (drop n buffer) n (as-long ∙ length-take-le n buffer room) in
+      record {
+        answer = answer-is;
+        written = λ _. laid ∙ ap (λ (words : List ℕ). laidOver words bytes) (lent ∙ ap (λ (d : TableDone). d .after) e);
+        refused = λ no-step. absurd (no-step (sym number-is ∙ accepted));
+      }
+
+-- Of the first m words n are there, and the step was on these.
+pub step-heard : (m n number : ℕ) (bytes words out : List ℕ) (call : Call) → IsBytes bytes → Front (hallIn (wordsOfBytes bytes)) m → Seen bytes m n
+    → words ≡ take n (wordsOfBytes bytes) → Told number call words bytes out → heard number out ≡ stepBytes bytes call
+step-heard m n number bytes words out call are front seen read done =
+    let ws : List ℕ = wordsOfBytes bytes in
+    let lent : words ≡ take m ws = read ∙ seen .front in
+    let long : length (stepTable words call .after) ≡ length (take m ws) =
+    ap (λ (w : List ℕ). length (stepTable w call .after)) lent ∙ step-length (take m ws) call (small-take m ws (words-are-16 bytes are)) in
+    (λ i. record { reply = done .answer i; after = left (stepTable words call .answer .number) refl i })
+    ∙ step-on-front m bytes are (stepTable words call) long (front .header) (front .enough) call (ap (λ (w : List ℕ). stepTable w call) lent)
+  where
+    left : (k : ℕ) → stepTable words call .answer .number ≡ k → out ≡ laidOver (stepTable words call .after) bytes
+    left zero q = done .written q
+    left (suc k) q =
+        done .refused (λ z. absurd (omega (arith, q, z)))
+        ∙ sym (ap (λ (w : List ℕ). laidOver w bytes) (step-refused words call k q .2 ∙ read ∙ seen .front) ∙ front-laid-back m bytes are)

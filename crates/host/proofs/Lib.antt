@@ -1,3 +1,5 @@
+-- Laws that several proofs cite.
 pub mod WordLaws
 pub mod FrontLaws
 pub mod CallLaws
+pub mod OpenLaws

@@ -2,12 +2,11 @@
 use mathlib.Core.Path.{_≡_, refl, ap, sym, _∙_}
 use mathlib.Core.List.{List, [], _∷_, _++_, append-assoc}
 use Prim.Native.Nat.{ℕ, zero, suc, _+_, _*_, _/_, _%_, _≤_, _<_}
-use native.Mathlib.Nat.{not-suc-le-zero, eq-or-lt-of-le}
-use mathlib.Core.Logic.{⊎-elim}
+use native.Mathlib.Nat.{not-suc-le-zero}
 use native.Mathlib.Numerals.{add-one}
 use native.Mathlib.Omega.{arith}
 use lib.ListN.{length, getD, set, take, drop, length-append}
-use lib.Seq.{take-suc, take-suc-set, take-all, length-take-le, drop-cons, set-at}
+use lib.Seq.{take-suc, take-suc-set, length-take-le, drop-cons, set-at}
 use Rattle.rules.specs.Bytes.{wordsOfBytes, bytesOfWords, laidOver}
 
 -- the k-th word is made of the bytes 2k and 2k + 1
@@ -73,13 +72,10 @@ write-more w s i h g =
 pub word-at2 : (s : List ℕ) (k : ℕ) → k + k + 1 < length s → getD s (2 * k) 0 + 256 * getD s (2 * k + 1) 0 ≡ getD (wordsOfBytes s) k 0
 word-at2 s k h = let e : 2 * k ≡ k + k = omega arith in rw e (sym (word-at s k h))
 
--- what is read is all, where no more is there
-pub read-all : (w ws : List ℕ) (n m : ℕ) → take n w ≡ take n ws → n ≤ m → (n < m → length ws ≤ n) → take n w ≡ take m ws
-read-all w ws n m e h f =
-    ⊎-elim (λ eq. e ∙ ap (λ (k : ℕ). take k ws) eq)
-    (λ lt. let g : length ws ≤ n = f lt in let g′ : length ws ≤ m = omega arith in e ∙ take-all n ws g ∙ sym (take-all m ws g′))
-    (eq-or-lt-of-le h)
-
 pub nothing-laid : (s : List ℕ) → s ≡ laidOver [] s
 unfolding laidOver
 nothing-laid s = refl
+
+-- a table has half as many words as bytes
+pub half-length : (bytes : List ℕ) → length (wordsOfBytes bytes) ≡ length bytes / 2
+half-length bytes = omega (arith, words-length bytes)

@@ -4,8 +4,9 @@ use mathlib.Core.Path.{_≡_}
 use mathlib.Core.List.{List}
 use lib.ListN.{length, take}
 use Rattle.rules.specs.Hall.{Hall}
-use Rattle.rules.specs.Table.{mostWords, need}
-use Rattle.rules.specs.Bytes.{BytesDone, wordsOfBytes}
+use Rattle.rules.specs.Steps.{Call}
+use Rattle.rules.specs.Table.{mostWords, need, stepTable}
+use Rattle.rules.specs.Bytes.{BytesDone, laidOver, reply, wordsOfBytes}
 use Rattle.rules.specs.laws.Tables.{Opens}
 
 -- the number that answers a call, and the bytes that it leaves
@@ -18,8 +19,14 @@ pub record Front (hall : Hall) (m : ℕ) : Type 0 where
   pub most : m ≤ mostWords
   pub enough : Opens hall → need hall ≤ m
 
--- n words were read: m, or all that are there
-pub record Decoded (bytes : List ℕ) (m : ℕ) (words : List ℕ) (n : ℕ) : Type 0 where
+-- of the first m words n are there: m, or all that the table has
+pub record Seen (bytes : List ℕ) (m n : ℕ) : Type 0 where
   pub fit : n ≤ m
   pub there : 2 * n ≤ length bytes
-  pub front : take n words ≡ take m (wordsOfBytes bytes)
+  pub front : take n (wordsOfBytes bytes) ≡ take m (wordsOfBytes bytes)
+
+-- the number that answers a step on these words of a table, and what it leaves of the bytes: nothing is written where it is refused
+pub record Told (number : ℕ) (call : Call) (words bytes after : List ℕ) : Type 0 where
+  pub answer : number ≡ reply (stepTable words call .answer)
+  pub written : stepTable words call .answer .number ≡ 0 → after ≡ laidOver (stepTable words call .after) bytes
+  pub refused : (stepTable words call .answer .number ≡ 0 → ⊥) → after ≡ bytes

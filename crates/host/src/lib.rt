@@ -1,24 +1,23 @@
 use board::Board;
-use board::collect;
-use board::drop;
-use board::open;
-use board::retire;
-use board::swap;
-use board::take;
+use board::Call;
+use board::opening;
+use board::step;
+use reply::number;
 use reply::packed;
 ghost use mathlib.Core.Path.{_≡_};
 ghost use Prim.Native.Nat.{_+_, _*_, _<_, _≤_};
-ghost use lib.ListN.{length, getD, take as takeWords};
+ghost use lib.ListN.{length, getD, replicate, take as takeWords};
 ghost use Rattle.rules.specs.Hall.{hallOf};
 ghost use Rattle.rules.specs.Steps.{Take, Drop, Swap, Retire, Collect};
 ghost use Rattle.rules.specs.Table.{hallIn};
 ghost use Rattle.rules.specs.Bytes.{wordsOfBytes, laidOver, openBytes, stepBytes};
-ghost use Rattle.host.specs.Heard.{heard, Front, Decoded};
+ghost use Rattle.board.specs.Asked.{callOf};
+ghost use Rattle.host.specs.Heard.{heard, Front, Seen, Told};
 
 // The words of the header: P, c and L.
 const HEADER: usize = 3;
 
-// How many words the calls on a table of a hall look at: its need, or the header alone where there is no such hall.
+// How many words a step on a table of a hall looks at: its need, or the header alone where there is no such hall.
 fn front(desks: u16, screens: u16, positions: u16) -> usize
     ensures { λ m. ⌜ Front (hallOf desks screens positions) m ⌝ }
 {
@@ -63,16 +62,22 @@ fn looked_at(bytes: &[u8]) -> usize
     front(word(bytes, 0), word(bytes, 1), word(bytes, 2))
 }
 
-// The first words of the table, at most m of them. It requires room for m: `front` told m.
-fn decode(bytes: &[u8], m: usize, words: &mut [u16]) -> usize
-    requires { ⌜ m ≤ length (now words) ⌝ }
-    ensures { λ n. ⌜ Decoded (now (bytes .entry)) m (now (words .exit)) n ⌝ }
+// How many of the first m words are there.
+fn seen(bytes: &[u8], m: usize) -> usize
+    ensures { λ n. ⌜ Seen (now (bytes .entry)) m n ⌝ }
 {
     let half = bytes.len() / 2;
-    let mut n = m;
-    if half < n {
-        n = half;
+    if half < m {
+        return half;
     }
+    m
+}
+
+// The first n words of the table. It requires that they are there, and room for them: `seen` told n.
+fn decode(bytes: &[u8], n: usize, words: &mut [u16])
+    requires { ⌜ (n ≤ length (now words)) × (2 * n ≤ length (now bytes)) ⌝ }
+    ensures { λ _. ⌜ takeWords n (now (words .exit)) ≡ takeWords n (wordsOfBytes (now (bytes .entry))) ⌝ }
+{
     let mut i = 0;
     while i < n {
         let low = bytes[2 * i] as u16;
@@ -80,10 +85,9 @@ fn decode(bytes: &[u8], m: usize, words: &mut [u16]) -> usize
         words[i] = low + 256 * high;
         i += 1;
     }
-    n
 }
 
-// The first n words, written over the bytes that they were read from. It requires that both are long enough: `decode` told n.
+// The first n words, written over the bytes that they were read from. It requires that both are long enough: `seen` told n.
 fn encode(words: &[u16], n: usize, bytes: &mut [u8])
     requires { ⌜ (n ≤ length (now words)) × (2 * n ≤ length (now bytes)) ⌝ }
     ensures { λ _. ⌜ now (bytes .exit) ≡ laidOver (takeWords n (now (words .entry))) (now (bytes .entry)) ⌝ }
@@ -97,16 +101,61 @@ fn encode(words: &[u16], n: usize, bytes: &mut [u8])
     }
 }
 
-// The opening of a hall of so many desks, screens per desk and positions.
+// Each byte becomes 0.
+fn clear(bytes: &mut [u8])
+    ensures { λ _. ⌜ now (bytes .exit) ≡ replicate (length (now (bytes .entry))) 0 ⌝ }
+{
+    let mut i = 0;
+    while i < bytes.len() {
+        bytes[i] = 0;
+        i += 1;
+    }
+}
+
+// A step on the first n words of a table, which stand in a buffer: what it leaves is written over the bytes; a refusal writes
+// nothing. It requires what `decode` told of the buffer.
+fn step_on_words(call: Call, n: usize, words: &mut [u16], table: &mut [u8]) -> u32
+    requires { ⌜ (n ≤ length (now words)) × (2 * n ≤ length (now table)) ⌝ }
+    ensures { λ r. ⌜ Told r (callOf call) (takeWords n (now (words .entry))) (now (table .entry)) (now (table .exit)) ⌝ }
+{
+    let r = step(&mut words[..n], call);
+    if number(r) != 0 {
+        return packed(r);
+    }
+    encode(words, n, table);
+    packed(r)
+}
+
+// A step on a table sent as bytes. The table of the largest hall fills the buffer: that is asked by itself, so that the
+// compiler leaves out to clear what `decode` fills.
+fn step_on_bytes(call: Call, table: &mut [u8]) -> u32
+    ensures { λ r. ⌜ heard r (now (table .exit)) ≡ stepBytes (now (table .entry)) (callOf call) ⌝ }
+{
+    let m = looked_at(table);
+    let n = seen(table, m);
+    if n < Board::MOST_WORDS {
+        let mut front = [0u16; Board::MOST_WORDS];
+        decode(table, n, &mut front);
+        return step_on_words(call, n, &mut front, table);
+    }
+    let mut words = [0u16; Board::MOST_WORDS];
+    decode(table, Board::MOST_WORDS, &mut words);
+    step_on_words(call, Board::MOST_WORDS, &mut words, table)
+}
+
+// The opening of a hall of so many desks, screens per desk and positions: its header and zeros up to its need are written.
 #[no_mangle]
 pub extern "C" fn board_open(desks: u16, screens: u16, positions: u16, table: &mut [u8]) -> u32
     ensures { λ r. ⌜ heard r (now (table .exit)) ≡ openBytes (hallOf desks screens positions) (now (table .entry)) ⌝ }
 {
-    let m = front(desks, screens, positions);
-    let mut words = [0u16; Board::MOST_WORDS];
-    let n = decode(table, m, &mut words);
-    let r = open(&mut words[..n], desks, screens, positions);
-    encode(&words, n, table);
+    let r = opening(desks, screens, positions, table.len() / 2);
+    if number(r) != 0 {
+        return packed(r);
+    }
+    let header = [desks, screens, positions];
+    encode(&header, HEADER, table);
+    let n = Board::need(desks, screens, positions);
+    clear(&mut table[2 * HEADER..2 * n]);
     packed(r)
 }
 
@@ -115,12 +164,7 @@ pub extern "C" fn board_open(desks: u16, screens: u16, positions: u16, table: &m
 pub extern "C" fn board_take(desk: u16, screen: u16, position: u16, table: &mut [u8]) -> u32
     ensures { λ r. ⌜ heard r (now (table .exit)) ≡ stepBytes (now (table .entry)) (Take desk screen position) ⌝ }
 {
-    let m = looked_at(table);
-    let mut words = [0u16; Board::MOST_WORDS];
-    let n = decode(table, m, &mut words);
-    let r = take(&mut words[..n], desk, screen, position);
-    encode(&words, n, table);
-    packed(r)
+    step_on_bytes(Call::Take(desk, screen, position), table)
 }
 
 // Drop: the screen shows nothing.
@@ -128,12 +172,7 @@ pub extern "C" fn board_take(desk: u16, screen: u16, position: u16, table: &mut 
 pub extern "C" fn board_drop(desk: u16, screen: u16, table: &mut [u8]) -> u32
     ensures { λ r. ⌜ heard r (now (table .exit)) ≡ stepBytes (now (table .entry)) (Drop desk screen) ⌝ }
 {
-    let m = looked_at(table);
-    let mut words = [0u16; Board::MOST_WORDS];
-    let n = decode(table, m, &mut words);
-    let r = drop(&mut words[..n], desk, screen);
-    encode(&words, n, table);
-    packed(r)
+    step_on_bytes(Call::Drop(desk, screen), table)
 }
 
 // Swap: the position holds the session, or nothing, and the desk owes the one that stood there.
@@ -141,12 +180,7 @@ pub extern "C" fn board_drop(desk: u16, screen: u16, table: &mut [u8]) -> u32
 pub extern "C" fn board_swap(desk: u16, position: u16, session: u16, table: &mut [u8]) -> u32
     ensures { λ r. ⌜ heard r (now (table .exit)) ≡ stepBytes (now (table .entry)) (Swap desk position session) ⌝ }
 {
-    let m = looked_at(table);
-    let mut words = [0u16; Board::MOST_WORDS];
-    let n = decode(table, m, &mut words);
-    let r = swap(&mut words[..n], desk, position, session);
-    encode(&words, n, table);
-    packed(r)
+    step_on_bytes(Call::Swap(desk, position, session), table)
 }
 
 // Retire: the owed session goes to the end of the desk's list.
@@ -154,12 +188,7 @@ pub extern "C" fn board_swap(desk: u16, position: u16, session: u16, table: &mut
 pub extern "C" fn board_retire(desk: u16, table: &mut [u8]) -> u32
     ensures { λ r. ⌜ heard r (now (table .exit)) ≡ stepBytes (now (table .entry)) (Retire desk) ⌝ }
 {
-    let m = looked_at(table);
-    let mut words = [0u16; Board::MOST_WORDS];
-    let n = decode(table, m, &mut words);
-    let r = retire(&mut words[..n], desk);
-    encode(&words, n, table);
-    packed(r)
+    step_on_bytes(Call::Retire(desk), table)
 }
 
 // Collect: two screens are read, and a session may be handed back.
@@ -167,10 +196,5 @@ pub extern "C" fn board_retire(desk: u16, table: &mut [u8]) -> u32
 pub extern "C" fn board_collect(desk: u16, table: &mut [u8]) -> u32
     ensures { λ r. ⌜ heard r (now (table .exit)) ≡ stepBytes (now (table .entry)) (Collect desk) ⌝ }
 {
-    let m = looked_at(table);
-    let mut words = [0u16; Board::MOST_WORDS];
-    let n = decode(table, m, &mut words);
-    let r = collect(&mut words[..n], desk);
-    encode(&words, n, table);
-    packed(r)
+    step_on_bytes(Call::Collect(desk), table)
 }

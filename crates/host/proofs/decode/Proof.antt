@@ -1,26 +1,22 @@
 use Prim.Native.Nat.{ℕ, _≤_, _<_, _+_, _-_, _*_}
 use mathlib.Core.Path.{_≡_, refl, subst}
-use mathlib.Core.Logic.{⊎-elim}
 use native.Mathlib.Omega.{arith}
 use borrow.Author.Needs.{needs}
 use lib.ListN.{length, take, length-set}
 use Rattle.rules.specs.Bytes.{wordsOfBytes}
-use Rattle.host.proofs.WordLaws.{word-at2, words-length, read-more, read-all}
+use Rattle.host.proofs.WordLaws.{word-at2, words-length, read-more}
 use Rattle.host.proofs.decode.Statement.{statement}
 use Rattle.host.proofs.decode.Tie as tie
 
 abbrev Inv-loop : tie.InvT-loop
-Inv-loop bytes m words₀ half n i₀ words i =
-    (n ≤ m) × (n + n ≤ length bytes) × (n < m → length bytes ≤ n + n + 1) × (i ≤ n) × (length words ≡ length words₀) ×
-    (take i words ≡ take i (wordsOfBytes bytes))
+Inv-loop bytes n words₀ i₀ words i =
+    (i ≤ n) × (length words ≡ length words₀) × (take i words ≡ take i (wordsOfBytes bytes))
 
 abbrev μ-loop : tie.MeasureT-loop
-μ-loop bytes m words₀ half n i₀ words i = n - i
+μ-loop bytes n words₀ i₀ words i = n - i
 
 loop-holds : tie.Need-loop-holds Inv-loop μ-loop
-loop-holds c =
-    ⊎-elim (λ words. (omega arith, omega arith, (λ h. omega arith), omega arith, refl, refl))
-    (λ words. (omega arith, omega arith, (λ h. omega arith), omega arith, refl, refl)) (c .if1 .came)
+loop-holds c = (omega arith, refl, refl)
 
 mul-low : tie.Need-mul-low Inv-loop μ-loop
 mul-low c = search needs
@@ -66,15 +62,12 @@ loop-less c = search needs
 loop-again : tie.Need-loop-again Inv-loop μ-loop
 loop-again c =
     let l = c .before .before .before .loop in
-    let s = c .before .before .before .before .before .args in
+    let s = c .before .before .before .before .args in
     let h : l .i + l .i + 1 < length (s .bytes .now) = omega arith in (
-      search needs,
-      search needs,
-      l .inv .2,
       omega arith,
-      simp length-set (l .inv .4),
+      simp length-set (l .inv .1),
       read-more (l .words) (wordsOfBytes (s .bytes .now)) (l .i) _ (omega arith) (omega (arith, words-length (s .bytes .now)))
-          (word-at2 (s .bytes .now) (l .i) h) (l .inv .5),
+          (word-at2 (s .bytes .now) (l .i) h) (l .inv .2),
     )
 
 same-length : tie.Need-same-length Inv-loop μ-loop
@@ -83,17 +76,9 @@ same-length c = search needs
 returns : tie.Need-returns Inv-loop μ-loop
 returns c =
     let l = c .before .loop in
-    let s = c .before .before .before .args in
-    let n = c .before .before .if1 .n in
-    let e : l .i ≡ n = omega arith in
-    record {
-      fit = omega arith;
-      there = omega arith;
-      front =
-          read-all (l .words) (wordsOfBytes (s .bytes .now)) n (s .m)
-          (subst (λ (k : ℕ). take k (l .words) ≡ take k (wordsOfBytes (s .bytes .now))) e (l .inv .5)) (omega arith)
-          (λ h. let g : length (s .bytes .now) ≤ n + n + 1 = l .inv .2 h in omega (arith, words-length (s .bytes .now)));
-    }
+    let s = c .before .before .args in
+    let e : l .i ≡ s .n = omega arith in
+    subst (λ (k : ℕ). take k (l .words) ≡ take k (wordsOfBytes (s .bytes .now))) e (l .inv .2)
 
 pub decode-spec : {M : Type 1} → statement M
 decode-spec =

@@ -54,12 +54,12 @@ module _ (t : List ℕ) (m : ℕ) where
       (λ long. open-append (take m t) (drop m t) H (λ o. omega (arith, long, enough o)))
 
 -- ---- On bytes.
-bytes-append : (xs ys : List ℕ) → bytesOfWords (xs ++ ys) ≡ bytesOfWords xs ++ bytesOfWords ys
+pub bytes-append : (xs ys : List ℕ) → bytesOfWords (xs ++ ys) ≡ bytesOfWords xs ++ bytesOfWords ys
 bytes-append [] ys = refl
 bytes-append (x ∷ xs) ys = ap (λ (l : List ℕ). (x % 256) ∷ (x / 256 % 256) ∷ l) (bytes-append xs ys)
 
 -- words at the front laid over the bytes are all the words laid over them, where those behind are as they were
-laid-front : (m : ℕ) (bytes words : List ℕ) → IsBytes bytes → length words ≡ length (take m (wordsOfBytes bytes))
+pub laid-front : (m : ℕ) (bytes words : List ℕ) → IsBytes bytes → length words ≡ length (take m (wordsOfBytes bytes))
     → laidOver words bytes ≡ laidOver (words ++ drop m (wordsOfBytes bytes)) bytes
 unfolding laidOver
 laid-front m bytes words are same =
@@ -80,6 +80,13 @@ laid-front m bytes words are same =
     ap (λ (l : List ℕ). bytesOfWords words ++ l) behind
     ∙ sym (ap (λ (l : List ℕ). l ++ drop (2 * length (words ++ z)) bytes) (bytes-append words z)
     ∙ append-assoc (bytesOfWords words) (bytesOfWords z) (drop (2 * length (words ++ z)) bytes))
+
+-- words at the front, laid over the bytes that they were read from, change nothing
+pub front-laid-back : (m : ℕ) (bytes : List ℕ) → IsBytes bytes → laidOver (take m (wordsOfBytes bytes)) bytes ≡ bytes
+front-laid-back m bytes are =
+    laid-front m bytes (take m (wordsOfBytes bytes)) are refl
+    ∙ ap (λ (words : List ℕ). laidOver words bytes) (take-append-drop m (wordsOfBytes bytes))
+    ∙ laid-back bytes are
 
 -- what a call on the front tells and leaves is what the call on the bytes does
 on-front : (m : ℕ) (bytes : List ℕ) (told done : TableDone) → IsBytes bytes → length (told .after) ≡ length (take m (wordsOfBytes bytes))

@@ -1,0 +1,80 @@
+-- The opening: what its questions answer, and the table that it leaves.
+use Prim.Native.Nat.{ℕ, suc, _+_, _-_, _≤_, _<_}
+use native.Mathlib.Omega.{arith}
+use mathlib.Core.Bool.{true, false, cond}
+use mathlib.Core.List.{List, [], _∷_, _++_}
+use mathlib.Core.Path.{_≡_, refl, sym, ap, ap₂, _∙_}
+use lib.Dec.{leb}
+use lib.ListN.{length, take, drop, set, replicate, length-drop}
+use lib.Seq.{length-take-le, drop-drop}
+use borrow.Author.Tests.{le-leb, lt-leb}
+use Rattle.rules.specs.Hall.{Hall}
+use Rattle.rules.specs.Steps.{Answer, firstNo, inRange}
+use Rattle.rules.specs.Table.{TableDone, need, openQuestions, openTable}
+use Rattle.rules.specs.laws.Tables.{hall-opens}
+use Rattle.rules.specs.laws.TableSteps.{accepted-open, asked-no, asked-yes, refused-open}
+use Rattle.rules.specs.laws.Words16.{by-open}
+use Rattle.reply.specs.declared.Reply.{Reply}
+use Rattle.reply.specs.declared.Reply.the-variants.{Accepted, BadDesks, BadScreens, BadPositions, TooShort}
+use Rattle.reply.specs.Answer.{answerOf, told}
+
+answered : {done found : TableDone} → done ≡ found → found .answer ≡ done .answer
+answered e = sym (ap (λ (d : TableDone). d .answer) e)
+
+-- its questions, in order, about any table of so many words
+module _ (H : Hall) (words : ℕ) (t : List ℕ) (long : length t ≡ words) where
+  pub bad-desks : inRange (H .desks) 16 ≡ false → answerOf BadDesks ≡ openTable H t .answer
+  bad-desks w = answered (refused-open H t 0 (asked-no (inRange (H .desks) 16) _ 1 w))
+
+  module _ (d : inRange (H .desks) 16 ≡ true) where
+    pub bad-screens : inRange (H .screens) 4 ≡ false → answerOf BadScreens ≡ openTable H t .answer
+    bad-screens w = answered (refused-open H t 1 (asked-yes (inRange (H .desks) 16) _ 1 2 d (asked-no (inRange (H .screens) 4) _ 2 w)))
+
+    module _ (c : inRange (H .screens) 4 ≡ true) where
+      two-asked : (y u : ℕ) → u ≡ y → cond {A = ℕ} (inRange (H .desks) 16) (cond {A = ℕ} (inRange (H .screens) 4) u 2) 1 ≡ y
+      two-asked y u z = asked-yes (inRange (H .desks) 16) _ 1 y d (asked-yes (inRange (H .screens) 4) _ 2 y c z)
+
+      pub bad-positions : inRange (H .positions) 64 ≡ false → answerOf BadPositions ≡ openTable H t .answer
+      bad-positions w = answered (refused-open H t 2 (two-asked 3 _ (asked-no (inRange (H .positions) 64) _ 3 w)))
+
+      module _ (l : inRange (H .positions) 64 ≡ true) (n : ℕ) (e : n ≡ need H) where
+        pub too-short : words < n → answerOf TooShort ≡ openTable H t .answer
+        too-short h =
+            answered
+            (refused-open H t 3 (two-asked 4 _ (asked-yes (inRange (H .positions) 64) _ 3 4 l (asked-no (leb (need H) (length t)) 0 4 (lt-leb (need H) (length t) (omega arith))))))
+
+        pub opens : n ≤ words → answerOf (Accepted 0) ≡ openTable H t .answer
+        opens h =
+            answered
+            (accepted-open H t (two-asked 0 _ (asked-yes (inRange (H .positions) 64) _ 3 0 l (asked-yes (leb (need H) (length t)) 0 4 0 (le-leb (need H) (length t) (omega arith)) refl))))
+
+-- what a table is left as, by the answer
+module _ (H : Hall) (t : List ℕ) (r : Reply) (e : answerOf r ≡ openTable H t .answer) where
+  pub not-opened : (answerOf r .number ≡ 0 → ⊥) → told r t ≡ openTable H t
+  not-opened refused =
+      by-open (λ d. answerOf r ≡ d .answer → told r t ≡ d) H t (λ n q a i. record { answer = a i; after = t })
+      (λ q a. absurd (refused (ap (λ (x : Answer). x .number) a))) e
+
+  pub is-opened : answerOf r .number ≡ 0 → firstNo (openQuestions H t) ≡ 0
+  is-opened accepted =
+      by-open (λ d. answerOf r ≡ d .answer → firstNo (openQuestions H t) ≡ 0) H t
+      (λ n q a. absurd (omega (arith, ap (λ (x : Answer). x .number) a))) (λ q a. q) e
+
+pub opened : (H : Hall) (t : List ℕ) (n : ℕ) (ys : List ℕ) → firstNo (openQuestions H t) ≡ 0 → n ≡ need H
+    → ys ≡ replicate (length (take (n - 3) (drop 3 t))) 0
+    → told (Accepted 0) (set (set (set (take 3 t ++ (ys ++ drop (n - 3) (drop 3 t))) 0 (H .desks)) 1 (H .screens)) 2 (H .positions)) ≡ openTable H t
+opened H t n ys asked-all e q =
+    let room : need H ≤ length t = hall-opens H t asked-all .1 in
+    let m : 3 + (n - 3) ≡ need H = omega arith in
+    let k : n - 3 ≡ need H - 3 = ap (λ (x : ℕ). x - 3) e in
+    let z : length (take (n - 3) (drop 3 t)) ≡ need H - 3 = length-take-le (n - 3) (drop 3 t) (omega (arith, length-drop 3 t)) ∙ k in
+    let a : ys ≡ replicate (need H - 3) 0 = q ∙ ap (λ (x : ℕ). replicate x 0) z in
+    let b : drop (n - 3) (drop 3 t) ≡ drop (need H) t = drop-drop (n - 3) 3 t ∙ ap (λ (x : ℕ). drop x t) m in
+    (λ i. record { answer = record { number = 0; session = 0 }; after = (stores t (ys ++ drop (n - 3) (drop 3 t)) (omega arith) ∙ ap₂ {C = List ℕ} (λ x y. H .desks ∷ H .screens ∷ H .positions ∷ (x ++ y)) a b) i })
+    ∙ sym (accepted-open H t asked-all)
+  where
+    stores : (u x : List ℕ) → 3 ≤ length u → set (set (set (take 3 u ++ x) 0 (H .desks)) 1 (H .screens)) 2 (H .positions) ≡ H .desks ∷ H .screens ∷ H .positions ∷ x
+    stores [] x g = absurd (omega arith)
+    stores (a ∷ []) x g = absurd (omega arith)
+    stores (a ∷ b ∷ []) x g = absurd (omega arith)
+    stores (a ∷ b ∷ f ∷ u) x g = refl
