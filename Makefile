@@ -4,9 +4,9 @@
 #   make lib     the archive and its header, in build/
 #   make bench   the six calls against a board in Rust, same run
 #   make proved  the theorems
-#   make more-edits  the wrong programs that the gate leaves out for its time (minutes)
+#   make edits   the wrong programs and rules in edits/, each refused at its place
 #   make selftest  shows that the comparison catches 31 wrong boards (minutes)
-.PHONY: run test lib bench proved more-edits selftest
+.PHONY: run test lib bench proved edits selftest
 
 CARGO = cargo run --quiet --offline --release --manifest-path
 export CARGO_TARGET_DIR = $(CURDIR)/target/outside
@@ -30,8 +30,8 @@ bench: lib
 proved:
 	@tools/proved
 
-more-edits:
-	@tools/more_edits
+edits:
+	@tools/edits
 
 selftest:
 	@tests/compare/selftest.sh
