@@ -29,7 +29,7 @@ fresh_copy() {
     rm -rf "$work/tests"
     mkdir -p "$work/tests/reference"
     (cd "$tests/reference" && tar -cf - --exclude=target .) |
-        tar -xf - -C "$work/tests/reference"
+        tar -xmf - -C "$work/tests/reference" # as new, so that all of it is built again
 }
 
 # sheets PROGRAM [OPTION...]: PROGRAM against the reference.
