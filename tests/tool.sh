@@ -133,6 +133,7 @@ bad_text ":3: 'take' has 3 numbers (desk, screen, position), here it has 2" 'hal
 bad_text ":2: 'retire' has 1 number (desk), here it has 2" 'hall 1 1 1\nretire 1 1\n'
 bad_text ":2: session: '-7' is not a number" 'hall 1 1 1\nswap 1 1 -7\n'
 bad_text ":2: session: 65536 is over 65,535 (16)" 'hall 1 1 1\nswap 1 1 65536\n'
+bad_text ":2: desk: 12345678901234567890... is over 65,535 (16)" 'hall 1 1 1\nretire 1234567890123456789012345\n'
 bad_text ":1: the first line must be 'hall P c L', not 'take'" 'take 1 1 1\nhall 1 1 1\n'
 bad_text ":2: the hall stands on the first line alone" 'hall 1 1 1\nhall 1 1 1\n'
 bad_text ": there is no line 'hall P c L', and every sheet begins with one" '# nothing but a comment\n'
@@ -142,12 +143,12 @@ awk 'BEGIN { print "hall 1 1 1"; for (i = 0; i < 32767; i++) print "collect 1" }
 refused 2 "long.txt:32768: the sheet is longer than 65,536 bytes with this record (18)" encode long.txt
 
 # Sheets that cannot be read.
-bad_sheet "byte 0, in the header: 15, the sheet stops in the middle of a record" ''
-bad_sheet "byte 5, in record 1 (take): 15, the sheet stops in the middle of a record" '\001\001\001\001\001\201'
+bad_sheet "byte 0, in the header: 15, the sheet stops before this number is whole" ''
+bad_sheet "byte 5, in record 1 (take): 15, the sheet stops before this number is whole" '\001\001\001\001\001\201'
 bad_sheet "byte 4, in record 1 (swap): 16, a number must end within three bytes and be at most 65,535" '\001\001\001\003\200\200\004\001'
 bad_sheet "byte 5, in record 2: code 9: 17, there is no step with this code; they are 1 to 5" '\001\001\001\005\001\011\001'
 head -c 65537 /dev/zero >long.sheet
-refused 2 "long.sheet: the reading ends at 18, a sheet has at most 65,536 bytes" decode long.sheet
+refused 2 "long.sheet: the reading ends with 18, a sheet has at most 65,536 bytes" decode long.sheet
 
 # Files and programs that are not there, or are something else.
 refused 2 "none.txt: no such file or directory" encode none.txt
@@ -168,6 +169,10 @@ sed 's/^7 5 0 300$/7 5 0 0/' d.lines >wrong.lines
 refused 2 "record 7: the program replied 0 0, but by document 01 as this tool has it the reply is 0 300; nothing is drawn" \
     picture d.sheet wrong.svg --lines wrong.lines
 [ ! -e wrong.svg ] || fail "a picture of wrong lines was written"
+printf '0 0 0 0\n1 5 0 0\n2 1 0 0\nend 2 0 0\n' >wrong.lines
+sheet explain cut.sheet --lines wrong.lines >out
+grep -qx '2 1 0 0     reply 0, though the reading ends at byte 7, in record 2 (take): 15, .*' out || fail "explain: a wrong end"
+passed
 
 # Bytes of no meaning: a message, never a trace of the tool's own lines.
 for at in 1 2 3; do

@@ -6,7 +6,7 @@ import sys
 
 from .complaint import Complaint, plural
 from .explain import explained
-from .files import read_sheet, read_text, write_text
+from .files import read_sheet, read_text, reason, write_text
 from .lines import lines_of
 from .picture import MOST_RECORDS, picture
 from .reading import read
@@ -19,17 +19,31 @@ EPILOG = "docs/SHEETS.md shows all of it. A file named '-' is standard input."
 def main(arguments):
     options = parser().parse_args(arguments)
     try:
-        status = options.command(options)
+        if sys.stdout is None:
+            raise Complaint("standard output is closed")
+        options.command(options)
         sys.stdout.flush()
-        return status
-    except Complaint as complaint:
-        print(f"sheet: {complaint}", file=sys.stderr)
-        return 2
-    except BrokenPipeError:  # whoever reads, as head, has seen enough
-        os.dup2(os.open(os.devnull, os.O_WRONLY), sys.stdout.fileno())
         return 0
+    except Complaint as complaint:
+        return complain(complaint)
+    except BrokenPipeError:  # whoever reads, as head, has seen enough
+        forget_output()
+        return 0
+    except OSError as error:
+        forget_output()
+        return complain(f"standard output: {reason(error)}")
     except KeyboardInterrupt:
         return 130
+
+
+def complain(message):
+    print(f"sheet: {message}", file=sys.stderr)
+    return 2
+
+
+def forget_output():
+    """What could not be written is not tried again at the end."""
+    os.dup2(os.open(os.devnull, os.O_WRONLY), sys.stdout.fileno())
 
 
 def parser():
@@ -69,16 +83,14 @@ def to_bytes(options):
     if sys.stdout.isatty():
         raise Complaint("a sheet is bytes, and not for a terminal: send it to a file with > FILE.sheet")
     sys.stdout.buffer.write(data)
-    return 0
 
 
 def to_text(options):
     sheet = read(read_sheet(options.sheet))
     sys.stdout.write(decode(sheet))
-    if sheet.fault is None:
-        return 0
     sys.stdout.flush()
-    raise Complaint(f"{options.sheet}: the reading ends at {where_and_why(sheet.fault)}")
+    if sheet.fault is not None:
+        raise Complaint(f"{options.sheet}: {where_and_why(sheet.fault)}")
 
 
 def explain(options):
@@ -86,7 +98,6 @@ def explain(options):
     sheet = read(data)
     lines, end = lines_of(data, sheet, options.program, options.lines)
     sys.stdout.write(explained(sheet, lines, end))
-    return 0
 
 
 def draw(options):
@@ -101,4 +112,3 @@ def draw(options):
     write_text(options.svg, picture(os.path.basename(options.sheet), sheet, moments, end))
     if len(moments) < last:
         print(f"sheet: drawn are {plural(len(moments), 'record')} of {last:,}; --from N begins elsewhere", file=sys.stderr)
-    return 0

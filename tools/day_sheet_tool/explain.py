@@ -4,9 +4,6 @@ from .complaint import plural
 from .steps import REASONS, STEPS
 from .text import where_and_why
 
-READING_ENDS = (15, 16, 17, 18)
-
-
 def explained(sheet, lines, end):
     """Each line as it was printed, and beside it what it means."""
     rows = [(" ".join(map(str, line)), meaning(sheet, line)) for line in lines]
@@ -16,14 +13,14 @@ def explained(sheet, lines, end):
 
 
 def meaning(sheet, line):
-    if line.reply in READING_ENDS and sheet.fault and line.reply == sheet.fault.number:
-        return "the reading ends at " + where_and_why(sheet.fault)
+    if sheet.fault and line.record == sheet.fault.record:
+        ends = where_and_why(sheet.fault)
+        return ends if line.reply == sheet.fault.number else f"reply {line.reply}, though {ends}"
     if line.record == 0:
         return opening_in_words(sheet.hall, line.reply)
-    doing = doing_in_words(sheet.records[line.record - 1])
-    if line.reply != 0:
-        return f"{doing}: refused, {reason(line.reply)}"
-    return f"{doing}: {result_in_words(sheet.records[line.record - 1], line.session)}"
+    record = sheet.records[line.record - 1]
+    result = result_in_words(record, line.session) if line.reply == 0 else f"refused, {reason(line.reply)}"
+    return f"{doing_in_words(record)}: {result}"
 
 
 def reason(reply):
@@ -31,8 +28,6 @@ def reason(reply):
 
 
 def opening_in_words(hall, reply):
-    if hall is None:
-        return f"reply {reply}, though the header cannot be read"
     if reply != 0:
         return f"a hall of {hall_in_words(hall)}: refused, {reason(reply)}; nothing more is read"
     return f"a hall of {hall_in_words(hall)} opens"

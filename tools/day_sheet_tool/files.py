@@ -12,6 +12,8 @@ def read_bytes(name, most):
     """At most so many bytes of a file, or of standard input for '-'."""
     try:
         if name == "-":
+            if sys.stdin is None:
+                raise Complaint("standard input is closed")
             return sys.stdin.buffer.read(most)
         with open(name, "rb") as file:
             return file.read(most)

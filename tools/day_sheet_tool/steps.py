@@ -36,7 +36,7 @@ REASONS = {
     12: "the desk must first retire the session it owes",
     13: "the desk owes no session",
     14: "the desk's list is full; it must collect first",
-    15: "the sheet stops in the middle of a record",
+    15: "the sheet stops before this number is whole",
     16: "a number must end within three bytes and be at most 65,535",
     17: "there is no step with this code; they are 1 to 5",
     18: "a sheet has at most 65,536 bytes",

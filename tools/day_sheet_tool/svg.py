@@ -48,8 +48,7 @@ class Drawing:
 
     def words(self, x, y, words, look="", anchor="start"):
         """Words whose foot is at y; the anchor says which end, or the middle, is at x."""
-        shown = escape("".join(letter if letter.isprintable() else "?" for letter in words), quote=False)
-        self.parts.append(f'<text x="{x:g}" y="{y:g}" class="{look}" text-anchor="{anchor}">{shown}</text>')
+        self.parts.append(f'<text x="{x:g}" y="{y:g}" class="{look}" text-anchor="{anchor}">{plain(words)}</text>')
         self.height = max(self.height, y + 4)
         if anchor == "start":
             self.width = max(self.width, x + LETTER * len(words))
@@ -59,11 +58,16 @@ class Drawing:
         head = (
             f'<svg xmlns="http://www.w3.org/2000/svg" width="{width:g}" height="{height:g}" '
             f'viewBox="0 0 {width:g} {height:g}" role="img">\n'
-            f"<title>{escape(self.title)}</title>\n<desc>{escape(self.description)}</desc>\n"
+            f"<title>{plain(self.title)}</title>\n<desc>{plain(self.description)}</desc>\n"
             f"<style>{STYLE}</style>\n<defs>{PATTERNS}</defs>\n"
             f'<rect width="{width:g}" height="{height:g}" fill="#ffffff"/>\n'
         )
         return head + "\n".join(self.parts) + "\n</svg>\n"
+
+
+def plain(words):
+    """Words as XML has them; what cannot be printed, as in an odd file name, becomes '?'."""
+    return escape("".join(letter if letter.isprintable() else "?" for letter in words), quote=False)
 
 
 def attributes(style):

@@ -49,15 +49,16 @@ def number(field, word):
     """Plain decimal digits, 0 to 65,535. Whether the hall has such a desk is for the board to say."""
     if not (word.isascii() and word.isdigit()):
         raise Complaint(f"{field}: '{shown(word)}' is not a number")
-    if len(word) > 9 or int(word) > MOST_NUMBER:
+    digits = word.lstrip("0") or "0"
+    if len(digits) > 5 or int(digits) > MOST_NUMBER:
         raise Complaint(f"{field}: {shown(word)} is over 65,535 (16)")
-    return int(word)
+    return int(digits)
 
 
 def shown(word):
     """A word of the text in a message: printable, and not too long."""
-    printable = "".join(letter if letter.isprintable() else "?" for letter in word)
-    return printable if len(printable) <= 20 else printable[:20] + "..."
+    printable = "".join(letter if letter.isprintable() else "?" for letter in word[:20])
+    return printable if len(word) <= 20 else printable + "..."
 
 
 def decode(sheet):
@@ -71,10 +72,10 @@ def decode(sheet):
 
 
 def where_and_why(fault):
-    """'byte 12, in record 3 (take): 16, a number must ...'"""
+    """'the reading ends at byte 12, in record 3 (take): 16, a number must ...'"""
     if fault.number == 18:
-        return f"18, {REASONS[18]}"
+        return f"the reading ends with 18, {REASONS[18]}"
     step = f" ({STEPS[fault.code].name})" if fault.code in STEPS else ""
     place = "in the header" if fault.record == 0 else f"in record {fault.record}{step}"
     code = f": code {fault.code}" if fault.number == 17 else ""
-    return f"byte {fault.byte}, {place}{code}: {fault.number}, {REASONS[fault.number]}"
+    return f"the reading ends at byte {fault.byte}, {place}{code}: {fault.number}, {REASONS[fault.number]}"
