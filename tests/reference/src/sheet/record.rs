@@ -1,7 +1,7 @@
 //! A record: the code of a step, and the fields that follow it.
 
+use super::super::{collect, drop, retire, swap, take, Reply};
 use super::number::{Fault, Reader};
-use crate::{collect, drop, retire, swap, take, Reply};
 
 pub const TAKE: u16 = 1;
 pub const DROP: u16 = 2;

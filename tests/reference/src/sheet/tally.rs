@@ -1,7 +1,7 @@
 //! The three counts of the last line.
 
+use super::super::Reply;
 use super::record::COLLECT;
-use crate::Reply;
 
 /// Each count stays at its largest once there.
 #[derive(Clone, Copy, Debug, Default, PartialEq, Eq)]
@@ -32,8 +32,8 @@ fn one_more(count: &mut u32) {
 
 #[cfg(test)]
 mod tests {
+    use super::super::super::Refusal;
     use super::*;
-    use crate::Refusal;
 
     #[test]
     fn a_refused_step_changes_only_its_count() {
