@@ -13,7 +13,7 @@ pub fn explain_smallest(pair: &Pair, sheet: Vec<u8>, way: Way) -> ExitCode {
     println!("  {}", if sheet.is_empty() { "(no bytes)".into() } else { hex(&sheet) });
     let (program, reference) = pair.run(&sheet, way);
     explain(&program, &reference);
-    println!("replay: sheets PROGRAM REFERENCE --hex '{}'", hex(&sheet));
+    println!("replay: sheets {pair} --hex '{}'", hex(&sheet));
     println!("sheets: 1 difference");
     ExitCode::FAILURE
 }

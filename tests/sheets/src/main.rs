@@ -9,6 +9,7 @@ mod damage;
 mod explain;
 mod fixed;
 mod make;
+mod many;
 mod pair;
 mod program;
 #[path = "../../compare/src/rng.rs"]
@@ -18,13 +19,13 @@ mod tally;
 
 use bytes::from_hex;
 use explain::explain_smallest;
-use pair::{differ, Pair};
+use many::{run_all, way, Sheets};
+use pair::Pair;
 use program::{Way, WAYS};
 use std::path::{Path, PathBuf};
 use std::process::ExitCode;
-use std::sync::atomic::{AtomicU64, Ordering::Relaxed};
 use std::time::Instant;
-use std::{env, fs, process, thread};
+use std::{env, fs, process};
 use tally::Tally;
 
 struct Options {
@@ -76,81 +77,31 @@ fn options(mut arguments: impl Iterator<Item = String>) -> Result<Options, Strin
 }
 
 fn compare(options: &Options, folder: &Path) -> ExitCode {
+    let pair = Pair::new(&options.program, &options.reference, folder.to_path_buf());
+    let all = Sheets::new(options.seed);
     if let Some(sheet) = &options.bytes {
-        return compare_one(&pair(options, folder, 0), sheet, &WAYS);
-    }
-    let fixed = fixed::sheets();
-    if let Some(number) = options.sheet {
-        let sheet = sheet(&fixed, options.seed, number);
-        return compare_one(&pair(options, folder, 0), &sheet, &[way(number)]);
-    }
-    compare_many(options, folder, &fixed)
-}
-
-/// The programs, with a folder of their own for each thread.
-fn pair(options: &Options, folder: &Path, thread: usize) -> Pair {
-    let folder = folder.join(thread.to_string());
-    fs::create_dir_all(&folder).expect("a folder for the sheets");
-    Pair { program: options.program.clone(), reference: options.reference.clone(), folder }
-}
-
-/// The fixed sheets come first, then those of the seed.
-fn sheet(fixed: &[Vec<u8>], seed: u64, number: u64) -> Vec<u8> {
-    match fixed.get(number as usize) {
-        Some(sheet) => sheet.clone(),
-        None => make::sheet(seed, number),
+        compare_one(&pair, sheet, &WAYS)
+    } else if let Some(number) = options.sheet {
+        compare_one(&pair, &all.sheet(number), &[way(number)])
+    } else {
+        compare_many(&pair, &all, options.count)
     }
 }
 
-/// Pieces seldom, for they take their time.
-fn way(number: u64) -> Way {
-    match number % 64 {
-        63 => Way::Pieces,
-        number if number % 2 == 0 => Way::File,
-        _ => Way::Pipe,
-    }
-}
-
-/// Sheets 0, 1, 2 and so on, shared out among threads, up to the first that
-/// differs.
-fn compare_many(options: &Options, folder: &Path, fixed: &[Vec<u8>]) -> ExitCode {
+fn compare_many(pair: &Pair, all: &Sheets, count: u64) -> ExitCode {
     let begun = Instant::now();
-    let next = AtomicU64::new(0);
-    let first_difference = AtomicU64::new(u64::MAX);
-    let share = |thread| {
-        let pair = pair(options, folder, thread);
-        let mut tally = Tally::default();
-        loop {
-            let number = next.fetch_add(1, Relaxed);
-            if number >= options.count || number > first_difference.load(Relaxed) {
-                return tally;
-            }
-            let sheet = sheet(fixed, options.seed, number);
-            let (program, reference) = pair.run(&sheet, way(number));
-            if differ(&program, &reference) {
-                first_difference.fetch_min(number, Relaxed);
-            } else if let Ok(lines) = reference {
-                tally.count(&lines);
-            }
+    match run_all(pair, all, count) {
+        Ok(tally) => {
+            println!("{tally}");
+            println!("seed {}, {:.1} s", all.seed, begun.elapsed().as_secs_f64());
+            judge(&tally)
         }
-    };
-    let mut tally = Tally::default();
-    thread::scope(|threads| {
-        // Two for each core: one waits while the program of the other runs.
-        let cores = thread::available_parallelism().map_or(1, usize::from);
-        let shares: Vec<_> = (0..2 * cores).map(|at| threads.spawn(move || share(at))).collect();
-        shares.into_iter().for_each(|share| tally.add(&share.join().expect("a thread's tally")));
-    });
-    let number = first_difference.into_inner();
-    if number < u64::MAX {
-        println!("sheet {number} of seed {} differs", options.seed);
-        println!("again: sheets PROGRAM REFERENCE --seed {} --sheet {number}", options.seed);
-        let sheet = sheet(fixed, options.seed, number);
-        return explain_smallest(&pair(options, folder, 0), sheet, way(number));
+        Err(number) => {
+            println!("sheet {number} of seed {} differs", all.seed);
+            println!("again: sheets {pair} --seed {} --sheet {number}", all.seed);
+            explain_smallest(pair, all.sheet(number), way(number))
+        }
     }
-    println!("{tally}");
-    println!("seed {}, {:.1} s", options.seed, begun.elapsed().as_secs_f64());
-    judge(&tally)
 }
 
 /// No sheet differed; but a reply that never came was never compared.
