@@ -12,10 +12,10 @@ trap 'rm -rf "$work"' EXIT
 cd "$work"
 checks=0
 
-# The interpreter itself, for a python3 that looks for it first takes longer than the tool.
+# The interpreter itself and nothing that is installed beside it: finding those takes longer than the tool.
 python=$(python3 -c 'import sys; print(sys.executable)')
 sheet() {
-    "$python" "$root/tools/sheet" "$@"
+    "$python" -S "$root/tools/sheet" "$@"
 }
 
 fail() {
@@ -166,7 +166,10 @@ refused 2 "the opening is refused with 1, so there is no hall to draw ('explain'
 refused 2 "d.lines:2: not a line of this sheet: it says record 1, code 3; the sheet has record 1, code 1" \
     explain mistakes.sheet --lines d.lines
 sed 's/^7 5 0 300$/7 5 0 0/' d.lines >wrong.lines
-refused 2 "record 7: the program replied 0 0, but by document 01 as this tool has it the reply is 0 300; nothing is drawn" \
+refused 2 "record 7: the program printed 0 0, but by document 01 it is 0 300; nothing is drawn" \
+    picture d.sheet wrong.svg --lines wrong.lines
+sed 's/^end .*/end 7 1 2/' d.lines >wrong.lines
+refused 2 "end: the program printed 7 1 2, but by document 01 it is 7 1 1; nothing is drawn" \
     picture d.sheet wrong.svg --lines wrong.lines
 [ ! -e wrong.svg ] || fail "a picture of wrong lines was written"
 printf '0 0 0 0\n1 5 0 0\n2 1 0 0\nend 2 0 0\n' >wrong.lines

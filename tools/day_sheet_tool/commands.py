@@ -108,7 +108,7 @@ def draw(options):
     if not 1 <= options.first <= max(last, 1):
         raise Complaint(f"--from {options.first}: the sheet has {plural(last, 'record')}")
     numbers = range(options.first, min(options.first + MOST_RECORDS, last + 1))
-    moments = replay(sheet, lines, numbers)
+    moments = replay(sheet, lines, end, numbers)
     write_text(options.svg, picture(os.path.basename(options.sheet), sheet, moments, end))
     if len(moments) < last:
         print(f"sheet: drawn are {plural(len(moments), 'record')} of {last:,}; --from N begins elsewhere", file=sys.stderr)

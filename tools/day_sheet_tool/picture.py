@@ -4,35 +4,22 @@ In each strip stand the records with their replies, then the positions, then eve
 it owes and its list. A column shows what its record leaves.
 """
 
-from itertools import groupby
-
 from .complaint import plural
 from .explain import end_in_words, hall_in_words
+from .legend import legend
+from .pieces import (
+    CELL, COLUMN, HANDED_BACK, LEFT, MARGIN, MOST_CELLS, REFUSED, ROW, SCREEN, bars, boxed, listed,
+)
 from .steps import STEPS
-from .svg import FAINT, INK, SOFT, Drawing
+from .svg import FAINT, INK, Drawing
 
-COLUMN = 66
-LEFT = 122  # room for the names of the rows
-MARGIN = 16
-ROW = 18
-CELL = 15
 HEAD = 78  # a record and its reply
 STRIP_COLUMNS = 18  # at most
-MOST_CELLS = 10  # of a list; more are counted
 MOST_POSITIONS = 8
+FEW_DESKS = 4
 
 # The most records of one picture.
 MOST_RECORDS = 160
-
-SCREEN = "#bcd9ee"
-REFUSED = {"fill": INK, "stroke": INK}
-HANDED_BACK = {"fill": "#ffffff", "stroke": INK, "stroke_width": 2}
-
-KINDS = {
-    "ready": {"fill": "#ffffff", "stroke": INK, "stroke_width": 2},
-    "tested": {"fill": "url(#hatch)", "stroke": INK, "stroke_width": 1},
-    "waiting": {"fill": "#e4e4e4", "stroke": SOFT, "stroke_width": 1, "stroke_dasharray": "3 2"},
-}
 
 
 def picture(name, sheet, moments, end):
@@ -77,7 +64,7 @@ class Shown:
     def __init__(self, sheet, moments):
         desks, _, positions = sheet.hall
         self.fault = sheet.fault
-        self.desks = [at for at in range(desks) if desks <= 4 or any(busy(moment, at) for moment in moments)]
+        self.desks = [at for at in range(desks) if desks <= FEW_DESKS or any(busy(moment, at) for moment in moments)]
         held = [at for at in range(positions) if any(moment.board.positions[at] for moment in moments)]
         self.positions = held[:MOST_POSITIONS]
         self.positions_left_out = len(held) - len(self.positions)
@@ -124,12 +111,6 @@ def record(drawing, moment, x, top):
         boxed(drawing, x, top + 59, f"back {moment.session}", **HANDED_BACK)
     else:
         drawing.words(middle, top + 70, replied(moment), "soft", "middle")
-
-
-def boxed(drawing, x, y, words, **style):
-    drawing.rect(x + 2, y, COLUMN - 4, 15, rx=3, **style)
-    look = "white" if style["fill"] == INK else "bold"
-    drawing.words(x + COLUMN / 2, y + 11, words, f"{look} small", "middle")
 
 
 def asked(record):
@@ -194,62 +175,3 @@ def desk(drawing, moments, at, top, width):
     for column, state in enumerate(states):
         listed(drawing, state, LEFT + column * COLUMN, y)
     return top + height
-
-
-def bars(drawing, name, sessions, y, **style):
-    """A row: a bar as long as the same session stands there, with its number."""
-    drawing.words(LEFT - 6, y + 12, name, "soft", "end")
-    drawing.line(LEFT, y + 8, LEFT + len(sessions) * COLUMN, y + 8, stroke=FAINT, stroke_width=1)
-    start = 0
-    for session, run in groupby(sessions):
-        length = len(list(run))
-        if session != 0:
-            x = LEFT + start * COLUMN
-            drawing.rect(x + 3, y + 1, length * COLUMN - 6, ROW - 4, rx=2, stroke=INK, stroke_width=1, **style)
-            drawing.words(x + COLUMN / 2, y + 12, str(session), "", "middle")
-        start += length
-
-
-def listed(drawing, state, x, y):
-    """The list from its front: ready, tested, waiting. More than fit are counted."""
-    cells = [("ready", session, False) for session in state.ready]
-    cells += [("tested", session, marked) for session, marked in zip(state.tested, state.marks)]
-    cells += [("waiting", session, False) for session in state.waiting]
-    fit = len(cells) if len(cells) <= MOST_CELLS else MOST_CELLS - 1
-    for at, (kind, session, marked) in enumerate(cells[:fit]):
-        cell(drawing, kind, str(session), marked, x, y + at * CELL)
-    if fit < len(cells):
-        drawing.words(x + COLUMN / 2, y + fit * CELL + 11, f"and {len(cells) - fit} more", "small", "middle")
-
-
-def cell(drawing, kind, words, marked, x, y):
-    drawing.rect(x + 5, y + 1, COLUMN - 10, CELL - 3, **KINDS[kind])
-    drawing.words(x + 9, y + 11, kind[0].upper(), "bold small")
-    drawing.words(x + COLUMN / 2 + 2, y + 11, words, "small", "middle")
-    if marked:
-        drawing.dot(x + COLUMN - 11, y + 7, 3)
-
-
-def legend(drawing, top):
-    """Two columns of samples with what they mean."""
-    drawing.line(MARGIN, top, LEFT + 11 * COLUMN, top, stroke=FAINT, stroke_width=1)
-    drawing.words(MARGIN, top + 18, "legend", "bold")
-    x, y = LEFT, top + 7
-    for kind, marked, words in [
-        ("ready", False, "ready: a next collect hands it back"),
-        ("tested", False, "tested: the screens of the hall are being read"),
-        ("tested", True, "tested and marked: a screen that was read shows it"),
-        ("waiting", False, "waiting: the next reading tests it"),
-    ]:
-        cell(drawing, kind, "300", marked, x, y)
-        drawing.words(x + COLUMN + 4, y + 11, words)
-        y += ROW
-    x, y = LEFT + 6 * COLUMN, top + 7
-    drawing.rect(x + 3, y, COLUMN - 6, ROW - 4, rx=2, stroke=INK, stroke_width=1, fill=SCREEN)
-    drawing.words(x + COLUMN / 2, y + 11, "300", "", "middle")
-    drawing.words(x + COLUMN + 4, y + 11, "a screen shows 300, as long as the bar")
-    boxed(drawing, x, y + ROW, "refused 13", **REFUSED)
-    drawing.words(x + COLUMN + 4, y + ROW + 11, "the board refused the step, with this number")
-    boxed(drawing, x, y + 2 * ROW, "back 300", **HANDED_BACK)
-    drawing.words(x + COLUMN + 4, y + 2 * ROW + 11, "a collect handed 300 back for closing")
-    drawing.words(x + 3, y + 3 * ROW + 11, "p1, s1: position 1, screen 1. Grey: the desk whose step it is.")
