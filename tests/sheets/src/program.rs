@@ -10,6 +10,9 @@ use std::time::{Duration, Instant};
 /// Far more than any sheet needs.
 const MOST_TIME: Duration = Duration::from_secs(10);
 
+/// The lines of the longest sheet are less than a fifth of this.
+const MOST_PRINTED: u64 = 4 << 20;
+
 /// Between the pieces of a sheet: the program is waiting for more by then.
 const PAUSE: Duration = Duration::from_millis(3);
 
@@ -45,11 +48,11 @@ fn start_and_wait(program: &Path, sheet: &[u8], way: Way, folder: &Path) -> io::
         .stderr(Stdio::null())
         .spawn()?;
     let ended = match child.stdin.take() {
-        None => wait(&mut child)?,
+        None => wait(&mut child, &lines)?,
         // Beside the waiting: a program that does not read is not waited for.
         Some(pipe) => scope(|threads| {
             threads.spawn(|| feed(pipe, sheet, way));
-            wait(&mut child)
+            wait(&mut child, &lines)
         })?,
     };
     Ok(match ended {
@@ -75,7 +78,8 @@ fn feed(mut pipe: ChildStdin, sheet: &[u8], way: Way) {
     }
 }
 
-fn wait(child: &mut Child) -> io::Result<Result<(), String>> {
+/// A program that does not end, or goes on printing, is ended.
+fn wait(child: &mut Child, lines: &Path) -> io::Result<Result<(), String>> {
     let begun = Instant::now();
     let mut pause = Duration::from_micros(200);
     loop {
@@ -83,11 +87,19 @@ fn wait(child: &mut Child) -> io::Result<Result<(), String>> {
             return Ok(if status.success() { Ok(()) } else { Err(status.to_string()) });
         }
         if begun.elapsed() > MOST_TIME {
-            child.kill()?;
-            child.wait()?;
+            end(child)?;
             return Ok(Err(format!("did not end within {} s", MOST_TIME.as_secs())));
+        }
+        if fs::metadata(lines)?.len() > MOST_PRINTED {
+            end(child)?;
+            return Ok(Err(format!("printed more than {MOST_PRINTED} bytes")));
         }
         sleep(pause);
         pause = (pause * 5 / 4).min(Duration::from_millis(2));
     }
+}
+
+fn end(child: &mut Child) -> io::Result<()> {
+    child.kill()?;
+    child.wait().map(drop)
 }
