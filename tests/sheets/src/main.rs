@@ -48,10 +48,21 @@ fn main() -> ExitCode {
             return ExitCode::from(2);
         }
     };
-    let folder = env::temp_dir().join(format!("sheets-{}", process::id()));
+    let folder = folder();
     let result = compare(&options, &folder);
     let _ = fs::remove_dir_all(&folder);
     result
+}
+
+/// For the sheets and the lines. In memory if it can be: the files are many,
+/// and small.
+fn folder() -> PathBuf {
+    let name = format!("sheets-{}", process::id());
+    let in_memory = Path::new("/dev/shm").join(&name);
+    match fs::create_dir(&in_memory) {
+        Ok(()) => in_memory,
+        Err(_) => env::temp_dir().join(name),
+    }
 }
 
 fn options(mut arguments: impl Iterator<Item = String>) -> Result<Options, String> {
