@@ -1,18 +1,26 @@
 # The front door.
-#   make run     builds and runs the example host
+#   make run     runs the sheet program on an example sheet (SHEET=busy_desk names another) and says what its lines mean
+#   make host    builds and runs the example host in C
 #   make test    the gate: all proofs from nothing, the edits that must be refused, the tests outside Rattle
 #   make lib     the archive and its header, in build/
-#   make bench   the six calls against a board in Rust, same run
+#   make bench   the six calls and the sheet program, each against the same in Rust, same run
 #   make proved  the theorems
 #   make edits   the wrong programs and rules in edits/, each refused at its place
-#   make selftest  shows that the comparison catches 31 wrong boards (minutes)
-.PHONY: run test lib bench proved edits selftest
+#   make gallery draws the example sheets anew, in docs/gallery/
+#   make selftest  shows that the comparisons catch 31 wrong boards and 34 wrong sheet programs (minutes)
+.PHONY: run host test lib bench proved edits gallery selftest target/bin/day_sheet
 
 CARGO = cargo run --quiet --offline --release --manifest-path
 export CARGO_TARGET_DIR = $(CURDIR)/target/outside
 export SESSION_BOARD_LIB = $(CURDIR)/build
+SHEET = quiet_shift
 
-run: lib
+run: target/bin/day_sheet
+	@mkdir -p build
+	@tools/sheet encode examples/$(SHEET).txt > build/$(SHEET).sheet
+	@tools/sheet explain build/$(SHEET).sheet
+
+host: lib
 	@gcc -Iinclude examples/host.c build/libhost.a -o build/host_example
 	@build/host_example
 
@@ -24,8 +32,16 @@ lib:
 	@rt staticlib host > build/staticlib.log 2>&1 || { cat build/staticlib.log; exit 1; }
 	@cp target/staticlib/libhost.a include/session_board.h build/
 
-bench: lib
+# Always asked for: rt knows what has changed.
+target/bin/day_sheet:
+	@mkdir -p build
+	@rt check day_sheet > build/day_sheet.log 2>&1 || { cat build/day_sheet.log; exit 1; }
+
+bench: lib target/bin/day_sheet
 	@$(CARGO) bench/Cargo.toml
+	@cargo build --quiet --offline --release --manifest-path tests/reference/Cargo.toml
+	@echo
+	@$(CARGO) bench/sheets/Cargo.toml -- target/bin/day_sheet target/outside/release/day_sheet_reference
 
 proved:
 	@tools/proved
@@ -33,5 +49,14 @@ proved:
 edits:
 	@tools/edits
 
+gallery: target/bin/day_sheet
+	@mkdir -p build
+	@for text in examples/*.txt; do \
+	    name=$$(basename $$text .txt); \
+	    tools/sheet encode $$text > build/$$name.sheet && \
+	    tools/sheet picture build/$$name.sheet docs/gallery/$$name.svg || exit 1; \
+	done
+
 selftest:
 	@tests/compare/selftest.sh
+	@tests/sheets/selftest.sh

@@ -1,13 +1,24 @@
 #!/bin/sh
-# Tests the board from outside, quietly, up to the first failure:
+# Tests the board and the sheet program from outside, quietly, up to the first
+# failure:
 #
-#     tests/run.sh LIBDIR        LIBDIR holds the archive libhost.a
+#     tests/run.sh LIBDIR PROGRAM
 #
+# LIBDIR holds the archive libhost.a; PROGRAM reads a day sheet and prints it.
 # What is built goes to target/ beside include/, or to $TARGET.
 set -eu
 
-[ $# -eq 1 ] && [ -f "$1/libhost.a" ] || { echo "usage: $0 LIBDIR (with libhost.a)"; exit 2; }
+usage() {
+    echo "run: $1"
+    echo "usage: $0 LIBDIR PROGRAM (LIBDIR with libhost.a, PROGRAM a day sheet program)"
+    exit 2
+}
+
+[ $# -eq 2 ] || usage "two arguments are needed"
+[ -f "$1/libhost.a" ] || usage "there is no $1/libhost.a"
+[ -f "$2" ] && [ -x "$2" ] || usage "$2 is no program"
 SESSION_BOARD_LIB=$(cd "$1" && pwd)
+program=$(cd "$(dirname "$2")" && pwd)/$(basename "$2")
 root=$(cd "$(dirname "$0")/.." && pwd)
 CARGO_TARGET_DIR=${TARGET:-$root/target/outside}
 export SESSION_BOARD_LIB CARGO_TARGET_DIR
@@ -28,7 +39,12 @@ step() {
     fi
 }
 
-# link SOURCE PROGRAM
+# build CRATE: a crate of tests/
+build() {
+    cargo build --quiet --offline --release --manifest-path "$root/tests/$1/Cargo.toml"
+}
+
+# link SOURCE NAME
 link() {
     gcc $warnings -I"$root/include" "$1" "$SESSION_BOARD_LIB/libhost.a" -o "$CARGO_TARGET_DIR/$2"
 }
@@ -40,11 +56,15 @@ reference_tests() {
 }
 
 step "reference" 1 reference_tests
-step "building compare" 0 \
-    cargo build --quiet --offline --release --manifest-path "$root/tests/compare/Cargo.toml"
+step "building compare" 0 build compare
 step "compare" 1 "$CARGO_TARGET_DIR/release/compare"
 step "building host_test" 0 link "$root/tests/host/host_test.c" host_test
 step "host_test" 1 "$CARGO_TARGET_DIR/host_test"
+step "building sheets" 0 build sheets
+step "building the sheet program in Rust" 0 build reference
+step "sheets" 1 "$CARGO_TARGET_DIR/release/sheets" "$program" \
+    "$CARGO_TARGET_DIR/release/day_sheet_reference"
+step "tool" 1 "$root/tests/tool.sh" "$program"
 step "building the example" 0 link "$root/examples/host.c" host_example
 step "the example" 0 "$CARGO_TARGET_DIR/host_example"
 echo "run: all passed"

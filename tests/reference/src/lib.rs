@@ -6,6 +6,7 @@
 
 mod hall;
 mod record;
+pub mod sheet;
 mod sound;
 mod words;
 

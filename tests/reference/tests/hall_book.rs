@@ -1,4 +1,4 @@
-//! The hall book of document 01, cases A to K and M. (L is the sheet's.)
+//! The hall book of document 01, cases A to K and M. (L is in day_sheet.)
 
 mod board;
 

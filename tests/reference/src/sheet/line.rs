@@ -1,0 +1,51 @@
+//! The printed lines: numbers in decimal, one space between.
+
+use super::tally::Tally;
+
+/// Record number, step code, reply number, session.
+pub fn print_line(text: &mut Vec<u8>, record: u32, code: u16, answer: u32) {
+    print(text, record, b' ');
+    print(text, u32::from(code), b' ');
+    print(text, answer >> 16, b' ');
+    print(text, answer & 0xFFFF, b'\n');
+}
+
+/// The last line, always.
+pub fn print_end(text: &mut Vec<u8>, tally: &Tally) {
+    text.extend(b"end ");
+    print(text, tally.accepted, b' ');
+    print(text, tally.refused, b' ');
+    print(text, tally.handed_back, b'\n');
+}
+
+/// A number and what follows it. There may be 130,000 of them in a sheet's
+/// lines, so the formatting machinery of the library is left out.
+fn print(text: &mut Vec<u8>, number: u32, then: u8) {
+    let mut digits = [0; 11];
+    let mut at = digits.len() - 1;
+    digits[at] = then;
+    let mut rest = number;
+    loop {
+        at -= 1;
+        digits[at] = b'0' + (rest % 10) as u8;
+        rest /= 10;
+        if rest == 0 {
+            break;
+        }
+    }
+    text.extend(&digits[at..]);
+}
+
+#[cfg(test)]
+mod tests {
+    use super::print;
+
+    #[test]
+    fn numbers_of_every_length() {
+        for number in [0, 9, 10, 99, 100, 65_535, 100_000, u32::MAX] {
+            let mut text = Vec::new();
+            print(&mut text, number, b'\n');
+            assert_eq!(text, format!("{number}\n").into_bytes());
+        }
+    }
+}

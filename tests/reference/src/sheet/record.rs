@@ -1,0 +1,46 @@
+//! A record: the code of a step, and the fields that follow it.
+
+use super::super::{collect, drop, retire, swap, take, Reply};
+use super::number::{Fault, Reader};
+
+pub const TAKE: u16 = 1;
+pub const DROP: u16 = 2;
+pub const SWAP: u16 = 3;
+pub const RETIRE: u16 = 4;
+pub const COLLECT: u16 = 5;
+
+/// Desk, screen, position, session; those a code lacks are 0.
+pub type Fields = [u16; 4];
+
+/// Which of desk, screen, position and session follow each code.
+const FOLLOWS: [[bool; 4]; 5] = [
+    [true, true, true, false],
+    [true, true, false, false],
+    [true, false, true, true],
+    [true, false, false, false],
+    [true, false, false, false],
+];
+
+pub fn read_fields(code: u16, reader: &mut Reader) -> Result<Fields, Fault> {
+    if !(TAKE..=COLLECT).contains(&code) {
+        return Err(Fault::BadCode);
+    }
+    let mut fields = [0; 4];
+    for (field, follows) in fields.iter_mut().zip(FOLLOWS[usize::from(code - TAKE)]) {
+        if follows {
+            *field = reader.number()?;
+        }
+    }
+    Ok(fields)
+}
+
+/// Sends the step to the board. The code is one of the five.
+pub fn step(code: u16, [desk, screen, position, session]: Fields, table: &mut [u8]) -> Reply {
+    match code {
+        TAKE => take(desk, screen, position, table),
+        DROP => drop(desk, screen, table),
+        SWAP => swap(desk, position, session, table),
+        RETIRE => retire(desk, table),
+        _ => collect(desk, table),
+    }
+}

@@ -1,0 +1,168 @@
+//! The day sheet: case D whole, case L, the empty sheet, and each way in which
+//! a reading ends.
+
+use reference::sheet::{printed, Fault, Reader, MOST_BYTES};
+
+const CASE_D: [u8; 27] = [
+    0x01, 0x01, 0x01, 0x03, 0x01, 0x01, 0xAC, 0x02, 0x01, 0x01, 0x01, 0x01, 0x03, 0x01, 0x01, 0x07,
+    0x04, 0x01, 0x05, 0x01, 0x02, 0x01, 0x01, 0x05, 0x01, 0x04, 0x01,
+];
+
+/// A hall of 1, 1, 1 with nothing after it.
+const SMALLEST: [u8; 3] = [1, 1, 1];
+
+fn lines(sheet: &[u8]) -> String {
+    String::from_utf8(printed(sheet)).expect("plain text")
+}
+
+/// The lines of a sheet that opens the smallest hall and goes on so.
+fn lines_after_opening(rest: &[u8]) -> String {
+    let lines = lines(&[&SMALLEST, rest].concat());
+    lines.strip_prefix("0 0 0 0\n").expect("an accepted opening").to_string()
+}
+
+#[test]
+fn case_d_whole() {
+    let expected = "0 0 0 0\n1 3 0 0\n2 1 0 300\n3 3 0 300\n4 4 0 300\n5 5 0 0\n6 2 0 300\n\
+                    7 5 0 300\n8 4 13 0\nend 7 1 1\n";
+    assert_eq!(lines(&CASE_D), expected);
+}
+
+#[test]
+fn the_empty_sheet() {
+    assert_eq!(lines(&[]), "0 0 15 0\nend 0 0 0\n");
+}
+
+#[test]
+fn case_l() {
+    assert_eq!(Reader::new(&[0xFF, 0xFF, 0x03]).number(), Ok(65_535));
+    assert_eq!(Reader::new(&[0x80, 0x80, 0x04]).number(), Err(Fault::BadNumber));
+    assert_eq!(Reader::new(&[0x81, 0x00]).number(), Ok(1));
+    assert_eq!(Reader::new(&[0x80]).number(), Err(Fault::SheetShort));
+}
+
+/// A sheet that stops before a third byte is 15, also where it could only
+/// have become too large.
+#[test]
+fn numbers_that_stop() {
+    assert_eq!(Reader::new(&[]).number(), Err(Fault::SheetShort));
+    assert_eq!(Reader::new(&[0xFF, 0xFF]).number(), Err(Fault::SheetShort));
+    assert_eq!(Reader::new(&[0xFF, 0xFF, 0x83]).number(), Err(Fault::BadNumber));
+    assert_eq!(Reader::new(&[0x80, 0x80, 0x80, 0x00]).number(), Err(Fault::BadNumber));
+}
+
+#[test]
+fn zero_groups_at_the_high_end() {
+    assert_eq!(Reader::new(&[0x81, 0x80, 0x00]).number(), Ok(1));
+    let mut reader = Reader::new(&[0x80, 0x80, 0x00, 0xAC, 0x82, 0x00]);
+    assert_eq!((reader.number(), reader.number()), (Ok(0), Ok(300)));
+    assert!(reader.at_end());
+}
+
+#[test]
+fn an_opening_that_is_refused() {
+    assert_eq!(lines(&[17, 5, 65]), "0 0 1 0\nend 0 0 0\n");
+    assert_eq!(lines(&[16, 5, 65]), "0 0 2 0\nend 0 0 0\n");
+    assert_eq!(lines(&[16, 4, 65]), "0 0 3 0\nend 0 0 0\n");
+    assert_eq!(lines(&[16, 4, 64]), "0 0 0 0\nend 0 0 0\n");
+}
+
+/// Nothing after it is read.
+#[test]
+fn a_refused_opening_ends_the_reading() {
+    assert_eq!(lines(&[0, 1, 1, 5, 1, 9]), "0 0 1 0\nend 0 0 0\n");
+}
+
+#[test]
+fn all_header_numbers_are_read_before_the_opening_asks() {
+    assert_eq!(lines(&[0, 0]), "0 0 15 0\nend 0 0 0\n");
+    assert_eq!(lines(&[0, 0x80, 0x80, 0x04, 1]), "0 0 16 0\nend 0 0 0\n");
+}
+
+#[test]
+fn a_code_cut_short() {
+    assert_eq!(lines_after_opening(&[5, 1, 0x85]), "1 5 0 0\n2 0 15 0\nend 1 0 0\n");
+}
+
+#[test]
+fn a_code_too_large_to_read() {
+    assert_eq!(lines_after_opening(&[0x80, 0x80, 0x04]), "1 0 16 0\nend 0 0 0\n");
+}
+
+#[test]
+fn codes_out_of_range() {
+    assert_eq!(lines_after_opening(&[0, 1, 1]), "1 0 17 0\nend 0 0 0\n");
+    assert_eq!(lines_after_opening(&[6]), "1 6 17 0\nend 0 0 0\n");
+    assert_eq!(lines_after_opening(&[0x85, 0x02, 1]), "1 261 17 0\nend 0 0 0\n");
+}
+
+/// Every record cut at each of its fields, and with a bad number there.
+#[test]
+fn fields_that_end_the_reading() {
+    let records: [&[u8]; 5] = [&[1, 1, 1, 1], &[2, 1, 1], &[3, 1, 1, 7], &[4, 1], &[5, 1]];
+    for record in records {
+        for cut in 1..record.len() {
+            let (cut, code) = (&record[..cut], record[0]);
+            assert_eq!(lines_after_opening(cut), format!("1 {code} 15 0\nend 0 0 0\n"));
+            let bad = [cut, &[0xFF, 0xFF, 0x04, 1]].concat();
+            assert_eq!(lines_after_opening(&bad), format!("1 {code} 16 0\nend 0 0 0\n"));
+        }
+    }
+}
+
+/// A desk that does not exist is asked for only once the record is whole.
+#[test]
+fn all_fields_are_read_before_the_step_asks() {
+    assert_eq!(lines_after_opening(&[1, 9, 9]), "1 1 15 0\nend 0 0 0\n");
+    assert_eq!(lines_after_opening(&[1, 9, 9, 9]), "1 1 6 0\nend 0 1 0\n");
+}
+
+/// Fields of a swap: desk, position, session; of a take: desk, screen, position.
+#[test]
+fn the_order_of_fields() {
+    let sheet = [2, 3, 4, 3, 2, 4, 5, 1, 2, 3, 4];
+    assert_eq!(lines(&sheet), "0 0 0 0\n1 3 0 0\n2 1 0 5\nend 2 0 0\n");
+}
+
+#[test]
+fn a_refused_step_does_not_end_the_reading() {
+    assert_eq!(lines_after_opening(&[4, 1, 5, 1]), "1 4 13 0\n2 5 0 0\nend 1 1 0\n");
+}
+
+/// Only a session handed back counts in the third count.
+#[test]
+fn what_is_handed_back() {
+    let replaced = [3, 1, 1, 5, 3, 1, 1, 6, 4, 1];
+    let lines = lines_after_opening(&[&replaced[..], &[5, 1, 5, 1]].concat());
+    assert_eq!(lines, "1 3 0 0\n2 3 0 5\n3 4 0 5\n4 5 0 5\n5 5 0 0\nend 5 0 1\n");
+}
+
+/// A sheet of so many bytes: the smallest hall, then collects by desk 5.
+fn long_sheet(bytes: usize) -> Vec<u8> {
+    let mut sheet = vec![5; bytes];
+    sheet[..3].copy_from_slice(&SMALLEST);
+    sheet
+}
+
+#[test]
+fn the_longest_sheet_is_read() {
+    let lines = lines(&long_sheet(MOST_BYTES));
+    assert_eq!(MOST_BYTES, 65_536);
+    assert!(lines.ends_with("32766 5 6 0\n32767 5 15 0\nend 0 32766 0\n"));
+}
+
+#[test]
+fn one_byte_more_is_too_long() {
+    assert_eq!(lines(&long_sheet(65_537)), "0 0 18 0\nend 0 0 0\n");
+    assert_eq!(lines(&[0x80; 65_537]), "0 0 18 0\nend 0 0 0\n");
+}
+
+/// As many records as a sheet can hold, each with its line.
+#[test]
+fn a_long_day() {
+    let mut sheet = vec![16, 4, 64];
+    (0..32_766).for_each(|_| sheet.extend([5, 16]));
+    let lines = lines(&sheet);
+    assert_eq!(lines.lines().count(), 1 + 32_766 + 1);
+    assert!(lines.ends_with("32766 5 0 0\nend 32766 0 0\n"));
+}

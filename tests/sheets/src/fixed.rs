@@ -1,0 +1,120 @@
+//! The sheets that every run begins with, small ones first: a program that is
+//! plainly wrong is caught by a sheet that a person can read.
+
+use crate::bytes::{put, MOST_IN_THREE};
+
+const CASE_D: [u8; 27] = [
+    0x01, 0x01, 0x01, 0x03, 0x01, 0x01, 0xAC, 0x02, 0x01, 0x01, 0x01, 0x01, 0x03, 0x01, 0x01, 0x07,
+    0x04, 0x01, 0x05, 0x01, 0x02, 0x01, 0x01, 0x05, 0x01, 0x04, 0x01,
+];
+
+/// The longest sheet that is read.
+const MOST_BYTES: usize = 65_536;
+
+pub fn sheets() -> Vec<Vec<u8>> {
+    let mut sheets = vec![Vec::new(), CASE_D.to_vec()];
+    sheets.extend((0..=255).map(|byte| vec![byte]));
+    sheets.extend(headers());
+    sheets.extend(numbers());
+    sheets.extend(codes());
+    for sheet in [CASE_D.to_vec(), every_step(1), every_step(2), every_step(3)] {
+        sheets.extend((0..=sheet.len()).map(|cut| sheet[..cut].to_vec()));
+    }
+    sheets.extend(long());
+    sheets
+}
+
+/// Each limit of the opening and the first number past it, alone and together.
+fn headers() -> Vec<Vec<u8>> {
+    let mut sheets = Vec::new();
+    for desks in [0, 1, 16, 17] {
+        for screens in [0, 1, 4, 5] {
+            for positions in [0, 1, 64, 65] {
+                sheets.push(vec![desks, screens, positions]);
+                sheets.push(vec![desks, screens, positions, 5, 1]);
+            }
+        }
+    }
+    sheets
+}
+
+/// Numbers at every bound, as the session of a swap; with zero groups too.
+fn numbers() -> Vec<Vec<u8>> {
+    let bounds = [0, 1, 127, 128, 255, 256, 16_383, 16_384, 32_768, 65_535];
+    let too_large = [65_536, 65_537, 131_072, MOST_IN_THREE, MOST_IN_THREE + 1];
+    let mut sheets = Vec::new();
+    for number in bounds.into_iter().chain(too_large) {
+        for least_groups in 1..=4 {
+            let mut sheet = vec![1, 1, 1, 3, 1, 1];
+            put(&mut sheet, number, least_groups);
+            sheet.extend([1, 1, 1, 1]);
+            sheets.push(sheet);
+        }
+    }
+    sheets
+}
+
+/// Codes in and out of range, with and without something after them.
+fn codes() -> Vec<Vec<u8>> {
+    let mut sheets = Vec::new();
+    for code in [0, 1, 2, 3, 4, 5, 6, 7, 127, 128, 257, 261, 32_773, 65_535, 65_536, 65_541] {
+        for least_groups in 1..=4 {
+            for after in [&[][..], &[1], &[1, 1, 1], &[1, 1, 1, 5, 1]] {
+                let mut sheet = vec![1, 1, 1, 5, 1];
+                put(&mut sheet, code, least_groups);
+                sheet.extend(after);
+                sheets.push(sheet);
+            }
+        }
+    }
+    sheets
+}
+
+/// Each step, accepted and refused, all numbers in so many groups.
+fn every_step(least_groups: usize) -> Vec<u8> {
+    let records: [&[u32]; 16] = [
+        &[2, 2, 2],
+        &[3, 1, 2, 300],
+        &[1, 2, 1, 2],
+        &[1, 2, 1, 2],
+        &[1, 2, 2, 1],
+        &[3, 1, 2, 65_535],
+        &[3, 1, 1, 7],
+        &[4, 1],
+        &[4, 1],
+        &[5, 1],
+        &[5, 1],
+        &[2, 2, 1],
+        &[2, 2, 1],
+        &[5, 1],
+        &[5, 1],
+        &[5, 3],
+    ];
+    let mut sheet = Vec::new();
+    records.concat().into_iter().for_each(|number| put(&mut sheet, number, least_groups));
+    sheet
+}
+
+/// Around the longest sheet, and well past it.
+fn long() -> Vec<Vec<u8>> {
+    let mut sheets = Vec::new();
+    for bytes in [MOST_BYTES - 1, MOST_BYTES, MOST_BYTES + 1, MOST_BYTES + 2, 3 * MOST_BYTES] {
+        sheets.push(filled(&[1, 1, 1], &[5], bytes));
+        sheets.push(filled(&[1, 1, 1], &[5, 1], bytes));
+        sheets.push(filled(&[16, 4, 64], &[5, 16], bytes));
+        sheets.push(filled(
+            &[16, 4, 64],
+            &[3, 7, 64, 9, 1, 16, 4, 64, 4, 7, 2, 16, 4, 5, 7],
+            bytes,
+        ));
+        sheets.push(filled(&[17, 1, 1], &[0], bytes));
+        sheets.push(filled(&[2, 1], &[0x80], bytes));
+        sheets.push(vec![0; bytes]);
+    }
+    sheets
+}
+
+/// A beginning, then the same bytes again and again up to this length.
+fn filled(beginning: &[u8], again: &[u8], bytes: usize) -> Vec<u8> {
+    beginning.iter().chain(again.iter().cycle()).copied().take(bytes).collect()
+}

@@ -1,0 +1,174 @@
+//! Sheets at random: histories that press the board to its refusals, the same
+//! written with zero groups, cut or damaged, and bytes of no meaning.
+
+use crate::bytes::{put, MOST_IN_THREE};
+use crate::damage::{cut, damage};
+use crate::rng::Rng;
+
+/// The sheet of this number under this seed.
+pub fn sheet(seed: u64, number: u64) -> Vec<u8> {
+    let mut rng = Rng::of_case(seed, number);
+    let rng = &mut rng;
+    match rng.below(32) {
+        0..=10 => plain(&history(rng)),
+        11..=14 => {
+            let numbers = history(rng);
+            padded(rng, &numbers)
+        }
+        15..=18 => {
+            let sheet = padded_or_plain(rng);
+            cut(rng, sheet)
+        }
+        19..=23 => {
+            let sheet = padded_or_plain(rng);
+            damage(rng, sheet)
+        }
+        24 | 25 => with_a_number_too_large(rng),
+        26 | 27 => with_a_code_out_of_range(rng),
+        28 | 29 => any_header(rng),
+        30 => (0..rng.below(40)).map(|_| rng.word() as u8).collect(),
+        _ => (0..rng.below(60)).map(|_| rng.below(8) as u8).collect(),
+    }
+}
+
+/// The numbers of a sheet: its header, then its records.
+type Numbers = Vec<Vec<u32>>;
+
+struct Hall {
+    desks: u32,
+    screens: u32,
+    positions: u32,
+}
+
+fn plain(numbers: &Numbers) -> Vec<u8> {
+    let mut sheet = Vec::new();
+    numbers.iter().flatten().for_each(|&number| put(&mut sheet, number, 1));
+    sheet
+}
+
+/// Some numbers have zero groups at their high end.
+fn padded(rng: &mut Rng, numbers: &Numbers) -> Vec<u8> {
+    let mut sheet = Vec::new();
+    for &number in numbers.iter().flatten() {
+        put(&mut sheet, number, rng.within(1, 3));
+    }
+    sheet
+}
+
+fn padded_or_plain(rng: &mut Rng) -> Vec<u8> {
+    let numbers = history(rng);
+    match rng.below(3) {
+        0 => padded(rng, &numbers),
+        _ => plain(&numbers),
+    }
+}
+
+/// Halls of all sizes, mostly small: there a few steps meet each other.
+fn any_hall(rng: &mut Rng) -> Hall {
+    let most = match rng.below(16) {
+        0 => [1, 1, 1],
+        1 => [16, 4, 64],
+        2..=4 => [8, 3, 12],
+        _ => [4, 2, 3],
+    };
+    let [desks, screens, positions] = most.map(|most| one_of(rng, most));
+    Hall { desks, screens, positions }
+}
+
+/// A header and records. Few desks and few sessions serve, and each sheet has
+/// its own mixture of steps, so that lists run full and copies are marked.
+fn history(rng: &mut Rng) -> Numbers {
+    let hall = any_hall(rng);
+    let desks: Vec<u32> = (0..rng.within(1, 3)).map(|_| one_of(rng, hall.desks)).collect();
+    let any = u32::from(rng.word()).max(1);
+    let sessions = rng.pick(&[[5, 5, 5], [5, 6, 7], [300, 7, any], [0x0105, 0x0501, 5]]);
+    let shares = [(); 3].map(|_| rng.pick(&[1, 4, 10]));
+    let most = rng.pick(&[4, 12, 12, 40, 120]);
+    let records = rng.within(1, most);
+
+    let mut numbers = vec![vec![hall.desks, hall.screens, hall.positions]];
+    while numbers.len() <= records {
+        let desk = rng.pick(&desks);
+        let session = if rng.one_in(6) { 0 } else { rng.pick(&sessions) };
+        let turn = rng.below(shares.iter().sum::<usize>() + 2);
+        if turn < shares[0] {
+            numbers.push(vec![3, desk, one_of(rng, hall.positions), session]);
+            numbers.push(vec![4, desk]);
+        } else if turn < shares[0] + shares[1] {
+            numbers.push(vec![5, desk]);
+        } else if turn < shares[0] + shares[1] + shares[2] {
+            let screen = one_of(rng, hall.screens);
+            let take = vec![1, desk, screen, one_of(rng, hall.positions)];
+            numbers.push(if rng.one_in(3) { vec![2, desk, screen] } else { take });
+        } else {
+            numbers.push(any_record(rng, &hall, session));
+        }
+    }
+    numbers
+}
+
+/// Any step, now and then with a number that the hall does not have.
+fn any_record(rng: &mut Rng, hall: &Hall, session: u32) -> Vec<u32> {
+    let desk = number(rng, hall.desks);
+    match rng.within(1, 5) {
+        1 => vec![1, desk, number(rng, hall.screens), number(rng, hall.positions)],
+        2 => vec![2, desk, number(rng, hall.screens)],
+        3 => vec![3, desk, number(rng, hall.positions), session],
+        code => vec![code as u32, desk],
+    }
+}
+
+fn one_of(rng: &mut Rng, most: u32) -> u32 {
+    rng.within(1, most as usize) as u32
+}
+
+/// Mostly 1 to most; else out of range, or so only in its high byte.
+fn number(rng: &mut Rng, most: u32) -> u32 {
+    let within = one_of(rng, most);
+    match rng.below(16) {
+        0 => 0,
+        1 => most + 1,
+        2 => within + 256,
+        3 => rng.pick(&[65_535, 128, 16_384]),
+        _ => within,
+    }
+}
+
+/// Where one number of a history stands.
+fn any_place(rng: &mut Rng, numbers: &Numbers) -> (usize, usize) {
+    let record = rng.below(numbers.len());
+    (record, rng.below(numbers[record].len()))
+}
+
+/// Just over 65,535, anything over it, or more than three bytes long.
+fn with_a_number_too_large(rng: &mut Rng) -> Vec<u8> {
+    let mut numbers = history(rng);
+    let (record, at) = any_place(rng, &numbers);
+    let now = numbers[record][at];
+    let over = rng.within(65_536, MOST_IN_THREE as usize) as u32;
+    numbers[record][at] = rng.pick(&[65_536, 65_536 + now, over, MOST_IN_THREE + 1, u32::MAX]);
+    plain(&numbers)
+}
+
+fn with_a_code_out_of_range(rng: &mut Rng) -> Vec<u8> {
+    let mut numbers = history(rng);
+    let record = rng.within(1, numbers.len() - 1);
+    let now = numbers[record][0];
+    let any = u32::from(rng.word()).max(6);
+    numbers[record][0] = rng.pick(&[0, 6, 7, 127, 128, now + 256, any]);
+    padded(rng, &numbers)
+}
+
+/// A header of any numbers, with or without records after it.
+fn any_header(rng: &mut Rng) -> Vec<u8> {
+    let mut numbers = history(rng);
+    for (at, most) in [16, 4, 64].into_iter().enumerate() {
+        if rng.one_in(2) {
+            numbers[0][at] = number(rng, most);
+        }
+    }
+    if rng.one_in(4) {
+        numbers.truncate(1);
+    }
+    padded(rng, &numbers)
+}

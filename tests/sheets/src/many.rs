@@ -1,0 +1,81 @@
+//! Many sheets, shared out among threads.
+
+use crate::pair::{differ, Pair};
+use crate::program::Way;
+use crate::tally::Tally;
+use crate::{fixed, make};
+use std::sync::atomic::{AtomicU64, Ordering::Relaxed};
+use std::thread;
+
+/// The fixed sheets come first, then those of the seed.
+pub struct Sheets {
+    pub seed: u64,
+    fixed: Vec<Vec<u8>>,
+}
+
+impl Sheets {
+    pub fn new(seed: u64) -> Sheets {
+        Sheets { seed, fixed: fixed::sheets() }
+    }
+
+    pub fn sheet(&self, number: u64) -> Vec<u8> {
+        match self.fixed.get(number as usize) {
+            Some(sheet) => sheet.clone(),
+            None => make::sheet(self.seed, number),
+        }
+    }
+}
+
+/// How a sheet goes in. Pieces are seldom, for they take their time.
+pub fn way(number: u64) -> Way {
+    match number % 64 {
+        63 => Way::Pieces,
+        number if number % 2 == 0 => Way::File,
+        _ => Way::Pipe,
+    }
+}
+
+/// Compares sheets 0 to count - 1. The error is the first that differs.
+pub fn run_all(pair: &Pair, all: &Sheets, count: u64) -> Result<Tally, u64> {
+    let next = AtomicU64::new(0);
+    let differs = AtomicU64::new(u64::MAX);
+    let (next, differs) = (&next, &differs);
+    let mut tally = Tally::default();
+    thread::scope(|threads| {
+        // Two for each core: one waits while the program of the other runs.
+        let cores = thread::available_parallelism().map_or(1, usize::from);
+        let share = |at: usize| {
+            let pair = pair.for_thread(at);
+            threads.spawn(move || run_share(&pair, all, count, next, differs))
+        };
+        let shares: Vec<_> = (0..2 * cores).map(share).collect();
+        shares.into_iter().for_each(|share| tally.add(&share.join().expect("a thread's tally")));
+    });
+    match differs.load(Relaxed) {
+        u64::MAX => Ok(tally),
+        number => Err(number),
+    }
+}
+
+/// Takes the next sheet and the next, until all are taken or one differs.
+fn run_share(
+    pair: &Pair,
+    all: &Sheets,
+    count: u64,
+    next: &AtomicU64,
+    differs: &AtomicU64,
+) -> Tally {
+    let mut tally = Tally::default();
+    loop {
+        let number = next.fetch_add(1, Relaxed);
+        if number >= count || number > differs.load(Relaxed) {
+            return tally;
+        }
+        let (program, reference) = pair.run(&all.sheet(number), way(number));
+        if differ(&program, &reference) {
+            differs.fetch_min(number, Relaxed);
+        } else if let Ok(lines) = reference {
+            tally.count(&lines);
+        }
+    }
+}

@@ -1,0 +1,50 @@
+//! The two programs that are compared.
+
+use crate::program::{run, Printed, Way};
+use std::fmt;
+use std::fs::create_dir_all;
+use std::path::{Path, PathBuf};
+
+pub struct Pair {
+    program: PathBuf,
+    reference: PathBuf,
+    /// For the files of one run at a time.
+    folder: PathBuf,
+}
+
+impl Pair {
+    pub fn new(program: &Path, reference: &Path, folder: PathBuf) -> Pair {
+        create_dir_all(&folder).expect("a folder for the sheets");
+        Pair { program: program.into(), reference: reference.into(), folder }
+    }
+
+    /// The same programs, with a folder of their own.
+    pub fn for_thread(&self, thread: usize) -> Pair {
+        Pair::new(&self.program, &self.reference, self.folder.join(thread.to_string()))
+    }
+
+    /// What the program and the reference printed.
+    pub fn run(&self, sheet: &[u8], way: Way) -> (Printed, Printed) {
+        (
+            run(&self.program, sheet, way, &self.folder),
+            run(&self.reference, sheet, way, &self.folder),
+        )
+    }
+
+    pub fn differs(&self, sheet: &[u8], way: Way) -> bool {
+        let (program, reference) = self.run(sheet, way);
+        differ(&program, &reference)
+    }
+}
+
+/// As they are named to the comparison.
+impl fmt::Display for Pair {
+    fn fmt(&self, out: &mut fmt::Formatter) -> fmt::Result {
+        write!(out, "{} {}", self.program.display(), self.reference.display())
+    }
+}
+
+/// A program that ends in another way than with its lines is never right.
+pub fn differ(program: &Printed, reference: &Printed) -> bool {
+    program.is_err() || program != reference
+}

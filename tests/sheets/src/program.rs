@@ -1,0 +1,105 @@
+//! A sheet program, run once on one sheet.
+
+use std::fs::{self, File};
+use std::io::{self, Write};
+use std::path::{Path, PathBuf};
+use std::process::{Child, ChildStdin, Command, Stdio};
+use std::thread::{scope, sleep};
+use std::time::{Duration, Instant};
+
+/// Far more than any sheet needs.
+const MOST_TIME: Duration = Duration::from_secs(10);
+
+/// The lines of the longest sheet are less than a fifth of this.
+const MOST_PRINTED: u64 = 4 << 20;
+
+/// Between the pieces of a sheet: the program is waiting for more by then.
+const PAUSE: Duration = Duration::from_millis(3);
+
+/// How a sheet comes to standard input.
+#[derive(Clone, Copy, Debug, PartialEq, Eq)]
+pub enum Way {
+    File,
+    Pipe,
+    /// A pipe that gives one part first and the rest a while later.
+    Pieces,
+}
+
+pub const WAYS: [Way; 3] = [Way::File, Way::Pipe, Way::Pieces];
+
+/// What the program printed, or how else it ended.
+pub type Printed = Result<Vec<u8>, String>;
+
+pub fn run(program: &Path, sheet: &[u8], way: Way, folder: &Path) -> Printed {
+    start_and_wait(program, sheet, way, folder)
+        .unwrap_or_else(|error| Err(format!("cannot be run: {error}")))
+}
+
+/// The lines go to a file, so that the program never waits for a reader.
+fn start_and_wait(program: &Path, sheet: &[u8], way: Way, folder: &Path) -> io::Result<Printed> {
+    let lines = folder.join("lines");
+    let stdin = match way {
+        Way::File => Stdio::from(File::open(written(sheet, folder)?)?),
+        Way::Pipe | Way::Pieces => Stdio::piped(),
+    };
+    let mut child = Command::new(program)
+        .stdin(stdin)
+        .stdout(File::create(&lines)?)
+        .stderr(Stdio::null())
+        .spawn()?;
+    let ended = match child.stdin.take() {
+        None => wait(&mut child, &lines)?,
+        // Beside the waiting: a program that does not read is not waited for.
+        Some(pipe) => scope(|threads| {
+            threads.spawn(|| feed(pipe, sheet, way));
+            wait(&mut child, &lines)
+        })?,
+    };
+    Ok(match ended {
+        Ok(()) => Ok(fs::read(&lines)?),
+        Err(how) => Err(how),
+    })
+}
+
+fn written(sheet: &[u8], folder: &Path) -> io::Result<PathBuf> {
+    let path = folder.join("sheet");
+    fs::write(&path, sheet)?;
+    Ok(path)
+}
+
+/// A program need not read a sheet that is too long to its end, so it may well
+/// close the pipe early.
+fn feed(mut pipe: ChildStdin, sheet: &[u8], way: Way) {
+    let first = if way == Way::Pieces { sheet.len() / 2 } else { sheet.len() };
+    let _ = pipe.write_all(&sheet[..first]);
+    if first < sheet.len() {
+        sleep(PAUSE);
+        let _ = pipe.write_all(&sheet[first..]);
+    }
+}
+
+/// A program that does not end, or goes on printing, is ended.
+fn wait(child: &mut Child, lines: &Path) -> io::Result<Result<(), String>> {
+    let begun = Instant::now();
+    let mut pause = Duration::from_micros(200);
+    loop {
+        if let Some(status) = child.try_wait()? {
+            return Ok(if status.success() { Ok(()) } else { Err(status.to_string()) });
+        }
+        if begun.elapsed() > MOST_TIME {
+            end(child)?;
+            return Ok(Err(format!("did not end within {} s", MOST_TIME.as_secs())));
+        }
+        if fs::metadata(lines)?.len() > MOST_PRINTED {
+            end(child)?;
+            return Ok(Err(format!("printed more than {MOST_PRINTED} bytes")));
+        }
+        sleep(pause);
+        pause = (pause * 5 / 4).min(Duration::from_millis(2));
+    }
+}
+
+fn end(child: &mut Child) -> io::Result<()> {
+    child.kill()?;
+    child.wait().map(drop)
+}

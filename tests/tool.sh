@@ -1,0 +1,191 @@
+#!/bin/sh
+# Tests tools/sheet as people use it, with good and with bad input:
+#
+#     tests/tool.sh PROGRAM      PROGRAM reads a day sheet and prints it
+set -eu
+
+[ $# -eq 1 ] && [ -x "$1" ] || { echo "usage: $0 PROGRAM"; exit 2; }
+program=$(cd "$(dirname "$1")" && pwd)/$(basename "$1")
+root=$(cd "$(dirname "$0")/.." && pwd)
+work=$(mktemp -d)
+trap 'rm -rf "$work"' EXIT
+cd "$work"
+checks=0
+
+# The interpreter itself and nothing that is installed beside it: finding those takes longer than the tool.
+python=$(python3 -c 'import sys; print(sys.executable)')
+sheet() {
+    "$python" -S "$root/tools/sheet" "$@"
+}
+
+fail() {
+    echo "tool: $1"
+    exit 1
+}
+
+passed() {
+    checks=$((checks + 1))
+}
+
+# same WHAT FILE FILE
+same() {
+    cmp -s "$2" "$3" || { diff "$2" "$3" | head -n 5; fail "$1"; }
+    passed
+}
+
+# refused STATUS MESSAGE COMMAND...: the command ends so, says this on standard
+# error, and nothing else; it writes no byte to standard output.
+refused() {
+    status=0 expected=$1 message=$2
+    shift 2
+    sheet "$@" >out 2>err || status=$?
+    [ "$status" -eq "$expected" ] || { cat err; fail "$*: status $status"; }
+    grep -qxF "sheet: $message" err || { cat err; fail "$*: not the message '$message'"; }
+    [ "$(wc -l <err)" -eq 1 ] || { cat err; fail "$*: more than one line"; }
+    [ ! -s out ] || fail "$*: something was written"
+    passed
+}
+
+# bad_text MESSAGE TEXT: the text, in printf's form, cannot be encoded.
+bad_text() {
+    printf "$2" >bad.txt
+    refused 2 "bad.txt$1" encode bad.txt
+}
+
+# bad_sheet MESSAGE BYTES: the bytes, in printf's form, cannot be read.
+bad_sheet() {
+    printf "$2" >bad.sheet
+    status=0
+    sheet decode bad.sheet >out 2>err || status=$?
+    [ "$status" -eq 2 ] || fail "decode: status $status"
+    grep -qxF "sheet: bad.sheet: the reading ends at $1" err || { cat err; fail "decode: not '$1'"; }
+    passed
+}
+
+# Case D, whole.
+cat >d.txt <<'END'
+hall 1 1 1
+swap 1 1 300
+take 1 1 1
+swap 1 1 7
+retire 1
+collect 1
+drop 1 1
+collect 1
+retire 1
+END
+printf '\001\001\001\003\001\001\254\002\001\001\001\001\003\001\001\007\004\001\005\001\002\001\001\005\001\004\001' >d.bytes
+"$root/tools/sheet" encode d.txt >d.sheet
+same "encode: case D" d.bytes d.sheet
+sheet decode d.sheet >d.again
+same "decode: case D" d.txt d.again
+
+cat >d.meaning <<'END'
+0 0 0 0     a hall of 1 desk, 1 screen per desk, 1 position opens
+1 3 0 0     desk 1 swaps position 1 to session 300: was empty, nothing is owed
+2 1 0 300   desk 1 takes position 1 onto screen 1: it shows 300
+3 3 0 300   desk 1 swaps position 1 to session 7: was 300, now owed
+4 4 0 300   desk 1 retires: 300 now waits on its list
+5 5 0 0     desk 1 collects: nothing is handed back yet
+6 2 0 300   desk 1 drops screen 1: it showed 300
+7 5 0 300   desk 1 collects: 300 is handed back for closing
+8 4 13 0    desk 1 retires: refused, the desk owes no session
+end 7 1 1   7 steps accepted, 1 refused by the board, 1 session handed back
+END
+sheet explain d.sheet --program "$program" >d.explained
+same "explain: case D" d.meaning d.explained
+"$program" <d.sheet >d.lines
+sheet explain d.sheet --lines d.lines >d.explained
+same "explain: case D by its lines" d.meaning d.explained
+
+# Comments, blank lines, spaces and other line ends leave the bytes alone.
+printf '\357\273\277# a comment\r\n\r\n\thall  1 1 1 # the hall\r\nswap 1 01 300\r\n' >loose.txt
+sheet encode loose.txt >loose.sheet
+printf '\001\001\001\003\001\001\254\002' >loose.bytes
+same "encode: a loose text" loose.bytes loose.sheet
+
+# The examples, there and back, and their pictures as they stand in the gallery.
+for text in "$root"/examples/*.txt; do
+    name=$(basename "$text" .txt)
+    sheet encode "$text" >"$name.sheet"
+    sheet decode "$name.sheet" >"$name.txt"
+    sheet encode "$name.txt" >"$name.again"
+    same "$name: there and back" "$name.sheet" "$name.again"
+    sheet picture "$name.sheet" "$name.svg" --program "$program"
+    same "$name: docs/gallery is not of today ('make gallery')" "$root/docs/gallery/$name.svg" "$name.svg"
+done
+
+# Pictures are XML, also of a sheet with nothing to show and of one cut short.
+printf '\002\001\001' >nothing.sheet
+printf '\002\001\001\005\001\001\002' >cut.sheet
+for name in d nothing cut; do
+    sheet picture "$name.sheet" "$name.svg" --program "$program"
+    "$python" -c 'import sys, xml.dom.minidom as dom; dom.parse(sys.argv[1])' "$name.svg" || fail "$name.svg: no XML"
+    passed
+done
+grep -q ">refused 13<" d.svg || fail "the picture of case D does not show the refusal"
+grep -q ">number 15<" cut.svg || fail "the picture of a cut sheet does not show its end"
+passed
+
+# Texts that cannot be encoded.
+bad_text ":2: there is no step 'take2'; the steps are take, drop, swap, retire, collect" 'hall 1 1 1\ntake2 1 1\n'
+bad_text ":3: 'take' has 3 numbers (desk, screen, position), here it has 2" 'hall 1 1 1\n\ntake 1 1 # short\n'
+bad_text ":2: 'retire' has 1 number (desk), here it has 2" 'hall 1 1 1\nretire 1 1\n'
+bad_text ":2: session: '-7' is not a number" 'hall 1 1 1\nswap 1 1 -7\n'
+bad_text ":2: session: 65536 is over 65,535 (16)" 'hall 1 1 1\nswap 1 1 65536\n'
+bad_text ":2: desk: 12345678901234567890... is over 65,535 (16)" 'hall 1 1 1\nretire 1234567890123456789012345\n'
+bad_text ":1: the first line must be 'hall P c L', not 'take'" 'take 1 1 1\nhall 1 1 1\n'
+bad_text ":2: the hall stands on the first line alone" 'hall 1 1 1\nhall 1 1 1\n'
+bad_text ": there is no line 'hall P c L', and every sheet begins with one" '# nothing but a comment\n'
+bad_text ": there is no line 'hall P c L', and every sheet begins with one" ''
+bad_text ":2: not UTF-8 text; is it a sheet already? then 'decode' reads it" 'hall 1 1 1\n\377\376\n'
+awk 'BEGIN { print "hall 1 1 1"; for (i = 0; i < 32767; i++) print "collect 1" }' >long.txt
+refused 2 "long.txt:32768: the sheet is longer than 65,536 bytes with this record (18)" encode long.txt
+
+# Sheets that cannot be read.
+bad_sheet "byte 0, in the header: 15, the sheet stops before this number is whole" ''
+bad_sheet "byte 5, in record 1 (take): 15, the sheet stops before this number is whole" '\001\001\001\001\001\201'
+bad_sheet "byte 4, in record 1 (swap): 16, a number must end within three bytes and be at most 65,535" '\001\001\001\003\200\200\004\001'
+bad_sheet "byte 5, in record 2: code 9: 17, there is no step with this code; they are 1 to 5" '\001\001\001\005\001\011\001'
+head -c 65537 /dev/zero >long.sheet
+refused 2 "long.sheet: the reading ends with 18, a sheet has at most 65,536 bytes" decode long.sheet
+
+# Files and programs that are not there, or are something else.
+refused 2 "none.txt: no such file or directory" encode none.txt
+refused 2 "none.sheet: no such file or directory" explain none.sheet --program "$program"
+refused 2 ".: is a directory" decode .
+refused 2 "./none: no such file or directory" explain d.sheet --program none
+refused 2 "/bin/false: ended with status 1" explain d.sheet --program /bin/false
+refused 2 "/bin/true: the last line is not whole; are these the lines of a sheet?" explain d.sheet --program /bin/true
+refused 2 "none/d.svg: no such file or directory" picture d.sheet none/d.svg --program "$program"
+printf '\021\001\001' >refused.sheet
+refused 2 "the opening is refused with 1, so there is no hall to draw ('explain' says why)" \
+    picture refused.sheet refused.svg --program "$program"
+
+# Lines of another sheet, and lines that the board would not print.
+refused 2 "d.lines:2: not a line of this sheet: it says record 1, code 3; the sheet has record 1, code 1" \
+    explain mistakes.sheet --lines d.lines
+sed 's/^7 5 0 300$/7 5 0 0/' d.lines >wrong.lines
+refused 2 "record 7: the program printed 0 0, but by document 01 it is 0 300; nothing is drawn" \
+    picture d.sheet wrong.svg --lines wrong.lines
+sed 's/^end .*/end 7 1 2/' d.lines >wrong.lines
+refused 2 "end: the program printed 7 1 2, but by document 01 it is 7 1 1; nothing is drawn" \
+    picture d.sheet wrong.svg --lines wrong.lines
+[ ! -e wrong.svg ] || fail "a picture of wrong lines was written"
+printf '0 0 0 0\n1 5 0 0\n2 1 0 0\nend 2 0 0\n' >wrong.lines
+sheet explain cut.sheet --lines wrong.lines >out
+grep -qx '2 1 0 0     reply 0, though the reading ends at byte 7, in record 2 (take): 15, .*' out || fail "explain: a wrong end"
+passed
+
+# Bytes of no meaning: a message, never a trace of the tool's own lines.
+for at in 1 2 3; do
+    head -c "$((at * 700))" "$program" | tail -c 300 >junk
+    for command in "encode junk" "decode junk" "explain junk --program $program" "explain d.sheet --lines junk" \
+        "picture junk junk.svg --program $program"; do
+        sheet $command >out 2>err || true
+        if grep -q Traceback err; then cat err; fail "$command: a traceback"; fi
+    done
+    passed
+done
+
+echo "tool: $checks checks passed"

@@ -1,0 +1,1 @@
+"""What tools/sheet is made of. Written from document 01, it shares nothing with the board."""

@@ -1,0 +1,71 @@
+"""What each line means, in words."""
+
+from .complaint import plural
+from .steps import REASONS, STEPS
+from .text import where_and_why
+
+def explained(sheet, lines, end):
+    """Each line as it was printed, and beside it what it means."""
+    rows = [(" ".join(map(str, line)), meaning(sheet, line)) for line in lines]
+    rows.append((" ".join(["end", *map(str, end)]), end_in_words(end)))
+    width = max(len(printed) for printed, _ in rows)
+    return "".join(f"{printed:<{width}}   {words}\n" for printed, words in rows)
+
+
+def meaning(sheet, line):
+    if sheet.fault and line.record == sheet.fault.record:
+        ends = where_and_why(sheet.fault)
+        return ends if line.reply == sheet.fault.number else f"reply {line.reply}, though {ends}"
+    if line.record == 0:
+        return opening_in_words(sheet.hall, line.reply)
+    record = sheet.records[line.record - 1]
+    result = result_in_words(record, line.session) if line.reply == 0 else f"refused, {reason(line.reply)}"
+    return f"{doing_in_words(record)}: {result}"
+
+
+def reason(reply):
+    return REASONS.get(reply, f"with {reply}, a number that a sheet's step cannot have")
+
+
+def opening_in_words(hall, reply):
+    if reply != 0:
+        return f"a hall of {hall_in_words(hall)}: refused, {reason(reply)}; nothing more is read"
+    return f"a hall of {hall_in_words(hall)} opens"
+
+
+def hall_in_words(hall):
+    desks, screens, positions = hall
+    return f"{plural(desks, 'desk')}, {plural(screens, 'screen')} per desk, {plural(positions, 'position')}"
+
+
+def doing_in_words(record):
+    desk, *rest = record.numbers
+    name = STEPS[record.code].name
+    if name == "take":
+        return f"desk {desk} takes position {rest[1]} onto screen {rest[0]}"
+    if name == "drop":
+        return f"desk {desk} drops screen {rest[0]}"
+    if name == "swap":
+        to = f"session {rest[1]}" if rest[1] else "nothing"
+        return f"desk {desk} swaps position {rest[0]} to {to}"
+    return f"desk {desk} {name}s"
+
+
+def result_in_words(record, session):
+    name = STEPS[record.code].name
+    if name == "take":
+        return f"it shows {session}"
+    if name == "drop":
+        return f"it showed {session}"
+    if name == "swap":
+        return f"was {session}, now owed" if session else "was empty, nothing is owed"
+    if name == "retire":
+        return f"{session} now waits on its list"
+    return f"{session} is handed back for closing" if session else "nothing is handed back yet"
+
+
+def end_in_words(end):
+    return (
+        f"{plural(end.accepted, 'step')} accepted, {end.refused:,} refused by the board, "
+        f"{plural(end.handed_back, 'session')} handed back"
+    )

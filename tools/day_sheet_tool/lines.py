@@ -1,0 +1,91 @@
+"""The lines of the sheet program: running it, and holding its lines to the sheet."""
+
+import os
+import subprocess
+from collections import namedtuple
+
+from .complaint import Complaint, plural
+from .files import read_bytes, reason
+
+# Record number, step code, reply number, session.
+Line = namedtuple("Line", "record code reply session")
+
+# Steps accepted, steps refused by the board, sessions handed back.
+End = namedtuple("End", "accepted refused handed_back")
+
+ROOT = os.path.dirname(os.path.dirname(os.path.dirname(os.path.realpath(__file__))))
+USUAL_PROGRAM = os.path.join(ROOT, "target", "bin", "day_sheet")
+MOST_SECONDS = 30
+MOST_LINES = 4 * 1024 * 1024
+
+
+def lines_of(data, sheet, program, file):
+    """The program's lines for this sheet, and the end; from a file if there is one."""
+    if file is not None:
+        name, printed = file, read_bytes(file, MOST_LINES)
+    else:
+        name, printed = run(data, program)
+    lines, end = parse(printed, name)
+    hold_to_sheet(lines, sheet, name)
+    return lines, end
+
+
+def run(data, program):
+    """What the program prints for these bytes."""
+    path = program or USUAL_PROGRAM
+    if program is None and not os.path.exists(path):
+        raise Complaint(f"there is no {path}: 'make target/bin/day_sheet' builds it; or use --program or --lines")
+    if os.sep not in path:
+        path = os.path.join(os.curdir, path)
+    try:
+        done = subprocess.run([path], input=data, capture_output=True, timeout=MOST_SECONDS, check=False)
+    except (OSError, ValueError) as error:
+        raise Complaint(f"{path}: {reason(error)}") from None
+    except subprocess.TimeoutExpired:
+        raise Complaint(f"{path}: did not end within {MOST_SECONDS} s") from None
+    if done.returncode != 0:
+        raise Complaint(f"{path}: ended with status {done.returncode}")
+    return path, done.stdout
+
+
+def parse(printed, name):
+    """Lines of four numbers, then the line that starts with 'end'."""
+    text = printed.decode("ascii", errors="replace")
+    rows = text.split("\n")
+    if rows[-1] != "" or len(rows) < 2:
+        raise Complaint(f"{name}: the last line is not whole; are these the lines of a sheet?")
+    lines = [Line(*numbers_of(row.split(" "), 4, name, at)) for at, row in enumerate(rows[:-2], start=1)]
+    last = rows[-2].split(" ")
+    if last[0] != "end":
+        raise Complaint(f"{name}:{len(rows) - 1}: the last line does not start with 'end'")
+    return lines, End(*numbers_of(last[1:], 3, name, len(rows) - 1))
+
+
+def numbers_of(words, count, name, at):
+    if len(words) != count or not all(word.isascii() and word.isdigit() and len(word) < 12 for word in words):
+        raise Complaint(f"{name}:{at}: not {plural(count, 'number')} with one space between")
+    return map(int, words)
+
+
+def hold_to_sheet(lines, sheet, name):
+    """Each line must answer the sheet's record of that number, and none may be missing."""
+    opened = sheet.hall is not None and bool(lines) and lines[0].reply == 0
+    expected = records_answered(sheet, opened)
+    for at, (line, (record, code)) in enumerate(zip(lines, expected), start=1):
+        if (line.record, line.code) != (record, code):
+            raise Complaint(
+                f"{name}:{at}: not a line of this sheet: it says record {line.record}, code {line.code}; "
+                f"the sheet has record {record}, code {code}"
+            )
+    if len(lines) != len(expected):
+        raise Complaint(f"{name}: {plural(len(lines), 'line')} before the end; this sheet has {len(expected)}")
+
+
+def records_answered(sheet, opened):
+    """Record number and code of each line. Without an opening there is the header's line alone."""
+    if not opened:
+        return [(0, 0)]
+    answered = [(0, 0)] + [(at, record.code) for at, record in enumerate(sheet.records, start=1)]
+    if sheet.fault:
+        answered.append((sheet.fault.record, sheet.fault.code))
+    return answered

@@ -1,0 +1,75 @@
+"""Reading a sheet's bytes, and writing them."""
+
+from collections import namedtuple
+
+from .steps import MOST_BYTES, MOST_NUMBER, STEPS, Record
+
+# What a sheet says, up to where its reading ends. The hall is None if it could not be read; fault is None
+# if the sheet is whole.
+Sheet = namedtuple("Sheet", "hall records fault")
+
+# Why a reading ends: the reply number, the byte (from 0) at which the number in question starts, the record
+# being read (0 is the header) and its code (0 if that was not read).
+Fault = namedtuple("Fault", "number byte record code")
+
+MOST_GROUPS = 3
+
+
+class Stopped(Exception):
+    """A number could not be read: 15 or 16."""
+
+
+class Reader:
+    def __init__(self, data):
+        self.data = data
+        self.at = 0
+        self.began = 0  # where the number in hand starts
+
+    def at_end(self):
+        return self.at == len(self.data)
+
+    def number(self):
+        """Groups of seven bits, lowest first; the top bit says that another follows."""
+        self.began = self.at
+        value = 0
+        for group in range(MOST_GROUPS):
+            if self.at_end():
+                raise Stopped(15)
+            byte = self.data[self.at]
+            self.at += 1
+            value |= (byte & 0x7F) << (7 * group)
+            if byte < 0x80:
+                if value > MOST_NUMBER:
+                    raise Stopped(16)
+                return value
+        raise Stopped(16)
+
+
+def read(data):
+    """The sheet of these bytes."""
+    if len(data) > MOST_BYTES:
+        return Sheet(None, [], Fault(18, MOST_BYTES, 0, 0))
+    reader = Reader(data)
+    hall, records, code = None, [], 0
+    try:
+        hall = tuple(reader.number() for _ in range(3))
+        while not reader.at_end():
+            code = 0
+            code = reader.number()
+            if code not in STEPS:
+                return Sheet(hall, records, Fault(17, reader.began, len(records) + 1, code))
+            numbers = tuple(reader.number() for _ in STEPS[code].fields)
+            records.append(Record(code, numbers))
+    except Stopped as stopped:
+        record = 0 if hall is None else len(records) + 1
+        return Sheet(hall, records, Fault(stopped.args[0], reader.began, record, code))
+    return Sheet(hall, records, None)
+
+
+def number_bytes(number):
+    """A number in as few bytes as it needs."""
+    groups = []
+    while number > 0x7F:
+        groups.append(number & 0x7F | 0x80)
+        number >>= 7
+    return bytes(groups + [number])

@@ -1,0 +1,45 @@
+"""A replay: what stands on the board after each record, held to the program's lines."""
+
+import copy
+from collections import namedtuple
+
+from .board import Board, opening
+from .complaint import Complaint
+from .steps import STEPS
+
+# After one record: its number, the record, its reply number and session, and the board as it left it.
+Moment = namedtuple("Moment", "number record reply session board")
+
+
+def replay(sheet, lines, end, numbers):
+    """The moments of the records with these numbers. Every reply, of all records, and the counts at the end are
+    held to the program's lines."""
+    if sheet.hall is None:
+        raise Complaint("the header cannot be read, so there is no hall to draw ('decode' says why)")
+    refused = opening(sheet.hall)
+    agree(lines[0], refused, 0)
+    if refused:
+        raise Complaint(f"the opening is refused with {refused}, so there is no hall to draw ('explain' says why)")
+    board = Board(sheet.hall)
+    moments, counts = [], [0, 0, 0]
+    for record, line in zip(sheet.records, lines[1:]):
+        reply, session = board.step(record)
+        agree(line, reply, session)
+        counts[1 if reply else 0] += 1
+        counts[2] += STEPS[record.code].name == "collect" and session != 0
+        if line.record in numbers:
+            moments.append(Moment(line.record, record, reply, session, copy.deepcopy(board)))
+    if sheet.fault:
+        agree(lines[-1], sheet.fault.number, 0)
+    if end != tuple(counts):
+        differ("end", " ".join(map(str, end)), " ".join(map(str, counts)))
+    return moments
+
+
+def agree(line, reply, session):
+    if (line.reply, line.session) != (reply, session):
+        differ(f"record {line.record}", f"{line.reply} {line.session}", f"{reply} {session}")
+
+
+def differ(what, printed, expected):
+    raise Complaint(f"{what}: the program printed {printed}, but by document 01 it is {expected}; nothing is drawn")

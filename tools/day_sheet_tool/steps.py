@@ -1,0 +1,43 @@
+"""The five steps: their codes, names and fields, and what each reply number says."""
+
+from collections import namedtuple
+
+# A step as a sheet has it: its code and its numbers, in the order of the fields.
+Record = namedtuple("Record", "code numbers")
+
+Step = namedtuple("Step", "name fields")
+
+STEPS = {
+    1: Step("take", ("desk", "screen", "position")),
+    2: Step("drop", ("desk", "screen")),
+    3: Step("swap", ("desk", "position", "session")),
+    4: Step("retire", ("desk",)),
+    5: Step("collect", ("desk",)),
+}
+
+CODES = {step.name: code for code, step in STEPS.items()}
+
+HALL_FIELDS = ("desks", "screens per desk", "positions")
+
+MOST_NUMBER = 65_535
+MOST_BYTES = 65_536
+
+# Reply numbers. 4 and 5 cannot come from a sheet: the program lends a table of its own.
+REASONS = {
+    1: "a hall has 1 to 16 desks",
+    2: "a desk has 1 to 4 screens",
+    3: "a hall has 1 to 64 positions",
+    6: "the hall has no such desk",
+    7: "the desk has no such screen",
+    8: "the hall has no such position",
+    9: "the screen shows a session already",
+    10: "the position holds no session",
+    11: "the screen shows nothing",
+    12: "the desk must first retire the session it owes",
+    13: "the desk owes no session",
+    14: "the desk's list is full; it must collect first",
+    15: "the sheet stops before this number is whole",
+    16: "a number must end within three bytes and be at most 65,535",
+    17: "there is no step with this code; they are 1 to 5",
+    18: "a sheet has at most 65,536 bytes",
+}

@@ -1,0 +1,81 @@
+"""The text form of a sheet: 'hall P c L', then one record a line."""
+
+from .complaint import Complaint, plural
+from .reading import number_bytes
+from .steps import CODES, HALL_FIELDS, MOST_BYTES, MOST_NUMBER, REASONS, STEPS
+
+
+def encode(text, name):
+    """The bytes of a text; a complaint names the line."""
+    data = bytearray()
+    opened = False
+    for number, line in enumerate(text.split("\n"), start=1):
+        words = line.split("#", 1)[0].split()
+        if words:
+            try:
+                data += line_bytes(words, opened)
+            except Complaint as complaint:
+                raise Complaint(f"{name}:{number}: {complaint}") from None
+            opened = True
+            if len(data) > MOST_BYTES:
+                raise Complaint(f"{name}:{number}: the sheet is longer than 65,536 bytes with this record (18)")
+    if not opened:
+        raise Complaint(f"{name}: there is no line 'hall P c L', and every sheet begins with one")
+    return bytes(data)
+
+
+def line_bytes(words, opened):
+    """The bytes of one line; the first is the hall's, the others are steps."""
+    word, rest = words[0], words[1:]
+    if not opened:
+        if word != "hall":
+            raise Complaint(f"the first line must be 'hall P c L', not '{shown(word)}'")
+        return numbers_bytes(word, HALL_FIELDS, rest)
+    if word == "hall":
+        raise Complaint("the hall stands on the first line alone")
+    if word not in CODES:
+        raise Complaint(f"there is no step '{shown(word)}'; the steps are {', '.join(CODES)}")
+    code = CODES[word]
+    return number_bytes(code) + numbers_bytes(word, STEPS[code].fields, rest)
+
+
+def numbers_bytes(word, fields, words):
+    if len(words) != len(fields):
+        raise Complaint(f"'{word}' has {plural(len(fields), 'number')} ({', '.join(fields)}), here it has {len(words)}")
+    return b"".join(number_bytes(number(field, given)) for field, given in zip(fields, words))
+
+
+def number(field, word):
+    """Plain decimal digits, 0 to 65,535. Whether the hall has such a desk is for the board to say."""
+    if not (word.isascii() and word.isdigit()):
+        raise Complaint(f"{field}: '{shown(word)}' is not a number")
+    digits = word.lstrip("0") or "0"
+    if len(digits) > 5 or int(digits) > MOST_NUMBER:
+        raise Complaint(f"{field}: {shown(word)} is over 65,535 (16)")
+    return int(digits)
+
+
+def shown(word):
+    """A word of the text in a message: printable, and not too long."""
+    printable = "".join(letter if letter.isprintable() else "?" for letter in word[:20])
+    return printable if len(word) <= 20 else printable + "..."
+
+
+def decode(sheet):
+    """The text of a sheet, as far as it could be read."""
+    if sheet.hall is None:
+        return ""
+    lines = ["hall " + " ".join(map(str, sheet.hall))]
+    for record in sheet.records:
+        lines.append(" ".join([STEPS[record.code].name, *map(str, record.numbers)]))
+    return "\n".join(lines) + "\n"
+
+
+def where_and_why(fault):
+    """'the reading ends at byte 12, in record 3 (take): 16, a number must ...'"""
+    if fault.number == 18:
+        return f"the reading ends with 18, {REASONS[18]}"
+    step = f" ({STEPS[fault.code].name})" if fault.code in STEPS else ""
+    place = "in the header" if fault.record == 0 else f"in record {fault.record}{step}"
+    code = f": code {fault.code}" if fault.number == 17 else ""
+    return f"the reading ends at byte {fault.byte}, {place}{code}: {fault.number}, {REASONS[fault.number]}"
