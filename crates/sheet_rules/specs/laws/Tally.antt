@@ -2,21 +2,21 @@
 use Prim.Native.Nat.{ℕ, zero, suc, _+_, _≤_, min}
 use native.Mathlib.Omega.{arith}
 use mathlib.Core.Path.{_≡_, refl, sym, ap, _∙_}
-use mathlib.Core.Bool.{Bool, true, false, cond}
+use mathlib.Core.Bool.{Bool, true, false, cond, not}
 use mathlib.Core.List.{List, [], _∷_, _++_, append-assoc}
 use lib.Dec.{ltb, eqb}
 use borrow.Author.Tests.{ltb-true, ltb-false, not-true}
 use Rattle.rules.specs.Hall.{Hall}
-use Rattle.rules.specs.Steps.{Call, Take, Drop, Swap, Retire, Collect, Event}
+use Rattle.rules.specs.Steps.{Call, Take, Drop, Swap, Retire, Collect, Answer, Event, isNone}
 use Rattle.rules.specs.Table.{stepTable, runTable, openTable}
-use Rattle.rules.specs.History.{deed, lacksRoom, nothing, isHandBack, oneIf, howMany}
-use Rattle.sheet_rules.specs.Sheet.{callOf, Records, more, complete, stop, lentTable, opened, reading}
+use Rattle.rules.specs.History.{deed, lacksRoom, collects, handsBack, nothing, isHandBack, oneIf, howMany}
+use Rattle.sheet_rules.specs.Sheet.{Record, recordFor, callOf, Records, more, complete, stop, lentTable, opened, reading}
 use Rattle.sheet_rules.specs.Tally.{Tally, tallyOf, zeros, isAccepted, isRefused, isHandedBack, largestCount, oneMore}
 use Rattle.sheet_rules.specs.Tally.{oneMoreIf, counted, tallied, countsIn}
 use Rattle.sheet_rules.specs.Lines.{answerLine, refusalLine, endLine, linesFrom, linesOf, printed}
 
 -- "A refused step changes only the count of refused steps."
-refused-hands-nothing : (call : Call) (n session : ℕ) → isHandBack (deed call (suc n) session) ≡ false
+pub refused-hands-nothing : (call : Call) (n session : ℕ) → isHandBack (deed call (suc n) session) ≡ false
 refused-hands-nothing (Take d c p) n session = refl
 refused-hands-nothing (Drop d c) n session = refl
 refused-hands-nothing (Swap d p new) n session = refl
@@ -39,6 +39,45 @@ refused-step total event e = by-number (event .answer .number) refl
         ap (λ (m : ℕ). isHandBack (deed (event .call) m (event .answer .session))) q
         ∙ refused-hands-nothing (event .call) n (event .answer .session) in
         simp (not-true (isAccepted event) e, none)
+
+-- A tally asks of a step only for its code and its answer, not for its fields.
+pub counted-by-code : (total : Tally) (entry : Record) (answer : Answer)
+    → counted total (record { call = callOf (recordFor (entry .code) 0 0 0 0); answer = answer })
+    ≡ counted total (record { call = callOf entry; answer = answer })
+unfolding counted
+counted-by-code total entry answer =
+    ap (λ (back : Bool). tallyOf (oneMoreIf accepted (total .accepted)) (oneMoreIf (not accepted) (total .refused)) (oneMoreIf back (total .handedBack)))
+    (same (answer .number))
+  where
+    accepted : Bool
+    accepted = eqb (answer .number) 0
+
+    -- the step of a record with these fields, by whether its code is 1, 2, 3 or 4
+    step : Bool → Bool → Bool → Bool → ℕ → ℕ → ℕ → ℕ → Call
+    step take drop swap retire desk screen position session =
+        cond take (Take desk screen position)
+        (cond drop (Drop desk screen) (cond swap (Swap desk position session) (cond retire (Retire desk) (Collect desk))))
+
+    collected : (none : Bool) (session : ℕ)
+        → isHandBack (cond none (collects 0) (handsBack 0 session)) ≡ isHandBack (cond none (collects (entry .desk)) (handsBack (entry .desk) session))
+    collected true session = refl
+    collected false session = refl
+
+    by-code : (take drop swap retire : Bool) (session : ℕ)
+        → isHandBack (deed (step take drop swap retire 0 0 0 0) 0 session)
+        ≡ isHandBack (deed (step take drop swap retire (entry .desk) (entry .screen) (entry .position) (entry .session)) 0 session)
+    by-code true drop swap retire session = refl
+    by-code false true swap retire session = refl
+    by-code false false true retire session = refl
+    by-code false false false true session = refl
+    by-code false false false false session = collected (isNone session) session
+
+    same : (n : ℕ)
+        → isHandBack (deed (callOf (recordFor (entry .code) 0 0 0 0)) n (answer .session)) ≡ isHandBack (deed (callOf entry) n (answer .session))
+    same zero = by-code (eqb (entry .code) 1) (eqb (entry .code) 2) (eqb (entry .code) 3) (eqb (entry .code) 4) (answer .session)
+    same (suc n) =
+        refused-hands-nothing (callOf (recordFor (entry .code) 0 0 0 0)) n (answer .session)
+        ∙ sym (refused-hands-nothing (callOf entry) n (answer .session))
 
 -- One more, up to the largest, and then the rest.
 more-up-to : (test : Bool) (count rest : ℕ)
