@@ -1,19 +1,16 @@
--- Laws of the tally: started at zeros it equals the counts in the list of replies, and the last line prints it.
+-- Laws of the tally: started at zeros it equals the counts in the list of replies.
 use Prim.Native.Nat.{ℕ, zero, suc, _+_, _≤_, min}
 use native.Mathlib.Omega.{arith}
 use mathlib.Core.Path.{_≡_, refl, sym, ap, _∙_}
 use mathlib.Core.Bool.{Bool, true, false, cond, not}
-use mathlib.Core.List.{List, [], _∷_, _++_, append-assoc}
+use mathlib.Core.List.{List, [], _∷_}
 use lib.Dec.{ltb, eqb}
 use borrow.Author.Tests.{ltb-true, ltb-false, not-true}
-use Rattle.rules.specs.Hall.{Hall}
 use Rattle.rules.specs.Steps.{Call, Take, Drop, Swap, Retire, Collect, Answer, Event, isNone}
-use Rattle.rules.specs.Table.{stepTable, runTable, openTable}
 use Rattle.rules.specs.History.{deed, lacksRoom, collects, handsBack, nothing, isHandBack, oneIf, howMany}
-use Rattle.sheet_rules.specs.Sheet.{Record, recordFor, callOf, Records, more, complete, stop, lentTable, opened, reading}
+use Rattle.sheet_rules.specs.Sheet.{Record, recordFor, callOf}
 use Rattle.sheet_rules.specs.Tally.{Tally, tallyOf, zeros, isAccepted, isRefused, isHandedBack, largestCount, oneMore}
 use Rattle.sheet_rules.specs.Tally.{oneMoreIf, counted, tallied, countsIn}
-use Rattle.sheet_rules.specs.Lines.{answerLine, refusalLine, endLine, linesFrom, linesOf, printed}
 
 -- "A refused step changes only the count of refused steps."
 pub refused-hands-nothing : (call : Call) (n session : ℕ) → isHandBack (deed call (suc n) session) ≡ false
@@ -137,42 +134,3 @@ pub tally-from-zeros : (events : List Event) → tallied zeros events ≡ counts
 tally-from-zeros events =
     tally-from zeros events (record { accepted = omega arith; refused = omega arith; handedBack = omega arith })
     ∙ same-tally (withCounts zeros events) (countsIn events) (omega arith) (omega arith) (omega arith)
-
--- ---- The last line prints the counts in the list of replies.
-
--- the steps of the records that were read, and all lines but the last
-abbrev pub callsIn : Records → List Call
-callsIn complete = []
-callsIn (stop reason) = []
-callsIn (more entry rest) = callOf entry ∷ callsIn rest
-
-abbrev pub linesBeforeEnd : List ℕ → ℕ → Records → List ℕ
-linesBeforeEnd table index complete = []
-linesBeforeEnd table index (stop reason) = refusalLine index reason
-linesBeforeEnd table index (more entry rest) =
-    let done = stepTable table (callOf entry) in
-    answerLine index (entry .code) (done .answer) ++ linesBeforeEnd (done .after) (suc index) rest
-
-lines-and-end : (table : List ℕ) (index : ℕ) (total : Tally) (records : Records)
-    → linesFrom table index total records ≡ linesBeforeEnd table index records ++ endLine (tallied total (runTable table (callsIn records)))
-lines-and-end table index total complete = refl
-lines-and-end table index total (stop reason) = refl
-lines-and-end table index total (more entry rest) =
-    let done = stepTable table (callOf entry) in
-    let first : List ℕ = answerLine index (entry .code) (done .answer) in
-    let event : Event = record { call = callOf entry; answer = done .answer } in
-    ap (λ (lines : List ℕ). first ++ lines) (lines-and-end (done .after) (suc index) (counted total event) rest)
-    ∙ sym (append-assoc first (linesBeforeEnd (done .after) (suc index) rest) (endLine (tallied total (runTable table (callsIn (more entry rest))))))
-
-pub end-line-counts : (sheet : List ℕ) (hall : Hall) (records : Records) → reading sheet ≡ opened hall records
-    → printed sheet
-    ≡ answerLine 0 0 (openTable hall lentTable .answer)
-    ++ (linesBeforeEnd (openTable hall lentTable .after) 1 records
-    ++ endLine (countsIn (runTable (openTable hall lentTable .after) (callsIn records))))
-unfolding printed
-end-line-counts sheet hall records e =
-    let table : List ℕ = openTable hall lentTable .after in
-    let first : List ℕ = answerLine 0 0 (openTable hall lentTable .answer) in
-    ap linesOf e
-    ∙ ap (λ (lines : List ℕ). first ++ lines) (lines-and-end table 1 zeros records)
-    ∙ ap (λ (total : Tally). first ++ (linesBeforeEnd table 1 records ++ endLine total)) (tally-from-zeros (runTable table (callsIn records)))

@@ -1,6 +1,6 @@
 -- `tally::counted` meets its contract.
 use mathlib.Core.Bool.{Bool}
-use mathlib.Core.Path.{_≡_, ap, _∙_}
+use mathlib.Core.Path.{ap, _∙_}
 use borrow.Author.Needs.{needs}
 use Rattle.sheet_rules.specs.Tally.{counted, oneMoreIf, tallyOf}
 use Rattle.tally.proofs.counted.Statement.{statement}
