@@ -80,29 +80,8 @@ pub fn read_number(sheet: &[u8], at: usize, limit: u16) -> Number
     Number::Refused(Fault::TooLarge)
 }
 
-// Which fields follow each code: the columns are desk, screen, position and session.
-const FOLLOWS: [u8; 20] = [
-    1,
-    1,
-    1,
-    0, // take
-    1,
-    1,
-    0,
-    0, // drop
-    1,
-    0,
-    1,
-    1, // swap
-    1,
-    0,
-    0,
-    0, // retire
-    1,
-    0,
-    0,
-    0, // collect
-];
+// Which fields follow each code: a row for take, drop, swap, retire and collect; a column for desk, screen, position and session.
+const FOLLOWS: [u8; 20] = [1, 1, 1, 0, 1, 1, 0, 0, 1, 0, 1, 1, 1, 0, 0, 0, 1, 0, 0, 0];
 
 const DESK: usize = 0;
 
