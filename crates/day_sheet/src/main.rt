@@ -6,6 +6,7 @@ ghost use mathlib.Core.Path.{_≡_};
 ghost use Prim.Native.Nat.{_≤_};
 ghost use lib.ListN.{length};
 ghost use Rattle.sheet_rules.specs.Sheet.{lentTable};
+ghost use Rattle.sheet.specs.Turn.{recordRoom};
 
 // Standard input and output.
 const INPUT: i32 = 0;
@@ -18,7 +19,7 @@ const BYTES: usize = 65537;
 // Prints the lines of a sheet, a buffer at a time, and stops where the output takes no more.
 // It requires what `start` and `fill` do: main lends the table as the rules have it and a buffer with room.
 fn print(sheet: &[u8], table: &mut [u16], out: &mut [u8])
-    requires { ⌜ (now table ≡ lentTable) × (151 ≤ length (now out)) ⌝ }
+    requires { ⌜ (now table ≡ lentTable) × (recordRoom ≤ length (now out)) ⌝ }
 {
     let first = start(sheet, table, out);
     let put = first.put;

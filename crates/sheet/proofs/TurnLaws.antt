@@ -23,7 +23,7 @@ use Rattle.lines.specs.laws.Put.{put-none, put-on}
 use Rattle.tally.specs.Count.{eventOf, tallyIs}
 use Rattle.tally.specs.declared.Tally.{Tally}
 use Rattle.sheet.specs.declared.State.{State}
-use Rattle.sheet.specs.Turn.{toCome, callsToCome, turnsLeft, finishedAt, Onward, Filling, Turn}
+use Rattle.sheet.specs.Turn.{toCome, callsToCome, turnsLeft, recordRoom, finishedAt, Onward, Filling, Turn}
 use Rattle.sheet.specs.laws.Turns.{piece-none, piece-on, some-left}
 
 -- ---- Fillings one after another, and a turn of them.
@@ -218,7 +218,7 @@ module _ (sheet : List ℕ) (was : State) (before out : List ℕ) where
         (record { fewer = simp finished (omega arith); numbered = reached .numbered })
 
     -- or because there is no more room
-    pub turn-full : 151 ≤ length out → length outAfter - at < 151 → Turn sheet was before out is after outAfter at
+    pub turn-full : recordRoom ≤ length out → length outAfter - at < recordRoom → Turn sheet was before out is after outAfter at
     turn-full room full =
         as-turn sheet was before out is after outAfter at (reached .filling)
         (record {

@@ -13,6 +13,13 @@ use Rattle.lines.specs.Put.{Put}
 use Rattle.tally.specs.Count.{tallyIs}
 use Rattle.sheet.specs.declared.State.{State}
 
+-- Room for the longest last line, and for the longest line with the last line after it (`laws.Longest` of the lines).
+abbrev pub endRoom : ℕ
+endRoom = 67
+
+abbrev pub recordRoom : ℕ
+recordRoom = 151
+
 -- What is still to be printed of a sheet: nothing once the last line is, else the lines from the next record on.
 abbrev pub toCome : List ℕ → State → List ℕ → List ℕ
 toCome sheet state table =

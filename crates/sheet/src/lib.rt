@@ -29,7 +29,7 @@ ghost use Rattle.sheet_rules.specs.Lines.{line, endLine};
 ghost use Rattle.reader.specs.Told.{recordOf};
 ghost use Rattle.lines.specs.Put.{Put};
 ghost use Rattle.tally.specs.Count.{tallyIs};
-ghost use Rattle.sheet.specs.Turn.{Filling, Onward, Started, Turn, finishedAt};
+ghost use Rattle.sheet.specs.Turn.{Filling, Onward, Started, Turn, endRoom, finishedAt, recordRoom};
 
 // The most bytes of a sheet.
 const MOST_BYTES: usize = 65536;
@@ -41,7 +41,7 @@ const TOO_LONG: u16 = 18;
 const NO_CODE: u16 = 17;
 
 // The bytes that a turn may need for one record: the longest line, and then the longest last line.
-pub const ROOM: usize = 151;
+const ROOM: usize = 151;
 
 // Where the program stands in a sheet: the place and the number of the next record, the tally so far, and whether the last
 // line is printed.
@@ -75,7 +75,7 @@ pub fn run_record(table: &mut [u16], entry: Record) -> Reply
 // The last line.
 // It requires room for it: its callers have kept so much.
 fn finish(out: &mut [u8], at: usize, state: State) -> Filled
-    requires { ⌜ at + 67 ≤ length (now out) ⌝ }
+    requires { ⌜ at + endRoom ≤ length (now out) ⌝ }
     ensures bytes { λ r. ⌜ Put (now (out .entry)) (now (out .exit)) at (endLine (tallyIs (state .tally))) (r .put) ⌝ }
     ensures state { λ r. ⌜ r .state ≡ finishedAt state ⌝ }
 {
@@ -101,7 +101,7 @@ fn finish(out: &mut [u8], at: usize, state: State) -> Filled
 // The line of what ends the reading, and the last line.
 // It requires room for both: its callers have kept so much.
 fn stop(out: &mut [u8], at: usize, state: State, code: u16, reason: u16) -> Filled
-    requires { ⌜ at + 151 ≤ length (now out) ⌝ }
+    requires { ⌜ at + recordRoom ≤ length (now out) ⌝ }
     ensures bytes { λ r. ⌜ Put (now (out .entry)) (now (out .exit)) at (line (state .index) code reason 0 ++ endLine (tallyIs (state .tally))) (r .put) ⌝ }
     ensures state { λ r. ⌜ r .state ≡ finishedAt state ⌝ }
 {
@@ -112,7 +112,7 @@ fn stop(out: &mut [u8], at: usize, state: State, code: u16, reason: u16) -> Fill
 // The next record: its step and its line, or what ends the reading. After the last record, the last line.
 // It requires room for a line and the last line, and a record number that is at most the place.
 fn put_record(sheet: &[u8], state: State, table: &mut [u16], out: &mut [u8], at: usize) -> Filled
-    requires { ⌜ (state .finished ≡ false) × (state .index ≤ state .place) × (at + 151 ≤ length (now out)) ⌝ }
+    requires { ⌜ (state .finished ≡ false) × (state .index ≤ state .place) × (at + recordRoom ≤ length (now out)) ⌝ }
     ensures filling { λ r. ⌜ Filling (now (sheet .entry)) state (now (table .entry)) (now (out .entry)) at (r .state) (now (table .exit)) (now (out .exit)) (r .put) ⌝ }
     ensures onward { λ r. ⌜ Onward (now (sheet .entry)) state (r .state) ⌝ }
 {
@@ -125,11 +125,18 @@ fn put_record(sheet: &[u8], state: State, table: &mut [u16], out: &mut [u8], at:
         Entry::NoCode(code) => stop(out, at, state, code, NO_CODE),
         Entry::Whole(entry, next) => {
             let r = run_record(table, entry);
-            let n = number(r);
-            let s = session(r);
-            let end = put_line(out, at, state.index, entry.code as u64, n as u64, s as u64);
+            let reply_number = number(r);
+            let reply_session = session(r);
+            let end = put_line(
+                out,
+                at,
+                state.index,
+                entry.code as u64,
+                reply_number as u64,
+                reply_session as u64,
+            );
             let was = state.tally;
-            let tally = tallied(was, entry.code, n, s);
+            let tally = tallied(was, entry.code, reply_number, reply_session);
             let index = state.index + 1;
             Filled {
                 state: State {
@@ -148,7 +155,7 @@ fn put_record(sheet: &[u8], state: State, table: &mut [u16], out: &mut [u8], at:
 // It requires room for a record, so that each turn gets on, and a record number that is at most the place, as `start` and `fill` leave it,
 // so that it does not run over.
 pub fn fill(sheet: &[u8], state: State, table: &mut [u16], out: &mut [u8]) -> Filled
-    requires { ⌜ (state .index ≤ state .place) × (151 ≤ length (now out)) ⌝ }
+    requires { ⌜ (state .index ≤ state .place) × (recordRoom ≤ length (now out)) ⌝ }
     ensures { λ r. ⌜ Turn (now (sheet .entry)) state (now (table .entry)) (now (out .entry)) (r .state) (now (table .exit)) (now (out .exit)) (r .put) ⌝ }
 {
     let mut reached = state;
@@ -173,7 +180,7 @@ pub fn fill(sheet: &[u8], state: State, table: &mut [u16], out: &mut [u8]) -> Fi
 // The start: the sheet's length, the header and the opening, and the header's line. The table is the one that the program lends.
 // It requires that table, all zeros, and room for a line and the last line.
 pub fn start(sheet: &[u8], table: &mut [u16], out: &mut [u8]) -> Filled
-    requires { ⌜ (now table ≡ lentTable) × (151 ≤ length (now out)) ⌝ }
+    requires { ⌜ (now table ≡ lentTable) × (recordRoom ≤ length (now out)) ⌝ }
     ensures { λ r. ⌜ Started (now (sheet .entry)) (now (out .entry)) (r .state) (now (table .exit)) (now (out .exit)) (r .put) ⌝ }
 {
     let none = Tally {
@@ -194,9 +201,9 @@ pub fn start(sheet: &[u8], table: &mut [u16], out: &mut [u8]) -> Filled
         Head::Refused(fault) => stop(out, 0, header_state, 0, refusal_number(fault)),
         Head::Whole(header, next) => {
             let r = open(table, header.desks, header.screens, header.positions);
-            let n = number(r);
-            if n != 0 {
-                return stop(out, 0, header_state, 0, n);
+            let reply_number = number(r);
+            if reply_number != 0 {
+                return stop(out, 0, header_state, 0, reply_number);
             }
             let end = put_line(out, 0, 0, 0, 0, 0);
             Filled {

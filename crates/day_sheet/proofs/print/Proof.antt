@@ -5,14 +5,14 @@ use mathlib.Core.Path.{_≡_, sym}
 use lib.ListN.{length}
 use lib.Seq.{length-take-le}
 use borrow.Author.Needs.{needs}
-use Rattle.sheet.specs.Turn.{turnsLeft}
+use Rattle.sheet.specs.Turn.{recordRoom, turnsLeft}
 use Rattle.sheet.specs.laws.Turns.{some-left}
 use Rattle.day_sheet.proofs.print.Statement.{statement}
 use Rattle.day_sheet.proofs.print.Tie as tie
 
 abbrev Inv-loop : tie.InvT-loop
 Inv-loop sheet table₀ out₀ put₀ state₀ printed₀ table out state printed =
-    (state .index ≤ state .place) × (151 ≤ length out) × (length table ≡ length table₀) × (length out ≡ length out₀)
+    (state .index ≤ state .place) × (recordRoom ≤ length out) × (length table ≡ length table₀) × (length out ≡ length out₀)
 
 abbrev μ-loop : tie.MeasureT-loop
 μ-loop sheet table₀ out₀ put₀ state₀ printed₀ table out state printed = turnsLeft sheet state
