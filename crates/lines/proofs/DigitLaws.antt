@@ -27,7 +27,7 @@ pub decimal-one : (value : ℕ) → value < 10 → decimal value ≡ (48 + value
 unfolding decimal
 decimal-one value small = simp (lt-ltb value 10 small)
 
-pub decimal-more : (value : ℕ) → 10 ≤ value → value < 2 ^ 64 → decimal value ≡ decimal (value / 10) ++ ((48 + value % 10) ∷ [])
+decimal-more : (value : ℕ) → 10 ≤ value → value < 2 ^ 64 → decimal value ≡ decimal (value / 10) ++ ((48 + value % 10) ∷ [])
 unfolding decimal
 decimal-more value large fits =
     ap (λ (small : Bool). cond {A = List ℕ} small ((48 + value) ∷ []) (digits 19 (value / 10) ++ ((48 + value % 10) ∷ []))) (le-ltb value 10 large)

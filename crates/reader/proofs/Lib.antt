@@ -1,3 +1,3 @@
--- Laws that several proofs cite.
+-- Laws that the proofs cite.
 pub mod NumberLaws
 pub mod Answers

@@ -1,7 +1,7 @@
 -- `reader::read_number` meets its contract.
-use mathlib.Core.Path.{sym, _∙_}
-use native.Mathlib.Omega.{arith}
 use Prim.Native.Nat.{_+_}
+use native.Mathlib.Omega.{arith}
+use mathlib.Core.Path.{sym, _∙_}
 use borrow.Author.Needs.{needs}
 use Rattle.reader.proofs.NumberLaws.{Byte, none-there, one-ends, one-only, two-end, two-only, three-end, three-go-on}
 use Rattle.reader.proofs.read_number.Statement.{statement}
