@@ -1,5 +1,7 @@
 pub mod Sheet
 pub mod Tally
 pub mod Lines
+pub mod SheetTheorems
 pub mod SheetCases
+pub mod SheetExamples
 pub mod laws

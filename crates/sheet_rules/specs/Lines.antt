@@ -3,10 +3,10 @@ use Prim.Native.Nat.{ℕ, zero, suc, _+_, _/_, _%_}
 use mathlib.Core.Bool.{cond}
 use mathlib.Core.List.{List, [], _∷_, _++_}
 use lib.Dec.{ltb}
-use Rattle.rules.specs.Steps.{Answer}
+use Rattle.rules.specs.Steps.{Answer, Event}
 use Rattle.rules.specs.Table.{stepTable, openTable}
 use Rattle.rules.specs.Numbers.{Refusal}
-use Rattle.sheet_rules.specs.Sheet.{callOf, Records, more, complete, stop, lentTable, Reading, unopened, opened, reading}
+use Rattle.sheet_rules.specs.Sheet.{callOf, codeOf, Records, more, complete, stop, lentTable, Reading, unopened, opened, reading}
 use Rattle.sheet_rules.specs.Tally.{Tally, zeros, counted}
 
 -- "in decimal": 48 is the character 0. No number of 64 bits has more than twenty digits.
@@ -37,6 +37,17 @@ refusalLine index reason = line index (reason .code) (reason .number) 0
 -- (101, 110 and 100 are the characters e, n and d)
 unfoldable pub endLine : Tally → List ℕ
 endLine tally = 101 ∷ 110 ∷ 100 ∷ 32 ∷ spaced (tally .accepted ∷ tally .refused ∷ tally .handedBack ∷ [])
+
+-- A line for each step of a list with their answers, from a record number on.
+abbrev pub eventLines : ℕ → List Event → List ℕ
+eventLines index [] = []
+eventLines index (event ∷ events) = answerLine index (codeOf (event .call)) (event .answer) ++ eventLines (suc index) events
+
+-- The line of what ended the reading, if something did.
+abbrev pub endingLine : ℕ → Records → List ℕ
+endingLine index complete = []
+endingLine index (stop reason) = refusalLine index reason
+endingLine index (more entry rest) = endingLine (suc index) rest
 
 -- The lines from a record on, at the table and with the tally so far.
 -- "Numbers 1 to 3 and 15 to 18 end the reading after their line"

@@ -32,6 +32,14 @@ callOf entry =
     (cond (eqb (entry .code) 3) (Swap (entry .desk) (entry .position) (entry .session))
     (cond (eqb (entry .code) 4) (Retire (entry .desk)) (Collect (entry .desk)))))
 
+-- The code of a step.
+abbrev pub codeOf : Call → ℕ
+codeOf (Take d c p) = 1
+codeOf (Drop d c) = 2
+codeOf (Swap d p session) = 3
+codeOf (Retire d) = 4
+codeOf (Collect d) = 5
+
 -- "A table of twenty entries says which of desk, screen, position and session follow each code."
 abbrev pub followTable : List ℕ
 followTable =
@@ -105,6 +113,12 @@ abbrev pub recordsAt : ℕ → List ℕ → ℕ → Records
 recordsAt zero sheet at = complete
 recordsAt (suc most) sheet at =
     cond (ltb at (length sheet)) (onward (recordAt sheet at) (λ entry next. more entry (recordsAt most sheet next))) complete
+
+-- The steps that the records ask for.
+abbrev pub callsIn : Records → List Call
+callsIn complete = []
+callsIn (stop reason) = []
+callsIn (more entry rest) = callOf entry ∷ callsIn rest
 
 -- ---- The header and the whole sheet.
 

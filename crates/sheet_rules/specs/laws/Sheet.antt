@@ -339,11 +339,11 @@ fields-read-back entry sheet at next good stands =
     s₃ : Stands position sheet at₂ at₃ × Stands session sheet at₃ next
     s₃ = stands-split position session sheet at₂ next (s₂ .1)
 
-false-not-true : false ≡ true → ⊥
+pub false-not-true : false ≡ true → ⊥
 false-not-true e = let z : _≡_ {A = ℕ} 0 1 = cc in omega arith
 
 -- a number that is in its range is at most the range's end
-in-range : (value most : ℕ) → inRange value most ≡ true → value ≤ most
+pub in-range : (value most : ℕ) → inRange value most ≡ true → value ≤ most
 in-range value most e = second (leb 1 value) (leb value most) refl e
   where
     second : (low high : Bool) → leb value most ≡ high → (low && high) ≡ true → value ≤ most

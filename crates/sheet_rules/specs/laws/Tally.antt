@@ -1,22 +1,19 @@
--- Laws of the tally: started at zeros it equals the counts in the list of replies, and the last line prints it.
+-- Laws of the tally: started at zeros it equals the counts in the list of replies.
 use Prim.Native.Nat.{ℕ, zero, suc, _+_, _≤_, min}
 use native.Mathlib.Omega.{arith}
 use mathlib.Core.Path.{_≡_, refl, sym, ap, _∙_}
-use mathlib.Core.Bool.{Bool, true, false, cond}
-use mathlib.Core.List.{List, [], _∷_, _++_, append-assoc}
+use mathlib.Core.Bool.{Bool, true, false, cond, not}
+use mathlib.Core.List.{List, [], _∷_}
 use lib.Dec.{ltb, eqb}
 use borrow.Author.Tests.{ltb-true, ltb-false, not-true}
-use Rattle.rules.specs.Hall.{Hall}
-use Rattle.rules.specs.Steps.{Call, Take, Drop, Swap, Retire, Collect, Event}
-use Rattle.rules.specs.Table.{stepTable, runTable, openTable}
-use Rattle.rules.specs.History.{deed, lacksRoom, nothing, isHandBack, oneIf, howMany}
-use Rattle.sheet_rules.specs.Sheet.{callOf, Records, more, complete, stop, lentTable, opened, reading}
+use Rattle.rules.specs.Steps.{Call, Take, Drop, Swap, Retire, Collect, Answer, Event, isNone}
+use Rattle.rules.specs.History.{deed, lacksRoom, collects, handsBack, nothing, isHandBack, oneIf, howMany}
+use Rattle.sheet_rules.specs.Sheet.{Record, recordFor, callOf}
 use Rattle.sheet_rules.specs.Tally.{Tally, tallyOf, zeros, isAccepted, isRefused, isHandedBack, largestCount, oneMore}
 use Rattle.sheet_rules.specs.Tally.{oneMoreIf, counted, tallied, countsIn}
-use Rattle.sheet_rules.specs.Lines.{answerLine, refusalLine, endLine, linesFrom, linesOf, printed}
 
 -- "A refused step changes only the count of refused steps."
-refused-hands-nothing : (call : Call) (n session : ℕ) → isHandBack (deed call (suc n) session) ≡ false
+pub refused-hands-nothing : (call : Call) (n session : ℕ) → isHandBack (deed call (suc n) session) ≡ false
 refused-hands-nothing (Take d c p) n session = refl
 refused-hands-nothing (Drop d c) n session = refl
 refused-hands-nothing (Swap d p new) n session = refl
@@ -39,6 +36,45 @@ refused-step total event e = by-number (event .answer .number) refl
         ap (λ (m : ℕ). isHandBack (deed (event .call) m (event .answer .session))) q
         ∙ refused-hands-nothing (event .call) n (event .answer .session) in
         simp (not-true (isAccepted event) e, none)
+
+-- A tally asks of a step only for its code and its answer, not for its fields.
+pub counted-by-code : (total : Tally) (entry : Record) (answer : Answer)
+    → counted total (record { call = callOf (recordFor (entry .code) 0 0 0 0); answer = answer })
+    ≡ counted total (record { call = callOf entry; answer = answer })
+unfolding counted
+counted-by-code total entry answer =
+    ap (λ (back : Bool). tallyOf (oneMoreIf accepted (total .accepted)) (oneMoreIf (not accepted) (total .refused)) (oneMoreIf back (total .handedBack)))
+    (same (answer .number))
+  where
+    accepted : Bool
+    accepted = eqb (answer .number) 0
+
+    -- the step of a record with these fields, by whether its code is 1, 2, 3 or 4
+    step : Bool → Bool → Bool → Bool → ℕ → ℕ → ℕ → ℕ → Call
+    step take drop swap retire desk screen position session =
+        cond take (Take desk screen position)
+        (cond drop (Drop desk screen) (cond swap (Swap desk position session) (cond retire (Retire desk) (Collect desk))))
+
+    collected : (none : Bool) (session : ℕ)
+        → isHandBack (cond none (collects 0) (handsBack 0 session)) ≡ isHandBack (cond none (collects (entry .desk)) (handsBack (entry .desk) session))
+    collected true session = refl
+    collected false session = refl
+
+    by-code : (take drop swap retire : Bool) (session : ℕ)
+        → isHandBack (deed (step take drop swap retire 0 0 0 0) 0 session)
+        ≡ isHandBack (deed (step take drop swap retire (entry .desk) (entry .screen) (entry .position) (entry .session)) 0 session)
+    by-code true drop swap retire session = refl
+    by-code false true swap retire session = refl
+    by-code false false true retire session = refl
+    by-code false false false true session = refl
+    by-code false false false false session = collected (isNone session) session
+
+    same : (n : ℕ)
+        → isHandBack (deed (callOf (recordFor (entry .code) 0 0 0 0)) n (answer .session)) ≡ isHandBack (deed (callOf entry) n (answer .session))
+    same zero = by-code (eqb (entry .code) 1) (eqb (entry .code) 2) (eqb (entry .code) 3) (eqb (entry .code) 4) (answer .session)
+    same (suc n) =
+        refused-hands-nothing (callOf (recordFor (entry .code) 0 0 0 0)) n (answer .session)
+        ∙ sym (refused-hands-nothing (callOf entry) n (answer .session))
 
 -- One more, up to the largest, and then the rest.
 more-up-to : (test : Bool) (count rest : ℕ)
@@ -98,42 +134,3 @@ pub tally-from-zeros : (events : List Event) → tallied zeros events ≡ counts
 tally-from-zeros events =
     tally-from zeros events (record { accepted = omega arith; refused = omega arith; handedBack = omega arith })
     ∙ same-tally (withCounts zeros events) (countsIn events) (omega arith) (omega arith) (omega arith)
-
--- ---- The last line prints the counts in the list of replies.
-
--- the steps of the records that were read, and all lines but the last
-abbrev pub callsIn : Records → List Call
-callsIn complete = []
-callsIn (stop reason) = []
-callsIn (more entry rest) = callOf entry ∷ callsIn rest
-
-abbrev pub linesBeforeEnd : List ℕ → ℕ → Records → List ℕ
-linesBeforeEnd table index complete = []
-linesBeforeEnd table index (stop reason) = refusalLine index reason
-linesBeforeEnd table index (more entry rest) =
-    let done = stepTable table (callOf entry) in
-    answerLine index (entry .code) (done .answer) ++ linesBeforeEnd (done .after) (suc index) rest
-
-lines-and-end : (table : List ℕ) (index : ℕ) (total : Tally) (records : Records)
-    → linesFrom table index total records ≡ linesBeforeEnd table index records ++ endLine (tallied total (runTable table (callsIn records)))
-lines-and-end table index total complete = refl
-lines-and-end table index total (stop reason) = refl
-lines-and-end table index total (more entry rest) =
-    let done = stepTable table (callOf entry) in
-    let first : List ℕ = answerLine index (entry .code) (done .answer) in
-    let event : Event = record { call = callOf entry; answer = done .answer } in
-    ap (λ (lines : List ℕ). first ++ lines) (lines-and-end (done .after) (suc index) (counted total event) rest)
-    ∙ sym (append-assoc first (linesBeforeEnd (done .after) (suc index) rest) (endLine (tallied total (runTable table (callsIn (more entry rest))))))
-
-pub end-line-counts : (sheet : List ℕ) (hall : Hall) (records : Records) → reading sheet ≡ opened hall records
-    → printed sheet
-    ≡ answerLine 0 0 (openTable hall lentTable .answer)
-    ++ (linesBeforeEnd (openTable hall lentTable .after) 1 records
-    ++ endLine (countsIn (runTable (openTable hall lentTable .after) (callsIn records))))
-unfolding printed
-end-line-counts sheet hall records e =
-    let table : List ℕ = openTable hall lentTable .after in
-    let first : List ℕ = answerLine 0 0 (openTable hall lentTable .answer) in
-    ap linesOf e
-    ∙ ap (λ (lines : List ℕ). first ++ lines) (lines-and-end table 1 zeros records)
-    ∙ ap (λ (total : Tally). first ++ (linesBeforeEnd table 1 records ++ endLine total)) (tally-from-zeros (runTable table (callsIn records)))

@@ -1,0 +1,73 @@
+-- `day_sheet::print` meets its contract: it is safe, and it ends.
+use native.Mathlib.Omega.{arith}
+use Prim.Native.Nat.{_≤_}
+use mathlib.Core.Path.{_≡_, sym}
+use lib.ListN.{length}
+use lib.Seq.{length-take-le}
+use borrow.Author.Needs.{needs}
+use Rattle.sheet.specs.Turn.{recordRoom, turnsLeft}
+use Rattle.sheet.specs.laws.Turns.{some-left}
+use Rattle.day_sheet.proofs.print.Statement.{statement}
+use Rattle.day_sheet.proofs.print.Tie as tie
+
+abbrev Inv-loop : tie.InvT-loop
+Inv-loop sheet table₀ out₀ put₀ state₀ printed₀ table out state printed =
+    (state .index ≤ state .place) × (recordRoom ≤ length out) × (length table ≡ length table₀) × (length out ≡ length out₀)
+
+abbrev μ-loop : tie.MeasureT-loop
+μ-loop sheet table₀ out₀ put₀ state₀ printed₀ table out state printed = turnsLeft sheet state
+
+start-requires : tie.Need-start-requires Inv-loop μ-loop
+start-requires c κs = c .before .before .before .before .before .pre
+
+slice-reshare-prefix-write-all : tie.Need-slice-reshare-prefix-write-all Inv-loop μ-loop
+slice-reshare-prefix-write-all c = c .before .before .before .before .before .start .ensures .within
+
+slice-aggregate-write-all : tie.Need-slice-aggregate-write-all Inv-loop μ-loop
+slice-aggregate-write-all c = sym (length-take-le (c .before .before .before .before .before .before .start .result .put) (c .before .before .before .before .before .before .start .last .1 .1 .0) (c .before .before .before .before .before .before .start .ensures .within))
+
+write-all-requires : tie.Need-write-all-requires Inv-loop μ-loop
+write-all-requires c κs = search needs
+
+loop-holds : tie.Need-loop-holds Inv-loop μ-loop
+loop-holds c = (c .before .before .before .before .before .before .before .start .ensures .numbered, omega (arith, c .before .before .before .before .before .before .before .before .before .before .before .before .before .pre .1, c .before .before .before .before .before .before .before .start .kept .1 .1 .0), omega (arith, c .before .before .before .before .before .before .before .start .kept .1 .0), omega (arith, c .before .before .before .before .before .before .before .start .kept .1 .1 .0))
+
+same-length : tie.Need-same-length Inv-loop μ-loop
+same-length c = omega (arith, c .before .before .loop .inv .2)
+
+same-length-2 : tie.Need-same-length-2 Inv-loop μ-loop
+same-length-2 c = omega (arith, c .before .before .loop .inv .3)
+
+returns : tie.Need-returns Inv-loop μ-loop
+returns c = search needs
+
+fill-requires : tie.Need-fill-requires Inv-loop μ-loop
+fill-requires c κs = (c .before .before .before .before .loop .inv .0, c .before .before .before .before .loop .inv .1)
+
+slice-reshare-prefix-write-all-2 : tie.Need-slice-reshare-prefix-write-all-2 Inv-loop μ-loop
+slice-reshare-prefix-write-all-2 c = c .before .before .before .before .before .fill .ensures .within
+
+slice-aggregate-write-all-2 : tie.Need-slice-aggregate-write-all-2 Inv-loop μ-loop
+slice-aggregate-write-all-2 c = sym (length-take-le (c .before .before .before .before .before .before .fill .result .put) (c .before .before .before .before .before .before .fill .last .1 .1 .1 .0) (c .before .before .before .before .before .before .fill .ensures .within))
+
+write-all-requires-2 : tie.Need-write-all-requires-2 Inv-loop μ-loop
+write-all-requires-2 c κs = search needs
+
+loop-less : tie.Need-loop-less Inv-loop μ-loop
+loop-less c = omega (arith, c .before .before .before .before .before .before .before .fill .ensures .onward .fewer, some-left (c .before .before .before .before .before .before .before .before .before .before .before .before .before .before .before .before .before .before .before .before .before .before .before .before .before .before .args .sheet .now) (c .before .before .before .before .before .before .before .before .before .before .before .before .loop .state) (c .before .before .before .before .before .before .before .before .before .before .if1 .left))
+
+loop-again : tie.Need-loop-again Inv-loop μ-loop
+loop-again c = (c .before .before .before .before .before .before .before .fill .ensures .onward .numbered, omega (arith, c .before .before .before .before .before .before .before .before .before .before .before .before .loop .inv .1, c .before .before .before .before .before .before .before .fill .kept .1 .1 .1 .0), omega (arith, c .before .before .before .before .before .before .before .before .before .before .before .before .loop .inv .2, c .before .before .before .before .before .before .before .fill .kept .1 .1 .0), omega (arith, c .before .before .before .before .before .before .before .before .before .before .before .before .loop .inv .3, c .before .before .before .before .before .before .before .fill .kept .1 .1 .1 .0))
+
+same-length-3 : tie.Need-same-length-3 Inv-loop μ-loop
+same-length-3 c = omega (arith, c .before .loop .inv .2)
+
+same-length-4 : tie.Need-same-length-4 Inv-loop μ-loop
+same-length-4 c = omega (arith, c .before .loop .inv .3)
+
+returns-2 : tie.Need-returns-2 Inv-loop μ-loop
+returns-2 c = search needs
+
+pub print-spec : {M : Type 1} → statement M
+print-spec =
+    tie.close (tie.spec Inv-loop μ-loop start-requires slice-reshare-prefix-write-all slice-aggregate-write-all write-all-requires loop-holds same-length same-length-2 returns fill-requires slice-reshare-prefix-write-all-2 slice-aggregate-write-all-2 write-all-requires-2 loop-less loop-again same-length-3 same-length-4 returns-2)

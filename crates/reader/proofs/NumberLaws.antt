@@ -1,0 +1,75 @@
+-- The number at a place, by the bytes that stand there: one law for each way out of the number reader.
+use Prim.Native.Nat.{ℕ, suc, _+_, _*_, _%_, _≤_, _<_}
+use native.Mathlib.Omega.{arith}
+use native.Mathlib.Numerals.{add-one}
+use mathlib.Core.Path.{_≡_, refl, ap, _∙_}
+use mathlib.Core.List.{List, [], _∷_}
+use lib.ListN.{length, drop, getD, drop-of-length-le}
+use lib.Seq.{drop-cons}
+use borrow.Author.Tests.{lt-ltb, le-ltb}
+use Rattle.rules.specs.Numbers.{refusal, ended, stopped, before, groupsIn, withinLimit, number}
+
+-- a byte that stands at a place of a sheet
+pub record Byte (sheet : List ℕ) (at byte : ℕ) : Type 0 where
+  pub inside : at < length sheet
+  pub is : byte ≡ getD sheet at 0
+
+-- ---- The groups from a place on: the sheet stops there, or its byte is the last, or another follows.
+groups-stop : (most : ℕ) (sheet : List ℕ) (at : ℕ) → length sheet ≤ at → groupsIn (suc most) (drop at sheet) ≡ stopped
+groups-stop most sheet at past = ap (groupsIn (suc most)) (drop-of-length-le sheet past)
+
+module _ (most : ℕ) {sheet : List ℕ} {at byte : ℕ} (here : Byte sheet at byte) where
+  from-here : drop at sheet ≡ byte ∷ drop (at + 1) sheet
+  from-here = rw (here .is, add-one) (drop-cons sheet at 0 (here .inside))
+
+  groups-last : byte < 128 → groupsIn (suc most) (drop at sheet) ≡ ended (byte ∷ [])
+  groups-last last = ap (groupsIn (suc most)) from-here ∙ simp (lt-ltb byte 128 last)
+
+  groups-more : (next : ℕ) → next ≡ at + 1 → 128 ≤ byte
+      → groupsIn (suc most) (drop at sheet) ≡ before (byte % 128) (groupsIn most (drop next sheet))
+  groups-more next is-next more = ap (groupsIn (suc most)) from-here ∙ simp (le-ltb byte 128 more, is-next)
+
+-- ---- No byte stands there.
+pub none-there : (limit : ℕ) (sheet : List ℕ) (at : ℕ) → length sheet ≤ at → number limit sheet at ≡ refusal 0 15
+unfolding number
+none-there limit sheet at past = simp (groups-stop 2 sheet at past)
+
+-- ---- A first byte stands there.
+module _ (limit : ℕ) {sheet : List ℕ} {at first : ℕ} (one : Byte sheet at first) where
+  pub one-ends : first < 128 → number limit sheet at ≡ withinLimit limit first (at + 1)
+  unfolding number
+  one-ends last =
+      let alone : first + 128 * 0 ≡ first = omega arith in
+      simp (groups-last 2 one last, alone)
+
+  pub one-only : 128 ≤ first → length sheet ≤ at + 1 → number limit sheet at ≡ refusal 0 15
+  unfolding number
+  one-only more past = simp (groups-more 2 one (at + 1) refl more, groups-stop 1 sheet (at + 1) past)
+
+  -- ---- And a second.
+  module _ (more : 128 ≤ first) {second : ℕ} (two : Byte sheet (at + 1) second) where
+    pub two-end : second < 128 → number limit sheet at ≡ withinLimit limit (first % 128 + 128 * second) (at + 2)
+    unfolding number
+    two-end last =
+        let alone : second + 128 * 0 ≡ second = omega arith in
+        simp (groups-more 2 one (at + 1) refl more, groups-last 1 two last, alone)
+
+    pub two-only : 128 ≤ second → length sheet ≤ at + 2 → number limit sheet at ≡ refusal 0 15
+    unfolding number
+    two-only more₂ past =
+        simp (groups-more 2 one (at + 1) refl more, groups-more 1 two (at + 2) (omega arith) more₂, groups-stop 0 sheet (at + 2) past)
+
+    -- ---- And a third, the last that is looked at.
+    module _ (more₂ : 128 ≤ second) {third : ℕ} (three : Byte sheet (at + 2) third) where
+      pub three-end : third < 128
+          → number limit sheet at ≡ withinLimit limit (first % 128 + 128 * (second % 128 + 128 * third)) (at + 3)
+      unfolding number
+      three-end last =
+          let alone : third + 128 * 0 ≡ third = omega arith in
+          simp (groups-more 2 one (at + 1) refl more, groups-more 1 two (at + 2) (omega arith) more₂, groups-last 0 three last, alone)
+
+      pub three-go-on : 128 ≤ third → number limit sheet at ≡ refusal 0 16
+      unfolding number
+      three-go-on more₃ =
+          simp
+          (groups-more 2 one (at + 1) refl more, groups-more 1 two (at + 2) (omega arith) more₂, groups-more 0 three (at + 3) (omega arith) more₃)

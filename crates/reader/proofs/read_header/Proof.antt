@@ -1,0 +1,65 @@
+-- `reader::read_header` meets its contract.
+use mathlib.Core.Path.{sym, _∙_}
+use borrow.Author.Needs.{needs}
+use Rattle.sheet_rules.specs.Sheet.{headerAt}
+use Rattle.reader.proofs.Answers.{found, goes-on, stops}
+use Rattle.reader.proofs.read_header.Statement.{statement}
+use Rattle.reader.proofs.read_header.Tie as tie
+
+read-number-requires : tie.Need-read-number-requires
+read-number-requires c κs = search needs
+
+enum-known-fault : tie.Need-enum-known-fault
+enum-known-fault c = search needs
+
+enum-known-desks : tie.Need-enum-known-desks
+enum-known-desks c = search needs
+
+read-number-requires-2 : tie.Need-read-number-requires-2
+read-number-requires-2 c κs = search needs
+
+enum-known-fault-2 : tie.Need-enum-known-fault-2
+enum-known-fault-2 c = search needs
+
+enum-known-screens : tie.Need-enum-known-screens
+enum-known-screens c = search needs
+
+read-number-requires-3 : tie.Need-read-number-requires-3
+read-number-requires-3 c κs = search needs
+
+enum-known-fault-3 : tie.Need-enum-known-fault-3
+enum-known-fault-3 c = search needs
+
+enum-known-positions : tie.Need-enum-known-positions
+enum-known-positions c = search needs
+
+returns : tie.Need-returns
+unfolding headerAt
+returns c = sym (stops (found (c .before .before .before .read-number .ensures) (c .before .fault .given .1)) _)
+
+returns-2 : tie.Need-returns-2
+unfolding headerAt
+returns-2 c =
+    let desks = found (c .before .before .before .before .before .before .before .read-number .ensures) (c .before .before .before .before .before .desks .given .1) in
+    let fault = found (c .before .before .before .read-number2 .ensures) (c .before .fault2 .given .1) in
+    sym (goes-on desks _ ∙ stops fault _)
+
+returns-3 : tie.Need-returns-3
+unfolding headerAt
+returns-3 c =
+    let desks = found (c .before .before .before .before .before .before .before .before .before .before .before .read-number .ensures) (c .before .before .before .before .before .before .before .before .before .desks .given .1) in
+    let screens = found (c .before .before .before .before .before .before .before .read-number2 .ensures) (c .before .before .before .before .before .screens .given .1) in
+    let fault = found (c .before .before .before .read-number3 .ensures) (c .before .fault3 .given .1) in
+    sym (goes-on desks _ ∙ goes-on screens _ ∙ stops fault _)
+
+returns-4 : tie.Need-returns-4
+unfolding headerAt
+returns-4 c =
+    let desks = found (c .before .before .before .before .before .before .before .before .before .before .before .read-number .ensures) (c .before .before .before .before .before .before .before .before .before .desks .given .1) in
+    let screens = found (c .before .before .before .before .before .before .before .read-number2 .ensures) (c .before .before .before .before .before .screens .given .1) in
+    let positions = found (c .before .before .before .read-number3 .ensures) (c .before .positions .given .1) in
+    sym (goes-on desks _ ∙ goes-on screens _ ∙ goes-on positions _)
+
+pub read-header-spec : {M : Type 1} → statement M
+read-header-spec =
+    tie.close (tie.spec read-number-requires enum-known-fault enum-known-desks read-number-requires-2 enum-known-fault-2 enum-known-screens read-number-requires-3 enum-known-fault-3 enum-known-positions returns returns-2 returns-3 returns-4)

@@ -1,0 +1,41 @@
+-- For each answer of the readers, what the rules' readers say: document 01's number, the value and the next place.
+use Prim.Native.Nat.{ℕ}
+use Rattle.rules.specs.Hall.{Hall, hallOf}
+use Rattle.rules.specs.Numbers.{Got, got, refusal}
+use Rattle.sheet_rules.specs.Sheet.{Record, recordFor}
+use Rattle.reader.specs.declared.Fault.{Fault}
+use Rattle.reader.specs.declared.Fault.the-variants.{Ends, TooLarge}
+use Rattle.reader.specs.declared.Number.{Number}
+use Rattle.reader.specs.declared.Number.the-variants.{Value, Refused}
+use Rattle.reader.specs.declared.Entry.{Entry}
+use Rattle.reader.specs.declared.Entry.the-variants.{Whole as WholeEntry, Refused as RefusedEntry, NoCode}
+use Rattle.reader.specs.declared.Record.{Record as ReadRecord}
+use Rattle.reader.specs.declared.Header.{Header}
+use Rattle.reader.specs.declared.Head.{Head}
+use Rattle.reader.specs.declared.Head.the-variants.{Whole as WholeHead, Refused as RefusedHead}
+
+-- "does it end within three bytes and at most 65,535? 16; did the sheet go on to its end? 15"
+abbrev pub numberOf : Fault → ℕ
+numberOf Ends = 15
+numberOf TooLarge = 16
+
+-- a number that is refused shows no code by itself
+abbrev pub toldNumber : Number → Got ℕ
+toldNumber (Value value next) = got value next
+toldNumber (Refused fault) = refusal 0 (numberOf fault)
+
+abbrev pub recordOf : ReadRecord → Record
+recordOf entry = recordFor (entry .code) (entry .desk) (entry .screen) (entry .position) (entry .session)
+
+-- "Is the code 1 to 5? 17"
+abbrev pub toldRecord : Entry → Got Record
+toldRecord (WholeEntry entry next) = got (recordOf entry) next
+toldRecord (RefusedEntry code fault) = refusal code (numberOf fault)
+toldRecord (NoCode code) = refusal code 17
+
+abbrev pub headerOf : Header → Hall
+headerOf header = hallOf (header .desks) (header .screens) (header .positions)
+
+abbrev pub toldHeader : Head → Got Hall
+toldHeader (WholeHead header next) = got (headerOf header) next
+toldHeader (RefusedHead fault) = refusal 0 (numberOf fault)

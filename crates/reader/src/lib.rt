@@ -1,0 +1,227 @@
+ghost use mathlib.Core.Path.{_≡_};
+ghost use Prim.Native.Nat.{_≤_, _<_};
+ghost use Rattle.rules.specs.Numbers.{number, withinLimit, mostNumber};
+ghost use Rattle.sheet_rules.specs.Sheet.{follows as followsCode, fieldAt, fieldsAt, withCode, recordAt, headerAt};
+ghost use Rattle.reader.specs.Told.{numberOf, toldNumber, toldRecord, toldHeader};
+
+// Why a number is refused.
+pub enum Fault {
+    // 15: the sheet stops before the number's end.
+    Ends,
+    // 16: the number takes more than three bytes, or is larger than its limit.
+    TooLarge,
+}
+
+// The reply number of a refused number.
+pub fn refusal_number(fault: Fault) -> u16
+    ensures { λ r. ⌜ r ≡ numberOf fault ⌝ }
+{
+    match fault {
+        Fault::Ends => 15,
+        Fault::TooLarge => 16,
+    }
+}
+
+// A number of a sheet and the place after it, or why it is refused. A place is the offset of a byte.
+pub enum Number {
+    Value(u16, usize),
+    Refused(Fault),
+}
+
+// The largest number of a sheet.
+const MOST_NUMBER: u16 = 65535;
+
+// A number that has ended, if it is at most the limit.
+fn within_limit(value: u32, next: usize, limit: u16) -> Number
+    ensures { λ r. ⌜ toldNumber r ≡ withinLimit limit value next ⌝ }
+{
+    if (limit as u32) < value {
+        return Number::Refused(Fault::TooLarge);
+    }
+    Number::Value(value as u16, next)
+}
+
+// A byte, as a number to compute with.
+fn wide(byte: u8) -> u32
+    ensures { λ r. ⌜ r ≡ byte ⌝ }
+{
+    byte as u32
+}
+
+// The number at a place: groups of seven bits, lowest first; the top bit of a byte (128) says another follows.
+pub fn read_number(sheet: &[u8], at: usize, limit: u16) -> Number
+    ensures { λ r. ⌜ toldNumber r ≡ number limit (now (sheet .entry)) at ⌝ }
+{
+    if sheet.len() <= at {
+        return Number::Refused(Fault::Ends);
+    }
+    let first = wide(sheet[at]);
+    if first < 128 {
+        return within_limit(first, at + 1, limit);
+    }
+    if sheet.len() <= at + 1 {
+        return Number::Refused(Fault::Ends);
+    }
+    let second = wide(sheet[at + 1]);
+    if second < 128 {
+        return within_limit(first % 128 + 128 * second, at + 2, limit);
+    }
+    if sheet.len() <= at + 2 {
+        return Number::Refused(Fault::Ends);
+    }
+    let third = wide(sheet[at + 2]);
+    if third < 128 {
+        return within_limit(
+            first % 128 + 128 * (second % 128 + 128 * third),
+            at + 3,
+            limit,
+        );
+    }
+    Number::Refused(Fault::TooLarge)
+}
+
+// Which fields follow each code: a row for take, drop, swap, retire and collect; a column for desk, screen, position and session.
+const FOLLOWS: [u8; 20] = [1, 1, 1, 0, 1, 1, 0, 0, 1, 0, 1, 1, 1, 0, 0, 0, 1, 0, 0, 0];
+
+const DESK: usize = 0;
+
+const SCREEN: usize = 1;
+
+const POSITION: usize = 2;
+
+const SESSION: usize = 3;
+
+// Whether a field follows a code.
+// It requires one of the five codes: 17 is asked before the fields are read.
+fn follows(code: u16, field: usize) -> bool
+    requires { ⌜ (1 ≤ code) × (code ≤ 5) × (field < 4) ⌝ }
+    ensures { λ r. ⌜ r ≡ followsCode code field ⌝ }
+{
+    FOLLOWS[(code as usize - 1) * 4 + field] == 1
+}
+
+// A field that follows its code is read; one that does not is 0 and takes no byte.
+fn read_field(sheet: &[u8], at: usize, code: u16, field: usize) -> Number
+    requires { ⌜ (1 ≤ code) × (code ≤ 5) × (field < 4) ⌝ }
+    ensures { λ r. ⌜ toldNumber r ≡ fieldAt (followsCode code field) mostNumber (now (sheet .entry)) at ⌝ }
+{
+    if follows(code, field) {
+        return read_number(sheet, at, MOST_NUMBER);
+    }
+    Number::Value(0, at)
+}
+
+// A record of a sheet: a field that does not follow its code is 0.
+pub struct Record {
+    pub code: u16,
+    pub desk: u16,
+    pub screen: u16,
+    pub position: u16,
+    pub session: u16,
+}
+
+// A record and the place after it, or what ends the reading.
+pub enum Entry {
+    Whole(Record, usize),
+    // A number is refused: the code that its line shows, 0 where the code itself was not read.
+    Refused(u16, Fault),
+    // 17: there is no such code.
+    NoCode(u16),
+}
+
+// The fields of a record whose code was read.
+fn read_fields(sheet: &[u8], at: usize, code: u16) -> Entry
+    requires { ⌜ (1 ≤ code) × (code ≤ 5) ⌝ }
+    ensures { λ r. ⌜ toldRecord r ≡ withCode code (fieldsAt code (now (sheet .entry)) at) ⌝ }
+{
+    match read_field(sheet, at, code, DESK) {
+        Number::Refused(fault) => Entry::Refused(code, fault),
+        Number::Value(desk, after_desk) => match read_field(sheet, after_desk, code, SCREEN) {
+            Number::Refused(fault) => Entry::Refused(code, fault),
+            Number::Value(screen, after_screen) => match read_field(
+                sheet,
+                after_screen,
+                code,
+                POSITION,
+            ) {
+                Number::Refused(fault) => Entry::Refused(code, fault),
+                Number::Value(position, after_position) => match read_field(
+                    sheet,
+                    after_position,
+                    code,
+                    SESSION,
+                ) {
+                    Number::Refused(fault) => Entry::Refused(code, fault),
+                    Number::Value(session, next) => Entry::Whole(
+                        Record {
+                            code: code,
+                            desk: desk,
+                            screen: screen,
+                            position: position,
+                            session: session,
+                        },
+                        next,
+                    ),
+                },
+            },
+        },
+    }
+}
+
+// The record at a place: its code, and then its fields.
+pub fn read_record(sheet: &[u8], at: usize) -> Entry
+    ensures { λ r. ⌜ toldRecord r ≡ recordAt (now (sheet .entry)) at ⌝ }
+{
+    match read_number(sheet, at, MOST_NUMBER) {
+        Number::Refused(fault) => Entry::Refused(0, fault),
+        Number::Value(code, after_code) => {
+            if code < 1 {
+                return Entry::NoCode(code);
+            }
+            if 5 < code {
+                return Entry::NoCode(code);
+            }
+            read_fields(sheet, after_code, code)
+        }
+    }
+}
+
+// The header of a sheet: P, c and L.
+pub struct Header {
+    pub desks: u16,
+    pub screens: u16,
+    pub positions: u16,
+}
+
+// The header and the place after it, or why one of its numbers is refused.
+pub enum Head {
+    Whole(Header, usize),
+    Refused(Fault),
+}
+
+// The header at a place.
+pub fn read_header(sheet: &[u8], at: usize) -> Head
+    ensures { λ r. ⌜ toldHeader r ≡ headerAt (now (sheet .entry)) at ⌝ }
+{
+    match read_number(sheet, at, MOST_NUMBER) {
+        Number::Refused(fault) => Head::Refused(fault),
+        Number::Value(desks, after_desks) => match read_number(sheet, after_desks, MOST_NUMBER) {
+            Number::Refused(fault) => Head::Refused(fault),
+            Number::Value(screens, after_screens) => match read_number(
+                sheet,
+                after_screens,
+                MOST_NUMBER,
+            ) {
+                Number::Refused(fault) => Head::Refused(fault),
+                Number::Value(positions, next) => Head::Whole(
+                    Header {
+                        desks: desks,
+                        screens: screens,
+                        positions: positions,
+                    },
+                    next,
+                ),
+            },
+        },
+    }
+}

@@ -1,0 +1,22 @@
+-- The step that each code asks for.
+use mathlib.Core.Path.{_≡_}
+use borrow.Author.Tests.{ne-eqb}
+use Rattle.rules.specs.Steps.{Take, Drop, Swap, Retire, Collect}
+use Rattle.sheet_rules.specs.Sheet.{Record, callOf}
+
+module _ (entry : Record) where
+  pub is-take : entry .code ≡ 1 → callOf entry ≡ Take (entry .desk) (entry .screen) (entry .position)
+  is-take e = simp e
+
+  pub is-drop : entry .code ≡ 2 → callOf entry ≡ Drop (entry .desk) (entry .screen)
+  is-drop e = simp e
+
+  pub is-swap : entry .code ≡ 3 → callOf entry ≡ Swap (entry .desk) (entry .position) (entry .session)
+  is-swap e = simp e
+
+  pub is-retire : entry .code ≡ 4 → callOf entry ≡ Retire (entry .desk)
+  is-retire e = simp e
+
+  pub is-collect : (entry .code ≡ 1 → ⊥) → (entry .code ≡ 2 → ⊥) → (entry .code ≡ 3 → ⊥) → (entry .code ≡ 4 → ⊥)
+      → callOf entry ≡ Collect (entry .desk)
+  is-collect take drop swap retire = simp (ne-eqb _ _ take, ne-eqb _ _ drop, ne-eqb _ _ swap, ne-eqb _ _ retire)

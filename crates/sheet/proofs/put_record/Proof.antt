@@ -1,0 +1,98 @@
+-- `sheet::put_record` meets its contract.
+use native.Mathlib.Omega.{arith}
+use mathlib.Core.Path.{_≡_, sym, ap, _∙_}
+use Prim.Native.Nat.{ℕ}
+use borrow.Author.Needs.{needs}
+use Rattle.rules.specs.Numbers.{got, refused, refusalOf}
+use Rattle.sheet_rules.specs.Sheet.{recordAt}
+use Rattle.reader.specs.Told.{recordOf, toldRecord}
+use Rattle.lines.specs.laws.Longest.{line-length}
+use Rattle.sheet.proofs.TurnLaws.{ran, ran-onward, stopped, ended, finished-onward}
+use Rattle.sheet.proofs.put_record.Statement.{statement}
+use Rattle.sheet.proofs.put_record.Tie as tie
+
+-- the record that was read
+record-read : (c : tie.After-known-told3) → recordAt (c .before .before .before .before .before .before .before .before .args .sheet .now) (c .before .before .before .before .before .before .before .before .args .state .place) ≡ got (recordOf (c .before .entry .given .0 .0)) (c .before .entry .given .0 .1 .0)
+record-read c = sym (c .before .before .before .read-record .ensures) ∙ ap toldRecord (c .before .entry .given .1)
+
+finish-requires : tie.Need-finish-requires
+finish-requires c κs = search needs
+
+same-length : tie.Need-same-length
+same-length c = search needs
+
+returns : tie.Need-returns
+returns c = (ended (c .before .before .before .before .before .before .before .before .args .sheet .now) (c .before .before .before .before .before .before .before .before .args .state) (c .before .before .before .before .before .before .before .before .args .table .now) (c .before .before .before .before .before .before .before .before .pre .0) (c .before .before .before .before .if1 .taken) (c .before .before .before .before .before .before .before .before .args .out .now) (c .before .before .finish .last .0) (c .before .before .before .before .before .before .before .before .args .at) (c .before .before .finish .result .put) (c .before .before .finish .ensures .0) (c .before .before .finish .result .state) (c .before .before .finish .ensures .1), finished-onward (c .before .before .before .before .before .before .before .before .args .sheet .now) (c .before .before .before .before .before .before .before .before .args .state) (c .before .before .finish .result .state) (c .before .before .finish .ensures .1) (c .before .before .before .before .before .before .before .before .pre .1))
+
+read-record-requires : tie.Need-read-record-requires
+read-record-requires c κs = search needs
+
+enum-known-code : tie.Need-enum-known-code
+enum-known-code c = search needs
+
+refusal-number-requires : tie.Need-refusal-number-requires
+refusal-number-requires c κs = search needs
+
+stop-requires : tie.Need-stop-requires
+stop-requires c κs = search needs
+
+enum-known-code-2 : tie.Need-enum-known-code-2
+enum-known-code-2 c = search needs
+
+stop-requires-2 : tie.Need-stop-requires-2
+stop-requires-2 c κs = search needs
+
+enum-known-entry : tie.Need-enum-known-entry
+enum-known-entry c = search needs
+
+run-record-requires : tie.Need-run-record-requires
+run-record-requires c κs = search needs
+
+number-requires : tie.Need-number-requires
+number-requires c κs = search needs
+
+session-requires : tie.Need-session-requires
+session-requires c κs = search needs
+
+cast-put-line : tie.Need-cast-put-line
+cast-put-line c = search needs
+
+cast-put-line-2 : tie.Need-cast-put-line-2
+cast-put-line-2 c = search needs
+
+cast-put-line-3 : tie.Need-cast-put-line-3
+cast-put-line-3 c = search needs
+
+put-line-requires : tie.Need-put-line-requires
+put-line-requires c κs = omega (arith, line-length (c .before .before .before .before .before .before .before .before .before .before .before .before .before .before .before .before .args .state .index) (c .before .before .before .before .before .before .before .before .before .entry .given .0 .0 .code) (c .before .before .before .number .result) (c .before .before .session .result), c .before .before .before .before .before .before .before .before .before .before .before .before .before .before .before .before .pre .2)
+
+tallied-requires : tie.Need-tallied-requires
+tallied-requires c κs = search needs
+
+add-index : tie.Need-add-index
+add-index c = record { fits = omega (arith, c .before .before .before .before .before .before .before .before .before .before .before .before .before .before .before .before .before .before .before .before .before .before .pre .1, c .before .before .before .before .before .before .before .before .before .before .before .before .before .before .before .before .before .before .if1 .left, c .before .before .before .before .before .before .before .before .before .before .before .before .before .before .before .before .before .before .before .before .before .before .good .0 .0) }
+
+same-length-2 : tie.Need-same-length-2
+same-length-2 c = search needs
+
+returns-2 : tie.Need-returns-2
+returns-2 c = (stopped (c .before .before .before .before .before .before .before .before .before .before .before .before .before .args .sheet .now) (c .before .before .before .before .before .before .before .before .before .before .before .before .before .args .state) (c .before .before .before .before .before .before .before .before .before .before .before .before .before .args .table .now) (c .before .before .before .before .before .before .before .before .before .before .before .before .before .pre .0) (c .before .before .before .before .before .before .before .before .before .if1 .left) (c .before .before .before .before .before .before .code .given .0 .0) (c .before .before .before .refusal-number .result) (sym (c .before .before .before .before .before .before .before .before .read-record .ensures) ∙ ap toldRecord (c .before .before .before .before .before .before .code .given .1) ∙ ap (λ (n : ℕ). refused (refusalOf (c .before .before .before .before .before .before .code .given .0 .0) n)) (sym (c .before .before .before .refusal-number .ensures))) (c .before .before .before .before .before .before .before .before .before .before .before .before .before .args .out .now) (c .before .before .stop .last .0) (c .before .before .before .before .before .before .before .before .before .before .before .before .before .args .at) (c .before .before .stop .result .put) (c .before .before .stop .ensures .0) (c .before .before .stop .result .state) (c .before .before .stop .ensures .1), finished-onward (c .before .before .before .before .before .before .before .before .before .before .before .before .before .args .sheet .now) (c .before .before .before .before .before .before .before .before .before .before .before .before .before .args .state) (c .before .before .stop .result .state) (c .before .before .stop .ensures .1) (c .before .before .before .before .before .before .before .before .before .before .before .before .before .pre .1))
+
+same-length-3 : tie.Need-same-length-3
+same-length-3 c = search needs
+
+returns-3 : tie.Need-returns-3
+returns-3 c = (stopped (c .before .before .before .before .before .before .before .before .before .before .before .before .args .sheet .now) (c .before .before .before .before .before .before .before .before .before .before .before .before .args .state) (c .before .before .before .before .before .before .before .before .before .before .before .before .args .table .now) (c .before .before .before .before .before .before .before .before .before .before .before .before .pre .0) (c .before .before .before .before .before .before .before .before .if1 .left) (c .before .before .before .before .before .code2 .given .0 .0) 17 (sym (c .before .before .before .before .before .before .before .read-record .ensures) ∙ ap toldRecord (c .before .before .before .before .before .code2 .given .1)) (c .before .before .before .before .before .before .before .before .before .before .before .before .args .out .now) (c .before .before .stop2 .last .0) (c .before .before .before .before .before .before .before .before .before .before .before .before .args .at) (c .before .before .stop2 .result .put) (c .before .before .stop2 .ensures .0) (c .before .before .stop2 .result .state) (c .before .before .stop2 .ensures .1), finished-onward (c .before .before .before .before .before .before .before .before .before .before .before .before .args .sheet .now) (c .before .before .before .before .before .before .before .before .before .before .before .before .args .state) (c .before .before .stop2 .result .state) (c .before .before .stop2 .ensures .1) (c .before .before .before .before .before .before .before .before .before .before .before .before .pre .1))
+
+same-length-4 : tie.Need-same-length-4
+same-length-4 c = search needs
+
+same-length-5 : tie.Need-same-length-5
+same-length-5 c = search needs
+
+returns-4 : tie.Need-returns-4
+returns-4 c = (ran (c .before .before .before .before .before .before .before .before .before .before .before .before .before .before .before .before .before .before .before .before .before .before .args .sheet .now) (c .before .before .before .before .before .before .before .before .before .before .before .before .before .before .before .before .before .before .before .before .before .before .args .state) (c .before .before .before .before .before .before .before .before .before .before .before .before .before .before .before .before .before .before .before .before .before .before .args .table .now) (c .before .before .before .before .before .before .before .before .before .before .before .before .before .before .before .before .before .before .before .before .before .before .pre .0) (c .before .before .before .before .before .before .before .before .before .before .before .before .before .before .before .before .before .before .if1 .left) (recordOf (c .before .before .before .before .before .before .before .before .before .before .before .before .before .before .before .entry .given .0 .0)) (c .before .before .before .before .before .before .before .before .before .before .before .before .before .before .before .entry .given .0 .1 .0) (record-read (c .before .before .before .before .before .before .before .before .before .before .before .before .before .before)) (c .before .before .before .before .before .before .before .before .before .before .before .before .run-record .result) (c .before .before .before .before .before .before .before .before .before .before .before .before .run-record .last .0) (c .before .before .before .before .before .before .before .before .before .number .result) (c .before .before .before .before .before .before .before .before .session .result) (c .before .tallied .result) (c .before .before .before .before .before .before .before .before .before .before .before .before .before .before .before .before .before .before .before .before .before .before .args .out .now) (c .before .before .before .before .before .put-line .last .0) (c .before .before .before .before .before .before .before .before .before .before .before .before .before .before .before .before .before .before .before .before .before .before .args .at) (c .before .before .before .before .before .put-line .result) (c .before .before .before .before .before .before .before .before .before .before .before .before .run-record .ensures) (c .before .before .before .before .before .before .before .before .before .number .ensures) (c .before .before .before .before .before .before .before .before .session .ensures) (c .before .tallied .ensures) (c .before .before .before .before .before .put-line .ensures), ran-onward (c .before .before .before .before .before .before .before .before .before .before .before .before .before .before .before .before .before .before .before .before .before .before .args .sheet .now) (c .before .before .before .before .before .before .before .before .before .before .before .before .before .before .before .before .before .before .before .before .before .before .args .state) (c .before .before .before .before .before .before .before .before .before .before .before .before .before .before .before .before .before .before .before .before .before .before .args .table .now) (c .before .before .before .before .before .before .before .before .before .before .before .before .before .before .before .before .before .before .before .before .before .before .pre .0) (c .before .before .before .before .before .before .before .before .before .before .before .before .before .before .before .before .before .before .if1 .left) (recordOf (c .before .before .before .before .before .before .before .before .before .before .before .before .before .before .before .entry .given .0 .0)) (c .before .before .before .before .before .before .before .before .before .before .before .before .before .before .before .entry .given .0 .1 .0) (record-read (c .before .before .before .before .before .before .before .before .before .before .before .before .before .before)) (c .before .before .before .before .before .before .before .before .before .before .before .before .before .before .before .before .before .before .before .before .before .before .pre .1) (c .before .tallied .result))
+
+pub put-record-spec : {M : Type 1} → statement M
+put-record-spec =
+    tie.close (tie.spec finish-requires same-length returns read-record-requires enum-known-code refusal-number-requires stop-requires enum-known-code-2 stop-requires-2 enum-known-entry run-record-requires number-requires session-requires cast-put-line cast-put-line-2 cast-put-line-3 put-line-requires tallied-requires add-index same-length-2 returns-2 same-length-3 returns-3 same-length-4 same-length-5 returns-4)

@@ -1,0 +1,220 @@
+use board::collect;
+use board::drop;
+use board::open;
+use board::retire;
+use board::swap;
+use board::take;
+use lines::put_end;
+use lines::put_line;
+use reader::Entry;
+use reader::Head;
+use reader::Record;
+use reader::read_header;
+use reader::read_record;
+use reader::refusal_number;
+use reply::Reply;
+use reply::number;
+use reply::session;
+use tally::Tally;
+use tally::tallied;
+ghost use mathlib.Core.Path.{_≡_};
+ghost use mathlib.Core.Bool.{false};
+ghost use mathlib.Core.List.{_++_};
+ghost use Prim.Native.Nat.{_+_, _≤_};
+ghost use lib.ListN.{length};
+ghost use Rattle.rules.specs.Table.{stepTable};
+ghost use Rattle.reply.specs.Answer.{told};
+ghost use Rattle.sheet_rules.specs.Sheet.{callOf, lentTable};
+ghost use Rattle.sheet_rules.specs.Lines.{line, endLine};
+ghost use Rattle.reader.specs.Told.{recordOf};
+ghost use Rattle.lines.specs.Put.{Put};
+ghost use Rattle.tally.specs.Count.{tallyIs};
+ghost use Rattle.sheet.specs.Turn.{Filling, Onward, Started, Turn, endRoom, finishedAt, recordRoom};
+
+// The most bytes of a sheet.
+const MOST_BYTES: usize = 65536;
+
+// The reply number of a sheet that is longer.
+const TOO_LONG: u16 = 18;
+
+// The reply number of a code that is no step's.
+const NO_CODE: u16 = 17;
+
+// The bytes that a turn may need for one record: the longest line, and then the longest last line.
+const ROOM: usize = 151;
+
+// Where the program stands in a sheet: the place and the number of the next record, the tally so far, and whether the last
+// line is printed.
+pub struct State {
+    pub place: usize,
+    pub index: u64,
+    pub tally: Tally,
+    pub finished: bool,
+}
+
+// What a turn leaves: the state after it, and how many bytes of the buffer are to be printed.
+pub struct Filled {
+    pub state: State,
+    pub put: usize,
+}
+
+// The step that a record asks for. (Its code is 1 to 5: the reader keeps the others out.)
+pub fn run_record(table: &mut [u16], entry: Record) -> Reply
+    ensures { λ r. ⌜ told r (now (table .exit)) ≡ stepTable (now (table .entry)) (callOf (recordOf entry)) ⌝ }
+{
+    let code = entry.code;
+    match code {
+        1 => take(table, entry.desk, entry.screen, entry.position),
+        2 => drop(table, entry.desk, entry.screen),
+        3 => swap(table, entry.desk, entry.position, entry.session),
+        4 => retire(table, entry.desk),
+        0 | 5..=65535 => collect(table, entry.desk),
+    }
+}
+
+// The last line.
+// It requires room for it: its callers have kept so much.
+fn finish(out: &mut [u8], at: usize, state: State) -> Filled
+    requires { ⌜ at + endRoom ≤ length (now out) ⌝ }
+    ensures bytes { λ r. ⌜ Put (now (out .entry)) (now (out .exit)) at (endLine (tallyIs (state .tally))) (r .put) ⌝ }
+    ensures state { λ r. ⌜ r .state ≡ finishedAt state ⌝ }
+{
+    let tally = state.tally;
+    let end = put_end(
+        out,
+        at,
+        tally.accepted as u64,
+        tally.refused as u64,
+        tally.handed_back as u64,
+    );
+    Filled {
+        state: State {
+            place: state.place,
+            index: state.index,
+            tally: tally,
+            finished: true,
+        },
+        put: end,
+    }
+}
+
+// The line of what ends the reading, and the last line.
+// It requires room for both: its callers have kept so much.
+fn stop(out: &mut [u8], at: usize, state: State, code: u16, reason: u16) -> Filled
+    requires { ⌜ at + recordRoom ≤ length (now out) ⌝ }
+    ensures bytes { λ r. ⌜ Put (now (out .entry)) (now (out .exit)) at (line (state .index) code reason 0 ++ endLine (tallyIs (state .tally))) (r .put) ⌝ }
+    ensures state { λ r. ⌜ r .state ≡ finishedAt state ⌝ }
+{
+    let next = put_line(out, at, state.index, code as u64, reason as u64, 0);
+    finish(out, next, state)
+}
+
+// The next record: its step and its line, or what ends the reading. After the last record, the last line.
+// It requires room for a line and the last line, and a record number that is at most the place.
+fn put_record(sheet: &[u8], state: State, table: &mut [u16], out: &mut [u8], at: usize) -> Filled
+    requires { ⌜ (state .finished ≡ false) × (state .index ≤ state .place) × (at + recordRoom ≤ length (now out)) ⌝ }
+    ensures filling { λ r. ⌜ Filling (now (sheet .entry)) state (now (table .entry)) (now (out .entry)) at (r .state) (now (table .exit)) (now (out .exit)) (r .put) ⌝ }
+    ensures onward { λ r. ⌜ Onward (now (sheet .entry)) state (r .state) ⌝ }
+{
+    let place = state.place;
+    if sheet.len() <= place {
+        return finish(out, at, state);
+    }
+    match read_record(sheet, place) {
+        Entry::Refused(code, fault) => stop(out, at, state, code, refusal_number(fault)),
+        Entry::NoCode(code) => stop(out, at, state, code, NO_CODE),
+        Entry::Whole(entry, next) => {
+            let r = run_record(table, entry);
+            let reply_number = number(r);
+            let reply_session = session(r);
+            let end = put_line(
+                out,
+                at,
+                state.index,
+                entry.code as u64,
+                reply_number as u64,
+                reply_session as u64,
+            );
+            let was = state.tally;
+            let tally = tallied(was, entry.code, reply_number, reply_session);
+            let index = state.index + 1;
+            Filled {
+                state: State {
+                    place: next,
+                    index: index,
+                    tally: tally,
+                    finished: false,
+                },
+                put: end,
+            }
+        }
+    }
+}
+
+// A turn: record after record, as long as the buffer has room for one more. What it puts and what is still to come are what was to come.
+// It requires room for a record, so that each turn gets on, and a record number that is at most the place, as `start` and `fill` leave it,
+// so that it does not run over.
+pub fn fill(sheet: &[u8], state: State, table: &mut [u16], out: &mut [u8]) -> Filled
+    requires { ⌜ (state .index ≤ state .place) × (recordRoom ≤ length (now out)) ⌝ }
+    ensures { λ r. ⌜ Turn (now (sheet .entry)) state (now (table .entry)) (now (out .entry)) (r .state) (now (table .exit)) (now (out .exit)) (r .put) ⌝ }
+{
+    let mut reached = state;
+    let mut at = 0;
+    while ROOM <= out.len() - at {
+        if reached.finished {
+            return Filled {
+                state: reached,
+                put: at,
+            };
+        }
+        let filled = put_record(sheet, reached, table, out, at);
+        reached = filled.state;
+        at = filled.put;
+    }
+    Filled {
+        state: reached,
+        put: at,
+    }
+}
+
+// The start: the sheet's length, the header and the opening, and the header's line. The table is the one that the program lends.
+// It requires that table, all zeros, and room for a line and the last line.
+pub fn start(sheet: &[u8], table: &mut [u16], out: &mut [u8]) -> Filled
+    requires { ⌜ (now table ≡ lentTable) × (recordRoom ≤ length (now out)) ⌝ }
+    ensures { λ r. ⌜ Started (now (sheet .entry)) (now (out .entry)) (r .state) (now (table .exit)) (now (out .exit)) (r .put) ⌝ }
+{
+    let none = Tally {
+        accepted: 0,
+        refused: 0,
+        handed_back: 0,
+    };
+    let header_state = State {
+        place: 0,
+        index: 0,
+        tally: none,
+        finished: false,
+    };
+    if MOST_BYTES < sheet.len() {
+        return stop(out, 0, header_state, 0, TOO_LONG);
+    }
+    match read_header(sheet, 0) {
+        Head::Refused(fault) => stop(out, 0, header_state, 0, refusal_number(fault)),
+        Head::Whole(header, next) => {
+            let r = open(table, header.desks, header.screens, header.positions);
+            let reply_number = number(r);
+            if reply_number != 0 {
+                return stop(out, 0, header_state, 0, reply_number);
+            }
+            let end = put_line(out, 0, 0, 0, 0, 0);
+            Filled {
+                state: State {
+                    place: next,
+                    index: 1,
+                    tally: none,
+                    finished: false,
+                },
+                put: end,
+            }
+        }
+    }
+}

@@ -1,0 +1,119 @@
+-- A sheet that opens: its records are the board's run from an accepted opening, and the lines are those of that run.
+use Prim.Native.Nat.{ℕ, zero, suc}
+use native.Mathlib.Omega.{arith}
+use mathlib.Core.Path.{_≡_, refl, sym, ap, _∙_, subst}
+use mathlib.Core.Bool.{Bool, true, false, cond}
+use mathlib.Core.List.{List, _++_, append-assoc}
+use lib.ListN.{length}
+use lib.Dec.{leb, ltb}
+use Rattle.rules.specs.Hall.{Hall}
+use Rattle.rules.specs.Steps.{Event}
+use Rattle.rules.specs.Table.{TableDone, openIf, openTable, openedTable, stepTable, runTable}
+use Rattle.rules.specs.Numbers.{Refusal, refusalOf, Got, got, refused}
+use Rattle.sheet_rules.specs.Sheet.{Record, recordFor, callOf, codeOf, isCode, recordAt, Records, more, complete, stop, onward}
+use Rattle.sheet_rules.specs.Sheet.{recordsAt, callsIn, headerAt, lentTable, openingNumber, unopened, opened, openedIf, headed}
+use Rattle.sheet_rules.specs.Sheet.{mostBytes, reading}
+use Rattle.sheet_rules.specs.Tally.{Tally, zeros, counted, tallied, countsIn}
+use Rattle.sheet_rules.specs.Lines.{line, answerLine, endLine, eventLines, endingLine, linesFrom, linesOf, printed}
+use Rattle.sheet_rules.specs.laws.Sheet.{record-got, in-range, false-not-true}
+use Rattle.sheet_rules.specs.laws.Tally.{tally-from-zeros}
+
+-- ---- What a reading that opened had before it.
+pub record Opened (sheet : List ℕ) (hall : Hall) (records : Records) : Type 0 where
+  pub accepted : openingNumber hall ≡ 0
+  pub next : ℕ
+  pub are : records ≡ recordsAt (length sheet) sheet next
+
+unopened-not-opened : {reason : Refusal} {hall : Hall} {records : Records} → unopened reason ≡ opened hall records → ⊥
+unopened-not-opened e = let z : _≡_ {A = ℕ} 0 1 = cc in omega arith
+
+pub opened-from : (sheet : List ℕ) (hall : Hall) (records : Records) → reading sheet ≡ opened hall records → Opened sheet hall records
+unfolding reading
+opened-from sheet hall records e = by-length (leb (length sheet) mostBytes) e
+  where
+    by-number : (found : Hall) (next n : ℕ) → openingNumber found ≡ n
+        → openedIf n found (recordsAt (length sheet) sheet next) ≡ opened hall records
+        → Opened sheet hall records
+    by-number found next zero q opens =
+        let same : found ≡ hall = cc in
+        record { accepted = sym (ap openingNumber same) ∙ q; next = next; are = cc }
+    by-number found next (suc n) q opens = absurd (unopened-not-opened opens)
+
+    by-header : (found : Got Hall) → headed sheet found ≡ opened hall records → Opened sheet hall records
+    by-header (got found next) opens = by-number found next (openingNumber found) refl opens
+    by-header (refused reason) opens = absurd (unopened-not-opened opens)
+
+    by-length : (short : Bool) → cond short (headed sheet (headerAt sheet 0)) (unopened (refusalOf 0 18)) ≡ opened hall records → Opened sheet hall records
+    by-length true opens = by-header (headerAt sheet 0) opens
+    by-length false opens = absurd (unopened-not-opened opens)
+
+pub opening-accepted : (sheet : List ℕ) (hall : Hall) (records : Records) → reading sheet ≡ opened hall records
+    → openTable hall lentTable ≡ record { answer = record { number = 0; session = 0 }; after = openedTable hall lentTable }
+unfolding openTable openingNumber
+opening-accepted sheet hall records e = ap (λ (n : ℕ). openIf n hall lentTable) (opened-from sheet hall records e .accepted)
+
+-- ---- Each record that is read has a step's code, so the step's code is the record's.
+abbrev EachCode : Records → Type 0
+EachCode complete = Unit {0}
+EachCode (stop reason) = Unit {0}
+EachCode (more entry rest) = (isCode (entry .code) ≡ true) × EachCode rest
+
+each-code : (most : ℕ) (sheet : List ℕ) (at : ℕ) → EachCode (recordsAt most sheet at)
+each-code zero sheet at = tt
+each-code (suc most) sheet at = by-place (ltb at (length sheet)) (recordAt sheet at) refl (each-code most sheet)
+  where
+    by-place : (inside : Bool) (found : Got Record) → recordAt sheet at ≡ found → ((next : ℕ) → EachCode (recordsAt most sheet next))
+        → EachCode (cond inside (onward found (λ entry next. more entry (recordsAt most sheet next))) complete)
+    by-place true (got entry next) e later = (record-got sheet at entry next e .good .code, later next)
+    by-place true (refused reason) e later = tt
+    by-place false found e later = tt
+
+code-of-call : (code desk screen position session : ℕ) → isCode code ≡ true → codeOf (callOf (recordFor code desk screen position session)) ≡ code
+code-of-call zero desk screen position session good = absurd (false-not-true good)
+code-of-call (suc zero) desk screen position session good = refl
+code-of-call (suc (suc zero)) desk screen position session good = refl
+code-of-call (suc (suc (suc zero))) desk screen position session good = refl
+code-of-call (suc (suc (suc (suc zero)))) desk screen position session good = refl
+code-of-call (suc (suc (suc (suc (suc zero))))) desk screen position session good = refl
+code-of-call (suc (suc (suc (suc (suc (suc n)))))) desk screen position session good = absurd (omega (arith, in-range (suc (suc (suc (suc (suc (suc n)))))) 5 good))
+
+-- ---- The lines are those of the run.
+lines-from : (table : List ℕ) (index : ℕ) (total : Tally) (records : Records) → EachCode records
+    → linesFrom table index total records
+    ≡ eventLines index (runTable table (callsIn records))
+    ++ (endingLine index records ++ endLine (tallied total (runTable table (callsIn records))))
+lines-from table index total complete codes = refl
+lines-from table index total (stop reason) codes = refl
+lines-from table index total (more entry rest) codes =
+    let done : TableDone = stepTable table (callOf entry) in
+    let first : List ℕ = answerLine index (entry .code) (done .answer) in
+    let event : Event = record { call = callOf entry; answer = done .answer } in
+    let events : List Event = runTable (done .after) (callsIn rest) in
+    let last : List ℕ = endingLine (suc index) rest ++ endLine (tallied (counted total event) events) in
+    ap (λ (lines : List ℕ). first ++ lines) (lines-from (done .after) (suc index) (counted total event) rest (codes .1))
+    ∙ sym (append-assoc first (eventLines (suc index) events) last)
+    ∙ ap (λ (code : ℕ). (answerLine index code (done .answer) ++ eventLines (suc index) events) ++ last)
+    (sym (code-of-call (entry .code) (entry .desk) (entry .screen) (entry .position) (entry .session) (codes .0)))
+
+pub lines-of-run : (sheet : List ℕ) (hall : Hall) (records : Records) → reading sheet ≡ opened hall records
+    → printed sheet
+    ≡ line 0 0 0 0
+    ++ (eventLines 1 (runTable (openTable hall lentTable .after) (callsIn records))
+    ++ (endingLine 1 records ++ endLine (countsIn (runTable (openTable hall lentTable .after) (callsIn records)))))
+unfolding printed
+lines-of-run sheet hall records e =
+    ap linesOf e
+    ∙ ap (λ (lines : List ℕ). answerLine 0 0 (openTable hall lentTable .answer) ++ lines) (lines-from table 1 zeros records codes)
+    ∙ ap (λ (total : Tally). answerLine 0 0 (openTable hall lentTable .answer) ++ (eventLines 1 events ++ (endingLine 1 records ++ endLine total)))
+    (tally-from-zeros events)
+    ∙ ap (λ (done : TableDone). answerLine 0 0 (done .answer) ++ (eventLines 1 events ++ (endingLine 1 records ++ endLine (countsIn events))))
+    (opening-accepted sheet hall records e)
+  where
+    table : List ℕ
+    table = openTable hall lentTable .after
+
+    events : List Event
+    events = runTable table (callsIn records)
+
+    codes : EachCode records
+    codes = let was = opened-from sheet hall records e in subst EachCode (sym (was .are)) (each-code (length sheet) sheet (was .next))
