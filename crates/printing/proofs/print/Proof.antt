@@ -42,7 +42,7 @@ same-length-2 : tie.Need-same-length-2 Inv-loop μ-loop
 same-length-2 c = omega (arith, c .before .before .loop .inv .3)
 
 returns : tie.Need-returns Inv-loop μ-loop
-returns c = λ (all : true ≡ true). sym (at-end (c .before .before .before .before .before .before .before .before .before .before .before .before .before .before .before .before .args .sheet .now) (c .before .before .loop .state) (c .before .before .loop .table) (c .if1 .taken)) ∙ c .before .before .loop .inv .4
+returns c = λ all. sym (at-end (c .before .before .before .before .before .before .before .before .before .before .before .before .before .before .before .before .args .sheet .now) (c .before .before .loop .state) (c .before .before .loop .table) (c .if1 .taken)) ∙ c .before .before .loop .inv .4
 
 fill-requires : tie.Need-fill-requires Inv-loop μ-loop
 fill-requires c κs = (c .before .before .before .before .loop .inv .0, c .before .before .before .before .loop .inv .1)
