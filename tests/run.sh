@@ -64,6 +64,8 @@ step "building sheets" 0 build sheets
 step "building the sheet program in Rust" 0 build reference
 step "sheets" 1 "$CARGO_TARGET_DIR/release/sheets" "$program" \
     "$CARGO_TARGET_DIR/release/day_sheet_reference"
+step "sheet_cases" 1 "$root/tests/sheet_cases.py" --check --reference \
+    "$CARGO_TARGET_DIR/release/day_sheet_reference"
 step "tool" 1 "$root/tests/tool.sh" "$program"
 step "building the example" 0 link "$root/examples/host.c" host_example
 step "the example" 0 "$CARGO_TARGET_DIR/host_example"

@@ -1,18 +1,21 @@
--- `day_sheet::print` meets its contract: it is safe, and it ends.
+-- `printing::print` meets its contract: it is safe, and it ends.
 use native.Mathlib.Omega.{arith}
 use Prim.Native.Nat.{_≤_}
-use mathlib.Core.Path.{_≡_, sym}
+use mathlib.Core.Path.{_≡_, sym, _∙_}
+use mathlib.Core.Bool.{true, false}
 use lib.ListN.{length}
 use lib.Seq.{length-take-le}
 use borrow.Author.Needs.{needs}
 use Rattle.sheet.specs.Turn.{recordRoom, turnsLeft}
 use Rattle.sheet.specs.laws.Turns.{some-left}
-use Rattle.day_sheet.proofs.print.Statement.{statement}
-use Rattle.day_sheet.proofs.print.Tie as tie
+use Rattle.printing.proofs.RunLaws.{tableToCome, sheetTable, at-start, at-turn, at-end}
+use Rattle.printing.proofs.print.Statement.{statement}
+use Rattle.printing.proofs.print.Tie as tie
 
 abbrev Inv-loop : tie.InvT-loop
 Inv-loop sheet table₀ out₀ put₀ state₀ printed₀ table out state printed =
     (state .index ≤ state .place) × (recordRoom ≤ length out) × (length table ≡ length table₀) × (length out ≡ length out₀)
+    × (tableToCome sheet state table ≡ sheetTable sheet)
 
 abbrev μ-loop : tie.MeasureT-loop
 μ-loop sheet table₀ out₀ put₀ state₀ printed₀ table out state printed = turnsLeft sheet state
@@ -30,7 +33,7 @@ write-all-requires : tie.Need-write-all-requires Inv-loop μ-loop
 write-all-requires c κs = search needs
 
 loop-holds : tie.Need-loop-holds Inv-loop μ-loop
-loop-holds c = (c .before .before .before .before .before .before .before .start .ensures .numbered, omega (arith, c .before .before .before .before .before .before .before .before .before .before .before .before .before .pre .1, c .before .before .before .before .before .before .before .start .kept .1 .1 .0), omega (arith, c .before .before .before .before .before .before .before .start .kept .1 .0), omega (arith, c .before .before .before .before .before .before .before .start .kept .1 .1 .0))
+loop-holds c = (c .before .before .before .before .before .before .before .start .ensures .numbered, omega (arith, c .before .before .before .before .before .before .before .before .before .before .before .before .before .pre .1, c .before .before .before .before .before .before .before .start .kept .1 .1 .0), omega (arith, c .before .before .before .before .before .before .before .start .kept .1 .0), omega (arith, c .before .before .before .before .before .before .before .start .kept .1 .1 .0), at-start (c .before .before .before .before .before .before .before .start .ensures))
 
 same-length : tie.Need-same-length Inv-loop μ-loop
 same-length c = omega (arith, c .before .before .loop .inv .2)
@@ -39,7 +42,7 @@ same-length-2 : tie.Need-same-length-2 Inv-loop μ-loop
 same-length-2 c = omega (arith, c .before .before .loop .inv .3)
 
 returns : tie.Need-returns Inv-loop μ-loop
-returns c = search needs
+returns c = λ all. sym (at-end (c .before .before .before .before .before .before .before .before .before .before .before .before .before .before .before .before .args .sheet .now) (c .before .before .loop .state) (c .before .before .loop .table) (c .if1 .taken)) ∙ c .before .before .loop .inv .4
 
 fill-requires : tie.Need-fill-requires Inv-loop μ-loop
 fill-requires c κs = (c .before .before .before .before .loop .inv .0, c .before .before .before .before .loop .inv .1)
@@ -57,7 +60,7 @@ loop-less : tie.Need-loop-less Inv-loop μ-loop
 loop-less c = omega (arith, c .before .before .before .before .before .before .before .fill .ensures .onward .fewer, some-left (c .before .before .before .before .before .before .before .before .before .before .before .before .before .before .before .before .before .before .before .before .before .before .before .before .before .before .args .sheet .now) (c .before .before .before .before .before .before .before .before .before .before .before .before .loop .state) (c .before .before .before .before .before .before .before .before .before .before .if1 .left))
 
 loop-again : tie.Need-loop-again Inv-loop μ-loop
-loop-again c = (c .before .before .before .before .before .before .before .fill .ensures .onward .numbered, omega (arith, c .before .before .before .before .before .before .before .before .before .before .before .before .loop .inv .1, c .before .before .before .before .before .before .before .fill .kept .1 .1 .1 .0), omega (arith, c .before .before .before .before .before .before .before .before .before .before .before .before .loop .inv .2, c .before .before .before .before .before .before .before .fill .kept .1 .1 .0), omega (arith, c .before .before .before .before .before .before .before .before .before .before .before .before .loop .inv .3, c .before .before .before .before .before .before .before .fill .kept .1 .1 .1 .0))
+loop-again c = (c .before .before .before .before .before .before .before .fill .ensures .onward .numbered, omega (arith, c .before .before .before .before .before .before .before .before .before .before .before .before .loop .inv .1, c .before .before .before .before .before .before .before .fill .kept .1 .1 .1 .0), omega (arith, c .before .before .before .before .before .before .before .before .before .before .before .before .loop .inv .2, c .before .before .before .before .before .before .before .fill .kept .1 .1 .0), omega (arith, c .before .before .before .before .before .before .before .before .before .before .before .before .loop .inv .3, c .before .before .before .before .before .before .before .fill .kept .1 .1 .1 .0), at-turn (c .before .before .before .before .before .before .before .fill .ensures .piece) ∙ c .before .before .before .before .before .before .before .before .before .before .before .before .loop .inv .4)
 
 same-length-3 : tie.Need-same-length-3 Inv-loop μ-loop
 same-length-3 c = omega (arith, c .before .loop .inv .2)
@@ -66,7 +69,7 @@ same-length-4 : tie.Need-same-length-4 Inv-loop μ-loop
 same-length-4 c = omega (arith, c .before .loop .inv .3)
 
 returns-2 : tie.Need-returns-2 Inv-loop μ-loop
-returns-2 c = search needs
+returns-2 c = λ (all : false ≡ true). cc
 
 pub print-spec : {M : Type 1} → statement M
 print-spec =

@@ -1,0 +1,56 @@
+// Prints the lines of one sheet after another: the cases that `tests/sheet_cases.py` lists. Standard input has each sheet after its
+// length, three bytes, low byte first.
+use board::Board;
+use printing::print;
+
+// Standard input and output.
+const INPUT: i32 = 0;
+
+const OUTPUT: i32 = 1;
+
+// One byte more than a sheet may have, as the sheet program has it: a longer sheet would be read no further.
+const BYTES: usize = 65537;
+
+// The most cases.
+const MOST_CASES: u64 = 1000;
+
+// The length that three bytes say.
+fn length_of(low: u8, middle: u8, high: u8) -> usize {
+    low as usize + middle as usize * 256 + high as usize * 65536
+}
+
+// A line with the number of a case.
+fn print_title(case: u64) {
+    io::write_all(OUTPUT, b"case ");
+    io::print_decimal(OUTPUT, case);
+    io::write_all(OUTPUT, b"\n");
+}
+
+// Reads the next sheet into a buffer and prints its lines. It answers false where there is no whole sheet, or none that fits, or the
+// output takes no more.
+fn print_next(case: u64, bytes: &mut [u8]) -> bool {
+    let mut length = [0u8; 3];
+    if io::read_full(INPUT, &mut length) < 3 {
+        return false;
+    }
+    let n = length_of(length[0], length[1], length[2]);
+    if bytes.len() < n {
+        return false;
+    }
+    if io::read_full(INPUT, &mut bytes[..n]) < n {
+        return false;
+    }
+    print_title(case);
+    let mut table = [0u16; Board::MOST_WORDS];
+    let mut out = io::large_buffer();
+    print(&bytes[..n], &mut table, &mut out)
+}
+
+fn main() {
+    let mut bytes = [0u8; BYTES];
+    for case in 1..=MOST_CASES {
+        if !print_next(case, &mut bytes) {
+            return;
+        }
+    }
+}

@@ -1,0 +1,115 @@
+#!/usr/bin/env python3
+"""The cases that the program sheet_cases is run on: writes its stored input and output from the list tests/sheet_cases.txt.
+
+usage: tests/sheet_cases.py                         writes crates/sheet_cases/stdin and stdout
+       tests/sheet_cases.py --check                 says whether the stored files are those of the list
+       tests/sheet_cases.py --reference PROGRAM     runs PROGRAM, which prints one sheet, on each case and compares
+       tests/sheet_cases.py --list                  the numbers and names of the cases
+
+The last line is 'sheet_cases: ..', and the exit status is 0 only if all agree.
+"""
+import argparse
+import collections
+import pathlib
+import subprocess
+import sys
+
+ROOT = pathlib.Path(__file__).resolve().parent.parent
+LIST = ROOT / 'tests' / 'sheet_cases.txt'
+STORED = ROOT / 'crates' / 'sheet_cases'
+
+MOST_BYTES = 65_536
+
+# A case: the bytes of a sheet, and the lines that document 01 gives for it.
+Case = collections.namedtuple('Case', 'name sheet lines')
+
+
+def listed():
+    """The cases of the list. Its first lines say how it is written."""
+    cases = []
+    for number, row in enumerate(LIST.read_text().splitlines(), 1):
+        if not row.strip() or row.startswith('#'):
+            continue
+        try:
+            if not row.startswith(' '):
+                name, *rest = [part.strip() for part in row.split('|')]
+                sheet = bytes.fromhex(rest[0]) if rest else b''
+                cases.append(Case(name, sheet, rest[1:]))
+            else:
+                of_record, line = [part.strip() for part in row.split('|')]
+                last = cases[-1]
+                cases[-1] = Case(last.name, last.sheet + bytes.fromhex(of_record), last.lines + [line] * (line != ''))
+        except (ValueError, IndexError) as error:
+            sys.exit(f'{LIST}:{number}: {error}')
+    return cases
+
+
+def longest():
+    """The cases of 65,536 bytes and of one more."""
+    # Sessions come and go in a hall of 1, 1, 1: a swap to 65,535, a swap to 0, a retire, a collect. Every number has three bytes.
+    one, none = '81 80 00', '80 80 00'
+    swap, retire, collect = f'83 80 00 {one} {one}', f'84 80 00 {one}', f'85 80 00 {one}'
+    turn = bytes.fromhex(f'{swap} FF FF 03 {swap} {none} {retire} {collect}')
+    lines = ['0 0 0 0']
+    for record in range(0, 4 * 1820, 4):
+        lines += [f'{record + 1} 3 0 0', f'{record + 2} 3 0 65535', f'{record + 3} 4 0 65535', f'{record + 4} 5 0 65535']
+    sheet = bytes.fromhex('81 00 01 01') + 1820 * turn + bytes.fromhex(f'{swap} FF FF 03')
+    assert len(sheet) == MOST_BYTES
+    return [
+        Case('the longest sheet, read to its end', sheet, [*lines, '7281 3 0 0', 'end 7281 0 1820']),
+        Case('one byte more: nothing is run', sheet + b'\x05', ['0 0 18 0', 'end 0 0 0']),
+        Case('65,536 zeros: P is 0', bytes(MOST_BYTES), ['0 0 1 0', 'end 0 0 0']),
+        Case('65,537 zeros: 18 is asked before P', bytes(MOST_BYTES + 1), ['0 0 18 0', 'end 0 0 0']),
+    ]
+
+
+def text(lines):
+    return ''.join(f'{line}\n' for line in lines).encode()
+
+
+def stored(cases):
+    """What the files stdin and stdout have: each sheet after its length, and its lines after its number."""
+    stdin = b''.join(len(case.sheet).to_bytes(3, 'little') + case.sheet for case in cases)
+    stdout = b''.join(text([f'case {number}', *case.lines]) for number, case in enumerate(cases, 1))
+    return {STORED / 'stdin': stdin, STORED / 'stdout': stdout}
+
+
+def compared(cases, program):
+    """Says where the program prints something else."""
+    wrong = 0
+    for number, case in enumerate(cases, 1):
+        found = subprocess.run([program], input=case.sheet, stdout=subprocess.PIPE, check=True).stdout
+        if found != text(case.lines):
+            wrong += 1
+            print(f'case {number}, {case.name}: it printed', *found.decode(errors='replace').splitlines()[-3:], sep='\n    ')
+    return wrong
+
+
+def main():
+    parser = argparse.ArgumentParser(usage=__doc__)
+    parser.add_argument('--check', action='store_true')
+    parser.add_argument('--reference', metavar='PROGRAM')
+    parser.add_argument('--list', action='store_true')
+    options = parser.parse_args()
+    cases = listed() + longest()
+    wrong = 0
+    if options.list:
+        for number, case in enumerate(cases, 1):
+            print(number, case.name)
+        return 0
+    if options.check:
+        for path, content in stored(cases).items():
+            if not path.exists() or path.read_bytes() != content:
+                wrong += 1
+                print(f"{path.relative_to(ROOT)} is not of today's list ('tests/sheet_cases.py' writes it)")
+    if options.reference:
+        wrong += compared(cases, options.reference)
+    if not options.check and not options.reference:
+        for path, content in stored(cases).items():
+            path.write_bytes(content)
+    print(f'sheet_cases: {len(cases)} cases' + (f', {wrong} wrong' if wrong else ''))
+    return 1 if wrong else 0
+
+
+if __name__ == '__main__':
+    sys.exit(main())
