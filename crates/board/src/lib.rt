@@ -64,6 +64,7 @@ fn in_range(n: u16, most: usize) -> bool
 }
 
 // Where the record of desk d stands, with d counted from 0, in a hall of l positions and s screens.
+// It requires numbers within the limits: a sound table tells them. Desk P's end is the start of a desk after it.
 pub fn record_start(l: usize, s: usize, d: usize) -> usize
     requires { ⌜ (l ≤ 64) × (s ≤ 64) × (d ≤ 16) ⌝ }
     ensures { λ r. ⌜ (r ≡ 3 + l + s + d * (13 + 2 * s)) × (r ≤ 2387) ⌝ }

@@ -90,7 +90,7 @@ fn decode(bytes: &[u8], n: usize, words: &mut [u16])
     }
 }
 
-// The first n words, written over the bytes that they were read from. It requires that both are long enough: `seen` told n.
+// The first n words, written over the first bytes. It requires that both are long enough.
 fn encode(words: &[u16], n: usize, bytes: &mut [u8])
     requires { ⌜ (n ≤ length (now words)) × (2 * n ≤ length (now bytes)) ⌝ }
     ensures { λ _. ⌜ now (bytes .exit) ≡ laidOver (takeWords n (now (words .entry))) (now (bytes .entry)) ⌝ }
@@ -113,7 +113,8 @@ fn encode_part(words: &[u16], a: usize, e: usize, bytes: &mut [u8])
 }
 
 // The words after an accepted step of a desk, laid over the bytes that they were read from: the positions and the screens, and
-// the desk's record. It requires that the others are as they were: the rules tell it of every accepted step.
+// the desk's record. Words 0 to 2 tell where these stand. It requires that the others are as they were: the rules tell it of
+// every accepted step.
 fn write_back(words: &[u16], desk: u16, table: &mut [u8])
     requires { ⌜ Rewritten desk (takeWords (length (now words)) (wordsOfBytes (now table))) (now words) × (2 * length (now words) ≤ length (now table)) ⌝ }
     ensures { λ _. ⌜ now (table .exit) ≡ laidOver (now (words .entry)) (now (table .entry)) ⌝ }
