@@ -2,12 +2,13 @@
  * The session board: six calls over a table that the host lends.
  *
  * The table is bytes, two to a 16-bit word, low byte first; its length is
- * given in bytes. It may stand at any address. A call reads and writes the
- * words up to the need of the hall that the table's first three words tell
- * (the opening: of the hall that it is given), and writes those that its step
- * does not change as they were; so the table is the call's alone while it
- * runs. Words past the need and an odd last byte are never touched. The table
- * may be NULL only if its length is 0.
+ * given in bytes. It may stand at any address. A call reads the words up to the
+ * need of the hall that the table's first three words tell. An accepted step
+ * writes the positions, the screens and the record of its desk, the words that
+ * it does not change as they were; so the table is the call's alone while it
+ * runs. The opening writes up to the need of the hall that it is given. Words
+ * past the need and an odd last byte are never touched. The table may be NULL
+ * only if its length is 0.
  *
  * Desk, screen and position numbers start at 1. Sessions are 1 to 65535; 0
  * means "none". Every call, whatever its numbers and bytes, gives an answer:

@@ -13,6 +13,7 @@ ghost use lib.ListN.{length, drop as dropWords};
 ghost use Rattle.rules.specs.Hall.{hallOf};
 ghost use Rattle.rules.specs.Steps.{Collect, Drop, Retire, Swap, Take, inRange};
 ghost use Rattle.rules.specs.Table.{everyRecord, need as hallNeed, openTable, pieces, recordSound, sound as soundTable, stepTable};
+ghost use Rattle.rules.specs.laws.Window.{deskIn};
 ghost use Rattle.reply.specs.Answer.{answerOf, told};
 ghost use Rattle.board.specs.Entry.{entryOf};
 ghost use Rattle.board.specs.Asked.{callOf};
@@ -63,7 +64,8 @@ fn in_range(n: u16, most: usize) -> bool
 }
 
 // Where the record of desk d stands, with d counted from 0, in a hall of l positions and s screens.
-fn record_start(l: usize, s: usize, d: usize) -> usize
+// It requires numbers within the limits: a sound table tells them. Desk P's end is the start of a desk after it.
+pub fn record_start(l: usize, s: usize, d: usize) -> usize
     requires { ⌜ (l ≤ 64) × (s ≤ 64) × (d ≤ 16) ⌝ }
     ensures { λ r. ⌜ (r ≡ 3 + l + s + d * (13 + 2 * s)) × (r ≤ 2387) ⌝ }
 {
@@ -320,6 +322,19 @@ pub enum Call {
     Swap(u16, u16, u16),
     Retire(u16),
     Collect(u16),
+}
+
+// The desk that a call names.
+pub fn desk_of(call: Call) -> u16
+    ensures { λ r. ⌜ r ≡ deskIn (callOf call) ⌝ }
+{
+    match call {
+        Call::Take(desk, _, _) => desk,
+        Call::Drop(desk, _) => desk,
+        Call::Swap(desk, _, _) => desk,
+        Call::Retire(desk) => desk,
+        Call::Collect(desk) => desk,
+    }
 }
 
 // The step that a call asks for.

@@ -3,14 +3,14 @@ use Prim.Native.Nat.{ℕ, zero, suc, _+_, _-_, _*_, _%_, _≤_, _<_}
 use native.Mathlib.Omega.{arith}
 use mathlib.Core.Bool.{Bool, true, false, _&&_, cond}
 use mathlib.Core.List.{List}
-use mathlib.Core.Path.{_≡_, refl, sym, ap, _∙_}
+use mathlib.Core.Path.{_≡_, refl, sym, ap, ap₂, _∙_}
 use lib.Dec.{eqb, leb, ltb, eqb·suc-zero}
 use lib.ListN.{length, getD, take, drop, length-drop}
 use lib.Seq.{drop-drop, take-all}
 use borrow.Author.Tests.{le-leb, lt-leb}
 use Rattle.rules.specs.Table.{scanSound}
 use Rattle.marks.specs.Words.{allZero, noneZero}
-use Rattle.marks.specs.Marks.{marks}
+use Rattle.marks.specs.Marks.{marks, onesIn}
 use Rattle.desk.proofs.WordDesk.{used, places, markWords, soundRead}
 
 -- k fits the number of tested places: the rules' clauses, as one test
@@ -41,8 +41,9 @@ module _ (s : ℕ) (r : List ℕ) (n t : ℕ) (en : n ≡ used r) (et : t ≡ ge
       ap (λ (k : ℕ). allZero (drop k (drop 13 r))) (sym en) ∙ ap allZero (drop-drop n 13 r ∙ sym (take-all (length r - (13 + n)) (drop (13 + n) r) h))
       ∙ sym p ∙ q
 
-  pub mark-part : {x v : Bool} → x ≡ allZero (drop t (marks (take 8 (drop 5 r)))) → x ≡ v → allZero (drop (getD r 3 0) (marks (markWords r))) ≡ v
-  mark-part p q = ap (λ (k : ℕ). allZero (drop k (marks (markWords r)))) (sym et) ∙ sym p ∙ q
+  pub marks-part : {x : Bool} (k : ℕ) → k ≡ getD r 1 0 → x ≡ allZero (drop t (marks (take 8 (drop 5 r)))) && leb (onesIn (take 8 (drop 5 r))) k
+      → x ≡ allZero (drop (getD r 3 0) (marks (markWords r))) && leb (onesIn (markWords r)) (getD r 1 0)
+  marks-part k ek p = p ∙ ap₂ (λ (m j : ℕ). allZero (drop m (marks (markWords r))) && leb (onesIn (markWords r)) j) et ek
 
   pub read-part : {x v : Bool} (k : ℕ) → k ≡ getD r 1 0 → x ≡ scanSound s t k → x ≡ v → soundRead s (getD r 3 0) (getD r 1 0) ≡ v
   read-part k ek p q = sym (rw (← ek, ← et) (sym q ∙ p ∙ sym (sound-read-is s t k)))

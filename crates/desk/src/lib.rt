@@ -1,6 +1,6 @@
 use marks::all_zero;
 use marks::clear;
-use marks::clear_from;
+use marks::few_marks;
 use marks::find_place;
 use marks::mark_place;
 use marks::move_up;
@@ -81,14 +81,11 @@ pub fn sound_record(r: &[u16], s: usize) -> bool
     if !all_zero(&r[LIST + n..]) {
         return false;
     }
-    if !clear_from(&r[MARKS..LIST], tested) {
-        return false;
-    }
     let k = word(r, SCANNED);
     if !sound_scan(s, tested, k) {
         return false;
     }
-    ones(&r[MARKS..LIST]) <= k
+    few_marks(&r[MARKS..LIST], tested, k)
 }
 
 // Retire, on a desk's record: the owed session goes to the end of the list as waiting; nothing is owed; the reply is that session.

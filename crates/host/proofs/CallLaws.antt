@@ -1,16 +1,17 @@
 -- A step that decodes the front of the table, calls the board and encodes what it left does what the rules do on the bytes.
 use Prim.Native.Nat.{ℕ, zero, suc, _≤_}
 use native.Mathlib.Omega.{arith}
-use mathlib.Core.Path.{_≡_, refl, sym, ap, _∙_}
+use mathlib.Core.Path.{_≡_, refl, sym, ap, subst, subst₂, _∙_}
 use mathlib.Core.List.{List, _++_}
 use lib.ListN.{length, take, drop}
 use lib.Seq.{length-take-le, take-at}
 use Rattle.rules.specs.Steps.{Call}
 use Rattle.rules.specs.Table.{TableDone, hallIn, stepTable}
-use Rattle.rules.specs.Bytes.{IsBytes, laidOver, reply, stepBytes, wordsOfBytes}
+use Rattle.rules.specs.Bytes.{IsBytes, Words16, laidOver, reply, stepBytes, wordsOfBytes}
 use Rattle.rules.specs.laws.Bytes.{words-are-16}
 use Rattle.rules.specs.laws.Decoding.{small-take}
 use Rattle.rules.specs.laws.Front.{front-laid-back, step-on-front}
+use Rattle.rules.specs.laws.Window.{Rewritten, deskIn, step-rewritten}
 use Rattle.rules.specs.laws.Words16.{step-length, step-refused}
 use Rattle.reply.specs.declared.Reply.{Reply}
 use Rattle.reply.specs.Answer.{answerOf, told}
@@ -29,15 +30,26 @@ module _ (n number : ℕ) (call : Call) (buffer bytes after : List ℕ) (r : Rep
   refusal-told refused =
       record { answer = answer-is; written = λ z. absurd (refused (number-is ∙ z)); refused = λ _. refl }
 
-  pub step-told : answerOf r .number ≡ 0 → n ≤ length buffer → length after ≡ length (take n buffer) → (out : List ℕ)
-      → out ≡ laidOver (take n (after ++ drop n buffer)) bytes → Told number call (take n buffer) bytes out
-  step-told accepted room as-long out laid =
-      let lent : take n (after ++ drop n buffer) ≡ after = take-at after (drop n buffer) n (as-long ∙ length-take-le n buffer room) in
-      record {
-        answer = answer-is;
-        written = λ _. laid ∙ ap (λ (words : List ℕ). laidOver words bytes) (lent ∙ ap (λ (d : TableDone). d .after) e);
-        refused = λ no-step. absurd (no-step (sym number-is ∙ accepted));
-      }
+  module _ (accepted : answerOf r .number ≡ 0) (room : n ≤ length buffer) (as-long : length after ≡ length (take n buffer)) where
+    lent-is : take n (after ++ drop n buffer) ≡ after
+    lent-is = take-at after (drop n buffer) n (as-long ∙ length-take-le n buffer room)
+
+    -- only the two parts of its desk are other words than those of the bytes
+    pub step-rewrote : Words16 buffer → take n buffer ≡ take n (wordsOfBytes bytes) → (d : ℕ) → d ≡ deskIn call
+        → Rewritten d (take (length (take n (after ++ drop n buffer))) (wordsOfBytes bytes)) (take n (after ++ drop n buffer))
+    step-rewrote small read d is =
+        let left : stepTable (take n buffer) call .after ≡ take n (after ++ drop n buffer) = ap (λ (s : TableDone). s .after) (sym e) ∙ sym lent-is in
+        let long : n ≡ length (take n (after ++ drop n buffer)) = sym (ap length lent-is ∙ as-long ∙ length-take-le n buffer room) in
+        subst (λ (x : ℕ). Rewritten x (take (length (take n (after ++ drop n buffer))) (wordsOfBytes bytes)) (take n (after ++ drop n buffer))) (sym is)
+        (subst₂ (λ (x y : List ℕ). Rewritten (deskIn call) x y) (read ∙ ap (λ (k : ℕ). take k (wordsOfBytes bytes)) long) left (step-rewritten (take n buffer) (small-take n buffer small) call (sym number-is ∙ accepted)))
+
+    pub step-told : (out : List ℕ) → out ≡ laidOver (take n (after ++ drop n buffer)) bytes → Told number call (take n buffer) bytes out
+    step-told out laid =
+        record {
+          answer = answer-is;
+          written = λ _. laid ∙ ap (λ (words : List ℕ). laidOver words bytes) (lent-is ∙ ap (λ (d : TableDone). d .after) e);
+          refused = λ no-step. absurd (no-step (sym number-is ∙ accepted));
+        }
 
 -- Of the first m words n are there, and the step was on these.
 pub step-heard : (m n number : ℕ) (bytes words out : List ℕ) (call : Call) → IsBytes bytes → Front (hallIn (wordsOfBytes bytes)) m → Seen bytes m n

@@ -2,4 +2,5 @@
 pub mod WordLaws
 pub mod FrontLaws
 pub mod CallLaws
+pub mod PartLaws
 pub mod OpenLaws

@@ -7,14 +7,14 @@ use lib.ListN.{length, take, drop, replicate, length-drop, length-replicate}
 use lib.Seq.{length-take-le, drop-drop}
 use Rattle.rules.specs.Hall.{Hall}
 use Rattle.rules.specs.Steps.{firstNo}
-use Rattle.rules.specs.Table.{TableDone, mostWords, need, openQuestions, openTable}
+use Rattle.rules.specs.Table.{TableDone, need, openQuestions, openTable}
 use Rattle.rules.specs.Bytes.{IsBytes, bytesOfWords, laidOver, onBytes, openBytes, reply, wordsOfBytes}
 use Rattle.rules.specs.laws.Front.{laid-front}
 use Rattle.rules.specs.laws.Prefix.{need-at-most}
 use Rattle.rules.specs.laws.Tables.{hall-opens}
 use Rattle.rules.specs.laws.TableSteps.{accepted-open}
 use Rattle.reply.specs.declared.Reply.{Reply}
-use Rattle.reply.specs.Answer.{answerOf, told}
+use Rattle.reply.specs.Answer.{answerOf}
 use Rattle.board.proofs.OpenLaws.{is-opened, not-opened}
 use Rattle.rules.specs.laws.Bytes.{laid-back}
 use Rattle.host.specs.Heard.{heard}

@@ -1,6 +1,8 @@
 use board::Board;
 use board::Call;
+use board::desk_of;
 use board::opening;
+use board::record_start;
 use board::step;
 use reply::number;
 use reply::packed;
@@ -11,6 +13,7 @@ ghost use Rattle.rules.specs.Hall.{hallOf};
 ghost use Rattle.rules.specs.Steps.{Take, Drop, Swap, Retire, Collect};
 ghost use Rattle.rules.specs.Table.{hallIn};
 ghost use Rattle.rules.specs.Bytes.{wordsOfBytes, laidOver, openBytes, stepBytes};
+ghost use Rattle.rules.specs.laws.Window.{Rewritten, partLaid};
 ghost use Rattle.board.specs.Asked.{callOf};
 ghost use Rattle.host.specs.Heard.{heard, Front, Seen, Told};
 
@@ -87,7 +90,7 @@ fn decode(bytes: &[u8], n: usize, words: &mut [u16])
     }
 }
 
-// The first n words, written over the bytes that they were read from. It requires that both are long enough: `seen` told n.
+// The first n words, written over the first bytes. It requires that both are long enough.
 fn encode(words: &[u16], n: usize, bytes: &mut [u8])
     requires { ⌜ (n ≤ length (now words)) × (2 * n ≤ length (now bytes)) ⌝ }
     ensures { λ _. ⌜ now (bytes .exit) ≡ laidOver (takeWords n (now (words .entry))) (now (bytes .entry)) ⌝ }
@@ -101,6 +104,31 @@ fn encode(words: &[u16], n: usize, bytes: &mut [u8])
     }
 }
 
+// The words from place a up to e, written over their own bytes. It requires that both are long enough.
+fn encode_part(words: &[u16], a: usize, e: usize, bytes: &mut [u8])
+    requires { ⌜ (a ≤ e) × (e ≤ length (now words)) × (2 * e ≤ length (now bytes)) ⌝ }
+    ensures { λ _. ⌜ now (bytes .exit) ≡ partLaid a e (now (words .entry)) (now (bytes .entry)) ⌝ }
+{
+    encode(&words[a..e], e - a, &mut bytes[2 * a..2 * e]);
+}
+
+// The words after an accepted step of a desk, laid over the bytes that they were read from: the positions and the screens, and
+// the desk's record. Words 0 to 2 tell where these stand. It requires that the others are as they were: the rules tell it of
+// every accepted step.
+fn write_back(words: &[u16], desk: u16, table: &mut [u8])
+    requires { ⌜ Rewritten desk (takeWords (length (now words)) (wordsOfBytes (now table))) (now words) × (2 * length (now words) ≤ length (now table)) ⌝ }
+    ensures { λ _. ⌜ now (table .exit) ≡ laidOver (now (words .entry)) (now (table .entry)) ⌝ }
+{
+    let l = words[2] as usize;
+    let s = words[0] as usize * words[1] as usize;
+    let d = desk as usize;
+    let records = record_start(l, s, 0);
+    let start = record_start(l, s, d - 1);
+    let end = record_start(l, s, d);
+    encode_part(words, HEADER, records, table);
+    encode_part(words, start, end, table);
+}
+
 // Each byte becomes 0.
 fn clear(bytes: &mut [u8])
     ensures { λ _. ⌜ now (bytes .exit) ≡ replicate (length (now (bytes .entry))) 0 ⌝ }
@@ -112,17 +140,17 @@ fn clear(bytes: &mut [u8])
     }
 }
 
-// A step on the first n words of a table, which stand in a buffer: what it leaves is written over the bytes; a refusal writes
-// nothing. It requires what `decode` told of the buffer.
+// A step on the first n words of a table, which stand in a buffer: what it may have changed is written over the bytes; a
+// refusal writes nothing. It requires what `decode` told of the buffer.
 fn step_on_words(call: Call, n: usize, words: &mut [u16], table: &mut [u8]) -> u32
-    requires { ⌜ (n ≤ length (now words)) × (2 * n ≤ length (now table)) ⌝ }
+    requires { ⌜ (n ≤ length (now words)) × (2 * n ≤ length (now table)) × (takeWords n (now words) ≡ takeWords n (wordsOfBytes (now table))) ⌝ }
     ensures { λ r. ⌜ Told r (callOf call) (takeWords n (now (words .entry))) (now (table .entry)) (now (table .exit)) ⌝ }
 {
     let r = step(&mut words[..n], call);
     if number(r) != 0 {
         return packed(r);
     }
-    encode(words, n, table);
+    write_back(&words[..n], desk_of(call), table);
     packed(r)
 }
 

@@ -10,6 +10,10 @@ pub &&-false : (b : Bool) → b && false ≡ false
 &&-false true = refl
 &&-false false = refl
 
+pub &&-true : (b : Bool) → b && true ≡ b
+&&-true true = refl
+&&-true false = refl
+
 pub &&-left : (a b : Bool) → a && b ≡ true → a ≡ true
 &&-left true b e = refl
 &&-left false b e = e

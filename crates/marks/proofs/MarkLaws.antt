@@ -16,6 +16,8 @@ use borrow.Author.Tests.{eqb-true, eqb-false}
 use mir.Syntax.{w16}
 use mir.Val.{Fits}
 use Rattle.marks.specs.Marks.{digits, marks, onesIn}
+use Rattle.marks.specs.Words.{allZero}
+use Rattle.marks.proofs.BoolLaws.{&&-left, &&-right}
 use Rattle.marks.proofs.Scan.{rest}
 
 -- ---- the digits of a word
@@ -81,3 +83,26 @@ mark-small ws j = go (decLt j (16 * length ws))
     go : Dec (j < 16 * length ws) → getD (marks ws) j 0 < 2
     go (yes h) = mark-bit ws j h
     go (no h) = rw (List·getD-eq-default (marks ws) 0 {n = j} (omega (arith, marks-length ws))) (omega arith)
+
+-- ---- words that are all 0
+
+zeros-drop : (n : ℕ) (l : List ℕ) → allZero l ≡ true → allZero (drop n l) ≡ true
+zeros-drop zero l e = e
+zeros-drop (suc n) [] e = e
+zeros-drop (suc n) (x ∷ l) e = zeros-drop n l (&&-right (eqb x 0) (allZero l) e)
+
+no-marks : (ws : List ℕ) → allZero ws ≡ true → allZero (marks ws) ≡ true
+no-marks [] e = refl
+no-marks (w ∷ ws) e =
+    ap (λ (x : ℕ). allZero (digits 16 x ++ marks ws)) (eqb-true w 0 (&&-left (eqb w 0) (allZero ws) e))
+    ∙ no-marks ws (&&-right (eqb w 0) (allZero ws) e)
+
+-- no place is marked from n on, and none is counted
+pub none-marked : (ws : List ℕ) (n : ℕ) → allZero ws ≡ true → allZero (drop n (marks ws)) ≡ true
+none-marked ws n e = zeros-drop n (marks ws) (no-marks ws e)
+
+pub none-counted : (ws : List ℕ) → allZero ws ≡ true → onesIn ws ≡ 0
+none-counted [] e = refl
+none-counted (w ∷ ws) e =
+    omega
+    (arith, ones-of-none w (eqb-true w 0 (&&-left (eqb w 0) (allZero ws) e)), none-counted ws (&&-right (eqb w 0) (allZero ws) e))

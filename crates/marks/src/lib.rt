@@ -1,7 +1,8 @@
+ghost use mathlib.Core.Bool.{_&&_};
 ghost use mathlib.Core.Path.{_≡_};
 ghost use Prim.Native.Nat.{_+_, _-_, _*_, _/_, _%_, _≤_, _<_};
 ghost use lib.ListN.{length, getD, take, drop, replicate};
-ghost use lib.Dec.{eqb};
+ghost use lib.Dec.{eqb, leb};
 ghost use Rattle.marks.specs.Words.{allZero, noneZero};
 ghost use Rattle.marks.specs.Marks.{marks, onesIn, findPlace, markPlace, pick};
 ghost use Rattle.marks.specs.Split.{Split};
@@ -92,7 +93,7 @@ fn marked(m: &[u16], j: usize) -> bool
 }
 
 // Whether no place from n on is marked: the word with place n, from its bit on, and every later word are 0.
-pub fn clear_from(m: &[u16], n: usize) -> bool
+fn clear_from(m: &[u16], n: usize) -> bool
     ensures { λ r. ⌜ r ≡ allZero (drop n (marks (now (m .entry)))) ⌝ }
 {
     let spot = mark_spot(n);
@@ -105,6 +106,22 @@ pub fn clear_from(m: &[u16], n: usize) -> bool
         return false;
     }
     all_zero(&m[q + 1..])
+}
+
+// Whether no place from n on is marked, and at most k places are. Mostly nothing is marked at all: one test of all the words
+// tells that, and nothing is counted.
+// It requires at most 8 mark words, as a record has.
+pub fn few_marks(m: &[u16], n: usize, k: usize) -> bool
+    requires { ⌜ length (now m) ≤ 8 ⌝ }
+    ensures { λ r. ⌜ r ≡ allZero (drop n (marks (now (m .entry)))) && leb (onesIn (now (m .entry))) k ⌝ }
+{
+    if all_zero(m) {
+        return true;
+    }
+    if !clear_from(m, n) {
+        return false;
+    }
+    ones(m) <= k
 }
 
 // The first unmarked place that holds session x, or the number of places.

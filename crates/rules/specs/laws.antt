@@ -33,3 +33,4 @@ pub mod Checks
 pub mod ByteHistories
 pub mod Prefix
 pub mod Front
+pub mod Window

@@ -1,10 +1,8 @@
 -- `host::step_on_bytes` meets its contract.
 use native.Mathlib.Omega.{arith}
 use borrow.Author.Needs.{needs}
-use mathlib.Core.Path.{_≡_, sym, subst, _∙_}
+use mathlib.Core.Path.{_≡_, subst}
 use Prim.Native.Nat.{ℕ}
-use lib.ListN.{take}
-use Rattle.rules.specs.Bytes.{wordsOfBytes}
 use Rattle.board.specs.Asked.{callOf}
 use Rattle.host.specs.Heard.{Seen}
 use Rattle.host.proofs.CallLaws.{step-heard}
@@ -31,7 +29,7 @@ slice-aggregate-step-on-words : tie.Need-slice-aggregate-step-on-words
 slice-aggregate-step-on-words c = search needs
 
 step-on-words-requires : tie.Need-step-on-words-requires
-step-on-words-requires c κs = (omega (arith, c .before .before .before .decode .kept .1 .1 .0), c .before .before .before .before .before .before .before .seen .ensures .there)
+step-on-words-requires c κs = (omega (arith, c .before .before .before .decode .kept .1 .1 .0), c .before .before .before .before .before .before .before .seen .ensures .there, c .before .before .before .decode .ensures)
 
 same-length : tie.Need-same-length
 same-length c = search needs
@@ -49,7 +47,7 @@ slice-aggregate-step-on-words-2 : tie.Need-slice-aggregate-step-on-words-2
 slice-aggregate-step-on-words-2 c = search needs
 
 step-on-words-requires-2 : tie.Need-step-on-words-requires-2
-step-on-words-requires-2 c κs = (omega (arith, c .before .before .before .decode2 .kept .1 .1 .0), largest (c .before .before .before .before .before .before) .there)
+step-on-words-requires-2 c κs = (omega (arith, c .before .before .before .decode2 .kept .1 .1 .0), largest (c .before .before .before .before .before .before) .there, c .before .before .before .decode2 .ensures)
 
 same-length-2 : tie.Need-same-length-2
 same-length-2 c = search needs

@@ -2,13 +2,11 @@
 -- and a sound table stays sound.
 use Prim.Native.Nat.{ℕ, _+_, _-_, _≤_, zero, suc, _*_, _<_}
 use native.Mathlib.Omega.{arith}
-use native.Mathlib.Nat.{mul-le-mul-right}
-use native.Mathlib.Decide.{decLt}
 use mathlib.Core.Path.{_≡_, refl, sym, ap, _∙_, subst}
 use mathlib.Core.Bool.{Bool, true, false, not, _&&_}
 use mathlib.Core.List.{List, [], _∷_, _++_, append-assoc}
-use lib.ListN.{length, take, getD, drop, set, replicate, length-replicate, length-drop, length-set, List·getD-append}
-use lib.Seq.{getD-set-same, getD-set-other, length-take-le, getD-append-add, getD-drop, getD-take}
+use lib.ListN.{length, take, getD, drop, set, replicate, length-replicate, length-drop, length-set}
+use lib.Seq.{getD-set-same, getD-set-other, length-take-le, getD-drop, getD-take}
 use lib.Dec.{eqb, ltb}
 use borrow.Author.Tests.{eqb-true, eqb-false, lt-ltb, ltb-false}
 use Rattle.rules.specs.Bytes.{Words16}
@@ -22,50 +20,13 @@ use Rattle.rules.specs.Table.{screenWord, sessionsOf, sound, stepTable, 
 use Rattle.rules.specs.laws.Decoding.{record-again, small-drop, small-take}
 use Rattle.rules.specs.laws.Fresh.{get-same}
 use Rattle.rules.specs.laws.Links.{desk-fact, owed-collect, retire-facts, retire-room-fact, swap-facts}
-use Rattle.rules.specs.laws.Parts.{get-mid}
+use Rattle.rules.specs.laws.Parts.{get-past, put-is}
 use Rattle.rules.specs.laws.Sound.{Sound, collect-sound, length-list, retire-sound}
 use Rattle.rules.specs.laws.SoundTables.{desk-sound, encoded, known-opens, valid}
 use Rattle.rules.specs.laws.TableHistories.{counts-encoded}
-use Rattle.rules.specs.laws.TableSteps.{Known, accepted-step, asked, desk-word, known, owed-word, record-sound, refused-step}
+use Rattle.rules.specs.laws.TableSteps.{Known, accepted-step, asked, desk-word, known, owed-word, record-sound, record-within, refused-step}
 use Rattle.rules.specs.laws.Tables.{Opens, Valid, encode-is-sound, hall-opens, length-encoded, some-screens, sound-table, valid-step}
 use Rattle.rules.specs.laws.Words16.{by-open, by-step, first-no-is-asked, open-length, step-length, step-refused}
-
--- ---- One record replaced: the words outside it, and those inside.
-get-past : (a b : List ℕ) (i : ℕ) → length a ≤ i → getD (a ++ b) i 0 ≡ getD b (i - length a) 0
-get-past a b i h =
-    let e : length a + (i - length a) ≡ i = omega arith in ap (λ (k : ℕ). getD (a ++ b) k 0) (sym e) ∙ getD-append-add a b (i - length a) 0
-
-module _ (t w : List ℕ) (a n : ℕ) (fits : a + n ≤ length t) (wide : length w ≡ n) where
-  abbrev put : List ℕ
-  put = take a t ++ (w ++ drop n (drop a t))
-
-  la : length (take a t) ≡ a
-  la = length-take-le a t (omega arith)
-
-  put-before : (i : ℕ) → i < a → getD put i 0 ≡ getD t i 0
-  put-before i h = List·getD-append (take a t) (w ++ drop n (drop a t)) 0 i (omega (arith, la)) ∙ getD-take a t i 0 h
-
-  put-inside : (j : ℕ) → j < n → getD put (a + j) 0 ≡ getD w j 0
-  put-inside j h = get-mid (take a t) w (drop n (drop a t)) a la j (omega arith)
-
-  put-after : (i : ℕ) → a + n ≤ i → getD put i 0 ≡ getD t i 0
-  put-after i h =
-      get-past (take a t) (w ++ drop n (drop a t)) i (omega (arith, la))
-      ∙ get-past w (drop n (drop a t)) (i - length (take a t)) (omega (arith, la))
-      ∙ getD-drop n (drop a t) (i - length (take a t) - length w) 0
-      ∙ getD-drop a t (n + (i - length (take a t) - length w)) 0
-      ∙ (let e : a + (n + (i - length (take a t) - length w)) ≡ i = omega (arith, la) in ap (λ (k : ℕ). getD t k 0) e)
-
-  -- the same everywhere, where the words inside are
-  put-same : (i : ℕ) → ((j : ℕ) → j < n → a + j ≡ i → getD w j 0 ≡ getD t i 0) → getD put i 0 ≡ getD t i 0
-  put-same i h = by-cases (decLt i a) (decLt i (a + n))
-    where
-      by-cases : Dec (i < a) → Dec (i < a + n) → getD put i 0 ≡ getD t i 0
-      by-cases (yes l) m = put-before i l
-      by-cases (no l) (yes m) =
-          let e : a + (i - a) ≡ i = omega arith in
-          ap (λ (k : ℕ). getD put k 0) (sym e) ∙ put-inside (i - a) (omega arith) ∙ h (i - a) (omega arith) e
-      by-cases (no l) (no m) = put-after i (omega arith)
 
 -- ---- What a retire leaves of its record.
 get-behind : (a x y : List ℕ) (i : ℕ) → ((j : ℕ) → length a + j ≡ i → getD x j 0 ≡ getD y j 0) → getD (a ++ x) i 0 ≡ getD (a ++ y) i 0
@@ -128,10 +89,7 @@ module _ (t : List ℕ) (small : Words16 t) (s : sound t ≡ true) where
 
   module _ (d : ℕ) (r : (1 ≤ d) × (d ≤ hallIn t .desks)) where
     fits : recordStart (hallIn t) d + recordWidth (hallIn t) ≤ length t
-    fits =
-        let m : suc (d - 1) * recordWidth (hallIn t) ≤ hallIn t .desks * recordWidth (hallIn t) =
-        mul-le-mul-right (recordWidth (hallIn t)) (omega arith) in
-        omega (arith, k .long)
+    fits = omega (arith, record-within (hallIn t) d (r .0) (r .1), k .long)
 
     wide : length (recordOf (hallIn t) t d) ≡ 13 + 2 * allScreens (hallIn t)
     wide = length-take-le (recordWidth (hallIn t)) (drop (recordStart (hallIn t) d) t) (omega (arith, fits, length-drop (recordStart (hallIn t) d) t))
@@ -158,9 +116,9 @@ module _ (t : List ℕ) (small : Words16 t) (s : sound t ≡ true) where
         → ((j : ℕ) → j < recordWidth (hallIn t) → recordStart (hallIn t) d + j ≡ i → getD (encodeDesk (allScreens (hallIn t)) E) j 0 ≡ getD (encodeDesk (allScreens (hallIn t)) (decodeDesk (recordOf (hallIn t) t d))) j 0)
         → getD (putRecord (hallIn t) t d (encodeDesk (allScreens (hallIn t)) E)) i 0 ≡ getD t i 0
     record-kept E sE i h =
-        put-same t (encodeDesk (allScreens (hallIn t)) E) (recordStart (hallIn t) d) (recordWidth (hallIn t)) fits
-        (length-encoded (hallIn t) ok E sE) i
-        (λ j l e. h j l e ∙ word-inside j l ∙ ap (λ (n : ℕ). getD t n 0) e)
+        put-is t (encodeDesk (allScreens (hallIn t)) E) (recordStart (hallIn t) d) (recordWidth (hallIn t)) fits
+        (length-encoded (hallIn t) ok E sE) i (getD t i 0)
+        (λ j l e. h j l e ∙ word-inside j l ∙ ap (λ (n : ℕ). getD t n 0) e) (λ _. refl)
 
   written-keeps : (c : Call) → asked t c ≡ 0 → (i : ℕ) → names t c i ≡ false → getD (written t c) i 0 ≡ getD t i 0
   written-keeps (Take d c p) e i q =

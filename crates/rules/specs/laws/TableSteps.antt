@@ -1,7 +1,7 @@
 -- A step on a table, case by case; what a sound table is known by; what its words say of its state.
 use Prim.Native.Nat.{ℕ, zero, suc, _+_, _*_, _-_, _≤_, _<_}
 use native.Mathlib.Omega.{arith}
-use native.Mathlib.Nat.{mul-le-mul}
+use native.Mathlib.Nat.{mul-le-mul, mul-le-mul-right}
 use mathlib.Core.Path.{_≡_, sym, ap, _∙_, refl}
 use mathlib.Core.Bool.{Bool, true, false, cond, _&&_}
 use mathlib.Core.List.{List, map, [], _∷_}
@@ -125,6 +125,11 @@ record-sound t d k h g =
     ap (λ (y : List ℕ). recordSound (allScreens (hallIn t)) (take (recordWidth (hallIn t)) y)) (sym (record-part t d))
     ∙ every-record-at (recordSound (allScreens (hallIn t))) (hallIn t .desks) (recordWidth (hallIn t))
     (drop (allScreens (hallIn t)) (drop (hallIn t .positions) (drop 3 t))) (d - 1) (omega arith) (k .records)
+
+-- it stands before the end of the need
+pub record-within : (H : Hall) (d : ℕ) → 1 ≤ d → d ≤ H .desks → recordStart H d + recordWidth H ≤ need H
+record-within H d h g =
+    let m : suc (d - 1) * recordWidth H ≤ H .desks * recordWidth H = mul-le-mul-right (recordWidth H) (omega arith) in omega arith
 
 -- ---- what the words say of the state
 pub held-word : (t : List ℕ) (p : ℕ) → 1 ≤ p → p ≤ hallIn t .positions → getD (decode (hallIn t) t .held) (p - 1) 0 ≡ getD t (positionWord p) 0

@@ -293,7 +293,7 @@ pub open-words : (H : Hall) (t : List ℕ) → Words16 t → Words16 (openTable 
 open-words H t h = by-open (λ r. Words16 (r .after)) H t (λ n q. h) (λ q. opened-words H t h (hall-opens H t q .0))
 
 -- ---- The length of the table.
-written-length : (t : List ℕ) (c : Call) → Words16 t → sound t ≡ true → asked t c ≡ 0 → length (written t c) ≡ length t
+pub written-length : (t : List ℕ) (c : Call) → Words16 t → sound t ≡ true → asked t c ≡ 0 → length (written t c) ≡ length t
 written-length t c h s q =
     let H : Hall = hallIn t in
     let st : State = decode H t in
