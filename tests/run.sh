@@ -69,4 +69,5 @@ step "sheet_cases" 1 "$root/tests/sheet_cases.py" --check --reference \
 step "tool" 1 "$root/tests/tool.sh" "$program"
 step "building the example" 0 link "$root/examples/host.c" host_example
 step "the example" 0 "$CARGO_TARGET_DIR/host_example"
+step "documents" 1 "$root/tests/documents.py"
 echo "run: all passed"

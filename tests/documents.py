@@ -1,0 +1,58 @@
+#!/usr/bin/env python3
+"""Asks that every name in the documents' code marks can be found in the repository: names change, and documents are read.
+
+usage: tests/documents.py [DOCUMENT ...]        docs/GUARANTEES.md and docs/ARCHITECTURE.md, if none is named
+
+The last part of a name (`Table.need`, `board::open`, `laws/Front`) must be a word of some file, or the name of one.
+"""
+import pathlib
+import re
+import sys
+
+ROOT = pathlib.Path(__file__).resolve().parent.parent
+PLACES = ['crates', 'edits', 'tests', 'tools', 'include', 'examples', 'bench', 'docs/gallery', 'Makefile', 'README.md']
+WORD = re.compile(r"[\w'′-]+")
+
+
+def files():
+    for place in PLACES:
+        path = ROOT / place
+        yield from [path] if path.is_file() else (file for file in path.rglob('*') if file.is_file())
+
+
+def known_words():
+    """All words of all files, and the names of files and folders, with and without their endings."""
+    words = set()
+    for file in files():
+        for part in file.relative_to(ROOT).parts:
+            words.update((part, part.split('.')[0]))
+        words.update(WORD.findall(file.read_text(errors='ignore')))
+    return words
+
+
+def names_in(text):
+    """The last part of each name in a code mark; marks that hold a phrase and not a name are passed over."""
+    for mark in re.findall(r'`([^`\n]+)`', text):
+        if re.fullmatch(r"[\w'′:./*-]+", mark):
+            last = re.split(r'::|[./]', mark.rstrip('/'))[-1]
+            if last and not last.isdigit():
+                yield mark, last
+
+
+def main():
+    documents = [pathlib.Path(name) for name in sys.argv[1:]] or [ROOT / 'docs' / name for name in ('GUARANTEES.md', 'ARCHITECTURE.md')]
+    words = known_words()
+    missing = []
+    count = 0
+    for document in documents:
+        for mark, last in names_in(document.read_text()):
+            count += 1
+            if last not in words and mark.split('/')[-1] not in words:
+                missing.append(f'{document.name}: `{mark}` is not found')
+    for line in missing:
+        print(line)
+    print(f'documents: {count} names, {len(missing)} not found')
+    sys.exit(1 if missing else 0)
+
+
+main()
