@@ -23,6 +23,13 @@ mostScreens = 4
 abbrev pub mostPositions : ℕ
 mostPositions = 64
 
+-- The most screens of a hall, and the most places of a desk's list, two for each screen.
+abbrev pub mostAllScreens : ℕ
+mostAllScreens = mostDesks * mostScreens
+
+abbrev pub mostPlaces : ℕ
+mostPlaces = 2 * mostAllScreens
+
 -- "S = P times c."
 abbrev pub allScreens : Hall → ℕ
 allScreens hall = hall .desks * hall .screens
