@@ -30,7 +30,7 @@ const SCREENS: usize = 1;
 const POSITIONS: usize = 2;
 
 // The words before the session at each position.
-const HEADER: usize = 3;
+pub const HEADER: usize = 3;
 
 // The board of a hall: its limits, and the words that its table needs.
 pub struct Board;

@@ -36,7 +36,7 @@ pub marks-bits : (ws : List ℕ) → marks ws ≡ map bitValue (bitsOfWords ws)
 marks-bits [] = refl
 marks-bits (w ∷ ws) = ap₂ {C = List ℕ} (λ x y. x ++ y) (digits-bits 16 w) (marks-bits ws) ∙ sym (map-append bitValue (bitsOfWord 16 w) (bitsOfWords ws))
 
--- the bits of a tested list, up to 128
+-- the bits of a tested list, up to the most places
 abbrev pub markBits : List TestedPlace → List Bool
 markBits T = marksOf T ++ replicate (mostPlaces - length T) false
 

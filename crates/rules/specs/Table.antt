@@ -14,7 +14,7 @@ use Rattle.rules.specs.Steps.{isSession, retire, step}
 -- for each desk 13 + 2S words: owed session; k, the screens read so far; counts of ready, tested and waiting; 8 mark words;
 -- a list of 2S places."
 
--- P, c and L
+-- The words of P, c and L.
 abbrev pub headerWords : ℕ
 headerWords = 3
 
@@ -37,6 +37,7 @@ waitingPlace = 4
 abbrev pub marksPlace : ℕ
 marksPlace = 5
 
+-- (8 words of 16 bits: a mark for each of the most places of a list)
 abbrev pub markWords : ℕ
 markWords = 8
 
@@ -65,7 +66,7 @@ positionWord p = headerWords + (p - 1)
 abbrev pub screenWord : Hall → ℕ → ℕ → ℕ
 screenWord hall d c = headerWords + hall .positions + screenIndex hall d c
 
--- (past d records, in a hall of L positions and S screens)
+-- (the record that d others stand before, in a hall of L positions and S screens)
 abbrev pub startFor : ℕ → ℕ → ℕ → ℕ
 startFor L S d = headerWords + L + S + d * widthFor S
 

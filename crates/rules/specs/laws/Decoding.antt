@@ -76,7 +76,7 @@ zeros (x ∷ xs) h = by-cases (eqb x 0) refl h (zeros xs)
     by-cases true q e ih = λ i. eqb-true x 0 q i ∷ ih e i
     by-cases false q e ih = let z : _≡_ {A = ℕ} 0 1 = cc in absurd (omega arith)
 
--- A desk's record, in its parts: a ready, b tested and c waiting sessions on the list l, and the 128 bits u.
+-- A desk's record, in its parts: a ready, b tested and c waiting sessions on the list l, and the mark bits u.
 module _ (S a b c : ℕ) (l : List ℕ) (u : List Bool) (hl : length l ≡ 2 * S) (hu : length u ≡ mostPlaces) (hS : S ≤ mostAllScreens) (h : a + b + c ≤ 2 * S) where
   abbrev rd : List ℕ
   rd = take a l
