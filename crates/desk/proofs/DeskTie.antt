@@ -7,10 +7,10 @@ use mathlib.Core.Path.{_≡_, refl, sym, ap, ap₂, _∙_}
 use lib.Dec.{eqb, leb, ltb, eqb·suc-zero}
 use lib.ListN.{length-take, length, getD, take, drop, set, replicate, length-append, length-map, replicate-append-replicate}
 use borrow.Author.Tests.{eqb-true, ltb-true}
-use Rattle.rules.specs.Hall.{TestedPlace, marked, unmarked, usedPlaces, Desk, mostAllScreens, mostPlaces}
+use Rattle.rules.specs.Hall.{TestedPlace, marked, unmarked, usedPlaces, Desk, mostAllScreens}
 use Rattle.rules.specs.Steps.{begin, beginAt, handBack, mark, markEach, markedOf, readScreens, retire, scanAt, settle, settleIf, unmarkedOf}
 use Rattle.rules.specs.Table.{bitValue, bitsOfWords, decodeDesk, encodeDesk, every, listOf, marksOf, ones, recordSound, scanSound, sessionsOf, wordsOfBits}
-use Rattle.rules.specs.Table.{listPlace, markWords, marksPlace, widthFor}
+use Rattle.rules.specs.Table.{allMarks, listPlace, markWords, marksPlace, widthFor}
 use Rattle.rules.specs.laws.Bools.{and-left, and-right}
 use Rattle.rules.specs.laws.Decoding.{length-places, record-again, small-drop, small-take}
 use Rattle.rules.specs.laws.Encoding.{desk-read-back, length-sessions}
@@ -47,7 +47,7 @@ fit-is s D h u =
     record {
       room = omega (arith, room-is D);
       eight = refl;
-      clear = ap (λ (m : List ℕ). allZero (drop (length (sessionsOf (D .tested))) m)) (mark-bits (D .tested) (omega arith)) ∙ zero-pad (D .tested) (mostPlaces - length (D .tested));
+      clear = ap (λ (m : List ℕ). allZero (drop (length (sessionsOf (D .tested))) m)) (mark-bits (D .tested) (omega arith)) ∙ zero-pad (D .tested) (allMarks - length (D .tested));
     }
 
 -- a record that codes the desk it is read as: what its words say
@@ -67,26 +67,26 @@ module _ (o k : ℕ) (R : List ℕ) where
   marks-begin [] = refl
   marks-begin (x ∷ W) = ap {B = List Bool} (λ l. false ∷ l) (marks-begin W)
 
-  no-marks : (W : List ℕ) → length W ≤ mostPlaces → markBits [] ≡ markBits (map unmarked W)
+  no-marks : (W : List ℕ) → length W ≤ allMarks → markBits [] ≡ markBits (map unmarked W)
   no-marks W h =
-      let n : length W + (mostPlaces - length W) ≡ mostPlaces = omega arith in
-      sym (ap₂ {C = List Bool} (λ x y. x ++ y) (marks-begin W) (ap (λ (m : ℕ). replicate {A = Bool} (mostPlaces - m) false) (length-map W unmarked)) ∙ replicate-append-replicate (length W) (mostPlaces - length W) false ∙ ap (λ (m : ℕ). replicate {A = Bool} m false) n)
+      let n : length W + (allMarks - length W) ≡ allMarks = omega arith in
+      sym (ap₂ {C = List Bool} (λ x y. x ++ y) (marks-begin W) (ap (λ (m : ℕ). replicate {A = Bool} (allMarks - m) false) (length-map W unmarked)) ∙ replicate-append-replicate (length W) (allMarks - length W) false ∙ ap (λ (m : ℕ). replicate {A = Bool} m false) n)
 
-  test-none : (W : List ℕ) → length W ≤ mostPlaces → testing (inWords (mk [] W)) ≡ inWords (beginAt [] (mk [] W))
+  test-none : (W : List ℕ) → length W ≤ allMarks → testing (inWords (mk [] W)) ≡ inWords (beginAt [] (mk [] W))
   test-none W h = λ i. record { owed = o; read = k; ready = R; tested = sessions-begin W i; waiting = []; words = wordsOfBits markWords (no-marks W h i) }
 
   test-some : (p : TestedPlace) (T : List TestedPlace) (W : List ℕ) → testing (inWords (mk (p ∷ T) W)) ≡ inWords (mk (p ∷ T) W)
   test-some p T W = ap (λ (n : ℕ). cond (eqb n 0) (record { owed = o; read = k; ready = R; tested = W; waiting = []; words = wordsOfBits markWords (markBits (p ∷ T)) }) (inWords (mk (p ∷ T) W))) (length-sessions (p ∷ T)) ∙ ap (λ (b : Bool). cond b (record { owed = o; read = k; ready = R; tested = W; waiting = []; words = wordsOfBits markWords (markBits (p ∷ T)) }) (inWords (mk (p ∷ T) W))) (eqb·suc-zero (length T))
 
-  test-is : (T : List TestedPlace) (W : List ℕ) → length W ≤ mostPlaces → testing (inWords (mk T W)) ≡ inWords (begin (mk T W))
+  test-is : (T : List TestedPlace) (W : List ℕ) → length W ≤ allMarks → testing (inWords (mk T W)) ≡ inWords (begin (mk T W))
   test-is [] W h = test-none W h
   test-is (p ∷ T) W h = test-some p T W
 
-pub testing-is : (D : Desk) → length (D .waiting) ≤ mostPlaces → testing (inWords D) ≡ inWords (begin D)
+pub testing-is : (D : Desk) → length (D .waiting) ≤ allMarks → testing (inWords D) ≡ inWords (begin D)
 testing-is D h = test-is (D .owed) (D .scanned) (D .ready) (D .tested) (D .waiting) h
 
 -- ---- (b)
-pub reading-is : (vs : List ℕ) (D : Desk) → length (D .tested) ≤ mostPlaces → reading vs (inWords D) ≡ inWords (readScreens vs D)
+pub reading-is : (vs : List ℕ) (D : Desk) → length (D .tested) ≤ allMarks → reading vs (inWords D) ≡ inWords (readScreens vs D)
 reading-is [] D h = let e : D .scanned ≡ D .scanned + 0 = omega arith in λ i. record { owed = D .owed; read = e i; ready = D .ready; tested = sessionsOf (D .tested); waiting = D .waiting; words = wordsOfBits markWords (markBits (D .tested)) }
 reading-is (x ∷ vs) D h =
     let E : Desk = record { owed = D .owed; scanned = D .scanned + 1; ready = D .ready; tested = mark x (D .tested); waiting = D .waiting } in
@@ -105,9 +105,9 @@ reading-is (x ∷ vs) D h =
         go false ih = ap {B = List ℕ} (λ l. y ∷ l) ih
 
 -- ---- (c)
-pub settled-is : (D : Desk) → length (D .tested) ≤ mostPlaces → settled (inWords D) ≡ inWords (settleIf true D)
+pub settled-is : (D : Desk) → length (D .tested) ≤ allMarks → settled (inWords D) ≡ inWords (settleIf true D)
 settled-is D h =
-    let pad : List Bool = replicate (mostPlaces - length (D .tested)) false in
+    let pad : List Bool = replicate (allMarks - length (D .tested)) false in
     let m = mark-bits (D .tested) h in
     let a = ap (λ (l : List ℕ). pick 0 l (sessionsOf (D .tested))) m ∙ pick-unmarked (D .tested) pad in
     let b = ap (λ (l : List ℕ). pick 1 l (sessionsOf (D .tested))) m ∙ pick-marked (D .tested) pad in
@@ -174,7 +174,7 @@ module _ (s : ℕ) (r : List ℕ) (c : Encoded s r) where
   part-encoded : (f : WordDesk → WordDesk) (E : Desk) → f (inWords (decodeDesk r)) ≡ inWords E → recordWords s (f (wordDesk r)) ≡ encodeDesk s E
   part-encoded f E e = ap (λ (d : WordDesk). recordWords s (f d)) (encoded-left s r c .desk-is) ∙ ap (recordWords s) e ∙ sym (encoded-words s E)
 
-  tested-most : length (decodeDesk r .tested) ≤ mostPlaces
+  tested-most : length (decodeDesk r .tested) ≤ allMarks
   tested-most = omega (arith, c .room, c .most)
 
   pub begun-encoded : recordWords s (testing (wordDesk r)) ≡ encodeDesk s (begin (decodeDesk r))

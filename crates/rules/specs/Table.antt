@@ -5,7 +5,7 @@ use mathlib.Core.Bool.{Bool, true, false, cond, _&&_}
 use mathlib.Core.List.{List, [], _∷_, _++_, map}
 use lib.ListN.{length, getD, take, drop, set, replicate}
 use lib.Dec.{leb, ltb, eqb}
-use Rattle.rules.specs.Hall.{Desk, Hall, State, TestedPlace, allScreens, marked, mostDesks, mostPlaces, mostPositions, mostScreens, screenIndex, unmarked}
+use Rattle.rules.specs.Hall.{Desk, Hall, State, TestedPlace, allScreens, marked, mostDesks, mostPositions, mostScreens, screenIndex, unmarked}
 use Rattle.rules.specs.Steps.{Answer, Call, Collect, Drop, Event, Question, Retire, Swap, Take, ask, collect, firstNo, inRange, isNone}
 use Rattle.rules.specs.Steps.{isSession, retire, step}
 
@@ -37,9 +37,12 @@ waitingPlace = 4
 abbrev pub marksPlace : ℕ
 marksPlace = 5
 
--- (8 words of 16 bits: a mark for each of the most places of a list)
 abbrev pub markWords : ℕ
 markWords = 8
+
+-- The marks that they hold, 16 to a word: one for each of the 2S places of the largest hall.
+abbrev pub allMarks : ℕ
+allMarks = 16 * markWords
 
 abbrev pub listPlace : ℕ
 listPlace = 13
@@ -143,7 +146,7 @@ encodeDesk S desk =
     ∷ length (desk .ready)
     ∷ length (desk .tested)
     ∷ length (desk .waiting)
-    ∷ (wordsOfBits markWords (marksOf (desk .tested) ++ replicate (mostPlaces - length (desk .tested)) false)
+    ∷ (wordsOfBits markWords (marksOf (desk .tested) ++ replicate (allMarks - length (desk .tested)) false)
     ++ (listOf desk ++ replicate (2 * S - length (listOf desk)) 0))
 
 -- the counts, the mark bits and the list places of a record

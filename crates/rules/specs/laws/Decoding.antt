@@ -9,9 +9,9 @@ use lib.ListN.{length, getD, take, drop, replicate, length-append, length-drop, 
 use lib.Seq.{take-add, length-take-le, drop-drop, drop-cons, getD-drop, take-at, drop-at}
 use lib.Dec.{leb, eqb}
 use borrow.Author.Tests.{eqb-true, eqb-false, leb-true}
-use Rattle.rules.specs.Hall.{Hall, TestedPlace, allScreens, mostAllScreens, mostDesks, mostPlaces, mostPositions, mostScreens}
+use Rattle.rules.specs.Hall.{Hall, TestedPlace, allScreens, mostAllScreens, mostDesks, mostPositions, mostScreens}
 use Rattle.rules.specs.Steps.{inRange}
-use Rattle.rules.specs.Table.{bitValue, bitsOfWord, bitsOfWords, decode, decodeDesk, encode, encodeDesk, every, everyRecord, hallIn, joined}
+use Rattle.rules.specs.Table.{allMarks, bitValue, bitsOfWord, bitsOfWords, decode, decodeDesk, encode, encodeDesk, every, everyRecord, hallIn, joined}
 use Rattle.rules.specs.Table.{marksOf, need, ones, pieces, placesOf, recordSound, recordWidth, recordsIn, scanSound, sessionsOf, sound}
 use Rattle.rules.specs.Table.{headerWords, listPlace, markWords, widthFor, wordOfBits, wordsOfBits}
 use Rattle.rules.specs.laws.Bools.{and-left, and-right}
@@ -77,7 +77,7 @@ zeros (x ∷ xs) h = by-cases (eqb x 0) refl h (zeros xs)
     by-cases false q e ih = let z : _≡_ {A = ℕ} 0 1 = cc in absurd (omega arith)
 
 -- A desk's record, in its parts: a ready, b tested and c waiting sessions on the list l, and the mark bits u.
-module _ (S a b c : ℕ) (l : List ℕ) (u : List Bool) (hl : length l ≡ 2 * S) (hu : length u ≡ mostPlaces) (hS : S ≤ mostAllScreens) (h : a + b + c ≤ 2 * S) where
+module _ (S a b c : ℕ) (l : List ℕ) (u : List Bool) (hl : length l ≡ 2 * S) (hu : length u ≡ allMarks) (hS : S ≤ mostAllScreens) (h : a + b + c ≤ 2 * S) where
   abbrev rd : List ℕ
   rd = take a l
 
@@ -96,12 +96,12 @@ module _ (S a b c : ℕ) (l : List ℕ) (u : List Bool) (hl : length l ≡ 2 * S
   pub waiting-length : length wd ≡ c
   waiting-length = length-take-le c (drop (a + b) l) (omega (arith, length-drop (a + b) l))
 
-  marks-again : ones (drop b u) ≡ 0 → marksOf td ++ replicate (mostPlaces - length td) false ≡ u
+  marks-again : ones (drop b u) ≡ 0 → marksOf td ++ replicate (allMarks - length td) false ≡ u
   marks-again e =
       let f =
       marks-of-places (take b (drop a l)) (take b u)
       (omega (arith, length-take-le b (drop a l) (omega (arith, length-drop a l)), length-take-le b u (omega arith))) in
-      let n : length (drop b u) ≡ mostPlaces - length td = omega (arith, length-drop b u, tested-length) in
+      let n : length (drop b u) ≡ allMarks - length td = omega (arith, length-drop b u, tested-length) in
       ap₂ {C = List Bool} (λ x y. x ++ y) f (ap (λ (m : ℕ). replicate m false) (sym n) ∙ sym (every-one (drop b u) e)) ∙ take-append-drop b u
 
   pub list-parts : rd ++ (sessionsOf td ++ wd) ≡ take (a + b + c) l
@@ -130,7 +130,7 @@ record-encoded-again S o k a b c m0 m1 m2 m3 m4 m5 m6 m7 l hl hS sm h =
     let h3 : n3 ws ≡ true = and-right (every (λ x. eqb x 0) (drop (a + b + c) l)) (n3 ws) h2 in
     let ho : ones (drop b (bitsOfWords ws)) ≡ 0 =
     eqb-true (ones (drop b (bitsOfWords ws))) 0 (and-left (eqb (ones (drop b (bitsOfWords ws))) 0) (n4 ws) h3) in
-    let hu : length (bitsOfWords ws) ≡ mostPlaces = length-bits-of-words ws in
+    let hu : length (bitsOfWords ws) ≡ allMarks = length-bits-of-words ws in
     let q : wordsOfBits markWords (bitsOfWords ws) ≡ ws = words-of-bits-of-words ws sm in
     (λ i. o ∷ k ∷ ready-length S a b c l (bitsOfWords ws) hl hu hS h0 i ∷ tested-length S a b c l (bitsOfWords ws) hl hu hS h0 i ∷ waiting-length S a b c l (bitsOfWords ws) hl hu hS h0 i ∷ (wordsOfBits markWords (marks-again S a b c l (bitsOfWords ws) hl hu hS h0 ho i) ++ list-again S a b c l (bitsOfWords ws) hl hu hS h0 hz i))
     ∙ ap {B = List ℕ} (λ x. o ∷ k ∷ a ∷ b ∷ c ∷ (x ++ l)) q

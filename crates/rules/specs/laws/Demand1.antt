@@ -11,11 +11,11 @@ use lib.Dec.{eqb, ltb}
 use borrow.Author.Tests.{eqb-true, eqb-false, lt-ltb, ltb-false}
 use Rattle.rules.specs.Bytes.{Words16}
 use Rattle.rules.specs.Demands.{Demand1, OpeningDemand1, names, or}
-use Rattle.rules.specs.Hall.{Desk, Hall, State, allScreens, deskOf, mostPlaces, usedPlaces}
+use Rattle.rules.specs.Hall.{Desk, Hall, State, allScreens, deskOf, usedPlaces}
 use Rattle.rules.specs.History.{copies, numberAt}
 use Rattle.rules.specs.Steps.{Call, Collect, Done, Drop, Retire, Swap, Take, collect, decide, firstNo, isSession, perform, questions, retire}
 use Rattle.rules.specs.Table.{TableDone, decode, decodeDesk, encodeDesk, endTable, hallIn, headerWords, listOf, listPlace, markWords, marksOf, need}
-use Rattle.rules.specs.Table.{openQuestions, openedTable, positionWord, putRecord, recordOf, recordSound, recordStart, recordWidth, runTable}
+use Rattle.rules.specs.Table.{allMarks, openQuestions, openedTable, positionWord, putRecord, recordOf, recordSound, recordStart, recordWidth, runTable}
 use Rattle.rules.specs.Table.{screenWord, sessionsOf, sound, stepTable, usedIn, waitingPlace, wordsOfBits, written}
 use Rattle.rules.specs.laws.Decoding.{record-again, small-drop, small-take}
 use Rattle.rules.specs.laws.Fresh.{get-same}
@@ -63,7 +63,7 @@ retire-keeps : (S : ℕ) (D : Desk) (j : ℕ) → (j ≡ 0 → ⊥) → (j ≡ 4
 unfolding encodeDesk
 retire-keeps S D j n0 n4 nl =
     words-kept 0 (D .owed) (D .scanned) (length (D .ready)) (length (D .tested)) (length (D .waiting ++ (D .owed ∷ []))) (length (D .waiting))
-    (wordsOfBits markWords (marksOf (D .tested) ++ replicate (mostPlaces - length (D .tested)) false))
+    (wordsOfBits markWords (marksOf (D .tested) ++ replicate (allMarks - length (D .tested)) false))
     (listOf (retire D) ++ replicate (2 * S - length (listOf (retire D))) 0) (listOf D ++ replicate (2 * S - length (listOf D)) 0) j n0 n4
     (λ i e. ap (λ (l : List ℕ). getD (l ++ replicate (2 * S - length (listOf (retire D))) 0) i 0) (retire-list D)
     ∙ list-longer (listOf D) (D .owed) (2 * S - length (listOf (retire D))) (2 * S - length (listOf D)) i (λ q. nl (omega (arith, length-list D))))

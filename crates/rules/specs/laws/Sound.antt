@@ -8,10 +8,10 @@ use lib.ListN.{length, drop, replicate, length-append}
 use lib.Seq.{take-at, drop-at}
 use lib.Dec.{leb, ltb, eqb}
 use borrow.Author.Tests.{eq-eqb, ne-eqb, le-leb, lt-ltb}
-use Rattle.rules.specs.Hall.{Desk, TestedPlace, marked, mostAllScreens, mostPlaces, unmarked, usedPlaces}
+use Rattle.rules.specs.Hall.{Desk, TestedPlace, marked, mostAllScreens, unmarked, usedPlaces}
 use Rattle.rules.specs.History.{copies}
 use Rattle.rules.specs.Steps.{begin, beginAt, collect, markEach, nextScreens, owe, retire, scan, settle}
-use Rattle.rules.specs.Table.{bitsOfWords, encodeDesk, every, listOf, markWords, marksOf, ones, recordSound, scanSound, sessionsOf, wordsOfBits}
+use Rattle.rules.specs.Table.{allMarks, bitsOfWords, encodeDesk, every, listOf, markWords, marksOf, ones, recordSound, scanSound, sessionsOf, wordsOfBits}
 use Rattle.rules.specs.laws.Bools.{and-true}
 use Rattle.rules.specs.laws.Collect.{Orderly, Scanning, by-scan, collect-orderly, copiesOn, retire-orderly}
 use Rattle.rules.specs.laws.Encoding.{length-marks, length-sessions, marks-read-back, ones-marks}
@@ -143,17 +143,17 @@ encoded-sound S D h s =
     and-true _ _ (le-leb (usedPlaces D) (2 * S) (s .total))
     (and-true _ _ (ap (every (λ x. not (eqb x 0))) (take-at (listOf D) pad (usedPlaces D) (length-list D)) ∙ every-real (listOf D) (copies-list 0 D ∙ s .real))
     (and-true _ _ (ap (every (λ x. eqb x 0)) (drop-at (listOf D) pad (usedPlaces D) (length-list D)) ∙ every-zero (2 * S - length (listOf D)))
-    (and-true _ _ (eq-eqb _ 0 (ap (λ (b : List Bool). ones (drop (length (D .tested)) b)) mk ∙ ap ones (drop-at (marksOf (D .tested)) (replicate (mostPlaces - length (D .tested)) false) (length (D .tested)) (length-marks (D .tested))) ∙ ones-none (mostPlaces - length (D .tested))))
+    (and-true _ _ (eq-eqb _ 0 (ap (λ (b : List Bool). ones (drop (length (D .tested)) b)) mk ∙ ap ones (drop-at (marksOf (D .tested)) (replicate (allMarks - length (D .tested)) false) (length (D .tested)) (length-marks (D .tested))) ∙ ones-none (allMarks - length (D .tested))))
     (and-true _ _ (pass-true S (D .scanned) (D .tested) (s .pass))
     (le-leb _ (D .scanned) (rw (ap ones mk) few))))))
   where
     pad : List ℕ
     pad = replicate (2 * S - length (listOf D)) 0
 
-    mk : bitsOfWords (wordsOfBits markWords (marksOf (D .tested) ++ replicate (mostPlaces - length (D .tested)) false)) ≡ marksOf (D .tested) ++ replicate (mostPlaces - length (D .tested)) false
+    mk : bitsOfWords (wordsOfBits markWords (marksOf (D .tested) ++ replicate (allMarks - length (D .tested)) false)) ≡ marksOf (D .tested) ++ replicate (allMarks - length (D .tested)) false
     mk = marks-read-back (D .tested) (omega (arith, s .total))
 
-    few : ones (marksOf (D .tested) ++ replicate (mostPlaces - length (D .tested)) false) ≤ D .scanned
+    few : ones (marksOf (D .tested) ++ replicate (allMarks - length (D .tested)) false) ≤ D .scanned
     few =
         omega
-        (arith, ones-append (marksOf (D .tested)) (replicate (mostPlaces - length (D .tested)) false), ones-none (mostPlaces - length (D .tested)), ones-marks (D .tested), pass-marks S (D .scanned) (D .tested) (s .pass))
+        (arith, ones-append (marksOf (D .tested)) (replicate (allMarks - length (D .tested)) false), ones-none (allMarks - length (D .tested)), ones-marks (D .tested), pass-marks S (D .scanned) (D .tested) (s .pass))

@@ -8,10 +8,10 @@ use lib.ListN.{length, getD, take, drop, length-drop, length-map, take-append-dr
 use lib.Seq.{length-take-le}
 use lib.Dec.{leb, ltb, eqb, T}
 use borrow.Author.Tests.{leb-true, eqb-true, eqb-false, ltb-true}
-use Rattle.rules.specs.Hall.{Hall, TestedPlace, allScreens, mostAllScreens, mostPlaces}
+use Rattle.rules.specs.Hall.{Hall, TestedPlace, allScreens, mostAllScreens}
 use Rattle.rules.specs.History.{copies}
 use Rattle.rules.specs.Steps.{Call, perform}
-use Rattle.rules.specs.Table.{bitsOfWords, decode, decodeDesk, encode, every, everyRecord, hallIn, need, ones, pieces, placesOf, recordSound}
+use Rattle.rules.specs.Table.{allMarks, bitsOfWords, decode, decodeDesk, encode, every, everyRecord, hallIn, need, ones, pieces, placesOf, recordSound}
 use Rattle.rules.specs.Table.{headerWords, listPlace, markWords, marksPlace, recordWidth, recordsIn, scanSound, sound, widthFor, written}
 use Rattle.rules.specs.laws.Bools.{and-left, and-right}
 use Rattle.rules.specs.laws.Decoding.{length-bits-of-words, list-parts, marks-of-places, ready-length, same-table, tested-length}
@@ -62,7 +62,7 @@ desk-sound S r lr hS e =
     let e4 = and-right q4 (q5 && q6) e3 in
     let h0 : a + b + c ≤ 2 * S = leb-true (a + b + c) (2 * S) (and-left q1 (q2 && (q3 && (q4 && (q5 && q6)))) e) in
     let hl : length l ≡ 2 * S = omega (arith, length-drop listPlace r) in
-    let hu : length u ≡ mostPlaces = omega (arith, length-bits-of-words (take markWords (drop marksPlace r)), length-take-le markWords (drop marksPlace r) (omega (arith, length-drop marksPlace r))) in
+    let hu : length u ≡ allMarks = omega (arith, length-bits-of-words (take markWords (drop marksPlace r)), length-take-le markWords (drop marksPlace r) (omega (arith, length-drop marksPlace r))) in
     let T : List TestedPlace = placesOf (take b (drop a l)) (take b u) in
     let f =
     marks-of-places (take b (drop a l)) (take b u)

@@ -9,10 +9,10 @@ use lib.Dec.{ltb, eqb}
 use borrow.Author.Tests.{ltb-true, ltb-false, eqb-false, not-true}
 use Rattle.rules.specs.Bytes.{Call16, Words16}
 use Rattle.rules.specs.Demands.{refusals}
-use Rattle.rules.specs.Hall.{Desk, Hall, State, TestedPlace, allScreens, deskOf, emptyDesk, mostAllScreens, mostPlaces, screenIndex, usedPlaces}
+use Rattle.rules.specs.Hall.{Desk, Hall, State, TestedPlace, allScreens, deskOf, emptyDesk, mostAllScreens, screenIndex, usedPlaces}
 use Rattle.rules.specs.History.{copies}
 use Rattle.rules.specs.Steps.{Call, Collect, Drop, Question, Retire, Swap, Take, collect, decide, firstNo, inRange, perform, questions, retire}
-use Rattle.rules.specs.Table.{TableDone, decode, decodeDesk, encode, encodeDesk, hallIn, listOf, marksIn, marksOf, need, openQuestions}
+use Rattle.rules.specs.Table.{TableDone, allMarks, decode, decodeDesk, encode, encodeDesk, hallIn, listOf, marksIn, marksOf, need, openQuestions}
 use Rattle.rules.specs.Table.{openTable, openedTable, placesOf, positionWord, putRecord, recordOf, recordStart, recordWidth, screenWord, sound}
 use Rattle.rules.specs.Table.{headerWords, listPlace, markWords, stepTable, wordOfBits, wordsOfBits, written}
 use Rattle.rules.specs.laws.Collect.{collect-copies, copiesOn, retire-copies}
@@ -90,14 +90,14 @@ unfolding encodeDesk
 record-words S D h k = at
   where
     bits : List Bool
-    bits = marksOf (D .tested) ++ replicate (mostPlaces - length (D .tested)) false
+    bits = marksOf (D .tested) ++ replicate (allMarks - length (D .tested)) false
 
     rest : Words16 (listOf D ++ replicate (2 * S - length (listOf D)) 0)
     rest =
         below-append 65536 (listOf D) (replicate (2 * S - length (listOf D)) 0)
         (words-if-no-large-copies (listOf D) (λ s l. copies-list s D ∙ k .sessions s l)) (words-zeros (2 * S - length (listOf D)))
 
-    at : Words16 (D .owed ∷ D .scanned ∷ length (D .ready) ∷ length (D .tested) ∷ length (D .waiting) ∷ (wordsOfBits markWords (marksOf (D .tested) ++ replicate (mostPlaces - length (D .tested)) false) ++ (listOf D ++ replicate (2 * S - length (listOf D)) 0)))
+    at : Words16 (D .owed ∷ D .scanned ∷ length (D .ready) ∷ length (D .tested) ∷ length (D .waiting) ∷ (wordsOfBits markWords (marksOf (D .tested) ++ replicate (allMarks - length (D .tested)) false) ++ (listOf D ++ replicate (2 * S - length (listOf D)) 0)))
     at zero = k .owed
     at (suc zero) = omega (arith, scanned-small S (D .scanned) (D .tested) (k .sound .pass))
     at (suc (suc zero)) = omega (arith, k .sound .total)
