@@ -5,10 +5,12 @@ use native.Mathlib.Omega.{arith}
 use mathlib.Core.List.{List}
 use mathlib.Core.Path.{_≡_}
 use lib.ListN.{take, drop}
+use Rattle.rules.specs.Hall.{mostAllScreens, mostDesks}
+use Rattle.rules.specs.Table.{widthFor}
 
 -- all records together, of the largest hall
-pub records-bound : (d s : ℕ) → d ≤ 16 → s ≤ 64 → d * (13 + 2 * s) ≤ 2256
-records-bound d s hd hs = let h : 13 + 2 * s ≤ 141 = omega arith in mul-le-mul hd h
+pub records-bound : (d s : ℕ) → d ≤ mostDesks → s ≤ mostAllScreens → d * widthFor s ≤ mostDesks * widthFor mostAllScreens
+records-bound d s hd hs = let h : widthFor s ≤ widthFor mostAllScreens = omega arith in mul-le-mul hd h
 
 -- row d, of n, among the first p rows ends within them
 pub row-ends : (d p n : ℕ) → d < p → d * n + n ≤ p * n

@@ -10,9 +10,10 @@ use mathlib.Core.Path.{_≡_, refl, sym, ap, ap₂, _∙_}
 use lib.ListN.{length, take, drop, length-drop, take-append-drop}
 use lib.Seq.{drop-drop, length-take-le}
 use borrow.Author.Tests.{le-leb, lt-leb}
-use Rattle.rules.specs.Hall.{allScreens}
+use Rattle.rules.specs.Hall.{allScreens, mostAllScreens, mostDesks, mostPositions, mostScreens}
 use Rattle.rules.specs.Steps.{inRange}
 use Rattle.rules.specs.Table.{everyRecord, hallIn, need, pieces, putRecord, recordOf, recordSound, recordStart, recordWidth, screenWord, sound}
+use Rattle.rules.specs.Table.{headerWords, widthFor}
 use Rattle.rules.specs.laws.Effect.{in-range}
 use Rattle.rules.specs.laws.TableSteps.{Known, record-sound}
 use Rattle.marks.proofs.BoolLaws.{&&-false, not-true, not-false}
@@ -66,32 +67,32 @@ no-three true b c = no-two b c
 no-three false b c = refl
 
 module _ (t : List ℕ) where
-  pub bad-desks : inRange (hallIn t .desks) 16 ≡ false → sound t ≡ false
+  pub bad-desks : inRange (hallIn t .desks) mostDesks ≡ false → sound t ≡ false
   unfolding sound
   bad-desks q = rw q
 
-  pub bad-screens : inRange (hallIn t .screens) 4 ≡ false → sound t ≡ false
+  pub bad-screens : inRange (hallIn t .screens) mostScreens ≡ false → sound t ≡ false
   unfolding sound
-  bad-screens q = rw q (&&-false (inRange (hallIn t .desks) 16))
+  bad-screens q = rw q (&&-false (inRange (hallIn t .desks) mostDesks))
 
-  pub bad-positions : inRange (hallIn t .positions) 64 ≡ false → sound t ≡ false
+  pub bad-positions : inRange (hallIn t .positions) mostPositions ≡ false → sound t ≡ false
   unfolding sound
-  bad-positions q = rw q (no-two (inRange (hallIn t .desks) 16) (inRange (hallIn t .screens) 4))
+  bad-positions q = rw q (no-two (inRange (hallIn t .desks) mostDesks) (inRange (hallIn t .screens) mostScreens))
 
   pub not-long : length t < need (hallIn t) → sound t ≡ false
   unfolding sound
-  not-long h = rw (lt-leb (need (hallIn t)) (length t) h) (no-three (inRange (hallIn t .desks) 16) (inRange (hallIn t .screens) 4) (inRange (hallIn t .positions) 64))
+  not-long h = rw (lt-leb (need (hallIn t)) (length t) h) (no-three (inRange (hallIn t .desks) mostDesks) (inRange (hallIn t .screens) mostScreens) (inRange (hallIn t .positions) mostPositions))
 
-  pub by-records : inRange (hallIn t .desks) 16 ≡ true → inRange (hallIn t .screens) 4 ≡ true → inRange (hallIn t .positions) 64 ≡ true → need (hallIn t) ≤ length t
-      → sound t ≡ everyRecord (recordSound (allScreens (hallIn t))) (pieces (hallIn t .desks) (recordWidth (hallIn t)) (drop (3 + hallIn t .positions + allScreens (hallIn t)) t))
+  pub by-records : inRange (hallIn t .desks) mostDesks ≡ true → inRange (hallIn t .screens) mostScreens ≡ true → inRange (hallIn t .positions) mostPositions ≡ true → need (hallIn t) ≤ length t
+      → sound t ≡ everyRecord (recordSound (allScreens (hallIn t))) (pieces (hallIn t .desks) (recordWidth (hallIn t)) (drop (headerWords + hallIn t .positions + allScreens (hallIn t)) t))
   unfolding sound
   by-records p q r h =
       let H = hallIn t in
       let L = H .positions in
       let S = allScreens H in
-      let e : 3 + (L + S) ≡ 3 + L + S = omega arith in
+      let e : headerWords + (L + S) ≡ headerWords + L + S = omega arith in
       rw (p, q, r, le-leb (need H) (length t) h)
-      (ap (λ (x : List ℕ). everyRecord (recordSound S) (pieces (H .desks) (recordWidth H) x)) (drop-drop S L (drop 3 t) ∙ drop-drop (L + S) 3 t ∙ ap (λ (k : ℕ). drop k t) e))
+      (ap (λ (x : List ℕ). everyRecord (recordSound S) (pieces (H .desks) (recordWidth H) x)) (drop-drop S L (drop headerWords t) ∙ drop-drop (L + S) headerWords t ∙ ap (λ (k : ℕ). drop k t) e))
 
 -- ---- a number that the code found in range, or not
 pub is-in : (b : Bool) (x n m : ℕ) → b ≡ inRange x n → n ≡ m → not b ≡ false → inRange x m ≡ true
@@ -104,9 +105,9 @@ is-out b x n m p e q = ap (λ (k : ℕ). inRange x k) (sym e) ∙ sym p ∙ not-
 pub record Reach (t : List ℕ) (d i l c : ℕ) : Type 0 where
   pub first : 1 ≤ d
   pub own : 1 ≤ i
-  pub row : (d - 1) * c ≤ 64
-  pub at : 3 + l + ((d - 1) * c + (i - 1)) < length t
-  pub is : 3 + l + ((d - 1) * c + (i - 1)) ≡ screenWord (hallIn t) d i
+  pub row : (d - 1) * c ≤ mostAllScreens
+  pub at : headerWords + l + ((d - 1) * c + (i - 1)) < length t
+  pub is : headerWords + l + ((d - 1) * c + (i - 1)) ≡ screenWord (hallIn t) d i
 
 pub reach : (t : List ℕ) → Known t → (d i l c : ℕ) → c ≡ hallIn t .screens → l ≡ hallIn t .positions → 1 ≤ d → d ≤ hallIn t .desks → inRange i (hallIn t .screens) ≡ true → Reach t d i l c
 reach t f d i l c ec el d1 dp w =
@@ -121,32 +122,32 @@ reach t f d i l c ec el d1 dp w =
 -- ---- the record of desk d, from 1, as the code finds and lends it
 pub record Lent (t : List ℕ) (d s a : ℕ) : Type 0 where
   pub is : a ≡ recordStart (hallIn t) d
-  pub end : a + (13 + 2 * s) ≤ length t
-  pub part : take (a + (13 + 2 * s) - a) (drop a t) ≡ recordOf (hallIn t) t d
-  pub long : length (take (a + (13 + 2 * s) - a) (drop a t)) ≡ 13 + 2 * s
-  pub sound : recordSound s (take (a + (13 + 2 * s) - a) (drop a t)) ≡ true
+  pub end : a + widthFor s ≤ length t
+  pub part : take (a + widthFor s - a) (drop a t) ≡ recordOf (hallIn t) t d
+  pub long : length (take (a + widthFor s - a) (drop a t)) ≡ widthFor s
+  pub sound : recordSound s (take (a + widthFor s - a) (drop a t)) ≡ true
 
 pub lent : (t : List ℕ) → Known t → (d s a : ℕ) → s ≡ allScreens (hallIn t) → a ≡ recordStart (hallIn t) d → 1 ≤ d → d ≤ hallIn t .desks → Lent t d s a
 lent t f d s a es ea d1 dp =
     let h : d - 1 < hallIn t .desks = omega arith in
-    let g = row-ends (d - 1) (hallIn t .desks) (13 + 2 * allScreens (hallIn t)) h in
+    let g = row-ends (d - 1) (hallIn t .desks) (recordWidth (hallIn t)) h in
     let n = f .long in
-    let p : take (a + (13 + 2 * s) - a) (drop a t) ≡ recordOf (hallIn t) t d
-    = row-part t a (recordStart (hallIn t) d) (13 + 2 * s) ea ∙ rw es in
-    let e : a + (13 + 2 * s) ≤ length t = omega arith in
+    let p : take (a + widthFor s - a) (drop a t) ≡ recordOf (hallIn t) t d
+    = row-part t a (recordStart (hallIn t) d) (widthFor s) ea ∙ rw es in
+    let e : a + widthFor s ≤ length t = omega arith in
     record {
       is = ea;
       end = e;
       part = p;
-      long = length-take-le (a + (13 + 2 * s) - a) (drop a t) (omega (arith, length-drop a t)) ∙ omega arith;
+      long = length-take-le (a + widthFor s - a) (drop a t) (omega (arith, length-drop a t)) ∙ omega arith;
       sound = rw (p, es) (record-sound t d f d1 dp);
     }
 
 -- the record replaced, as the borrow checker says it; and the record as it was
-pub put-on : (t : List ℕ) (d s a : ℕ) → Lent t d s a → s ≡ allScreens (hallIn t) → (ys zs : List ℕ) → ys ≡ zs → take a t ++ (ys ++ drop (a + (13 + 2 * s) - a) (drop a t)) ≡ putRecord (hallIn t) t d zs
+pub put-on : (t : List ℕ) (d s a : ℕ) → Lent t d s a → s ≡ allScreens (hallIn t) → (ys zs : List ℕ) → ys ≡ zs → take a t ++ (ys ++ drop (a + widthFor s - a) (drop a t)) ≡ putRecord (hallIn t) t d zs
 put-on t d s a g es ys zs q =
-    let k : a + (13 + 2 * s) - a ≡ 13 + 2 * s = omega arith in
-    let e : a + (13 + 2 * s) - a ≡ recordWidth (hallIn t) = k ∙ ap (λ (x : ℕ). 13 + 2 * x) es in
+    let k : a + widthFor s - a ≡ widthFor s = omega arith in
+    let e : a + widthFor s - a ≡ recordWidth (hallIn t) = k ∙ ap widthFor es in
     (λ i. take (g .is i) t ++ (q i ++ drop (e i) (drop (g .is i) t)))
 
 pub put-same : (t : List ℕ) (a n : ℕ) (ys : List ℕ) → ys ≡ take n (drop a t) → take a t ++ (ys ++ drop n (drop a t)) ≡ t

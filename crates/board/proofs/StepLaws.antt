@@ -1,5 +1,5 @@
 -- The steps, return by return: what the code answers and leaves is what the rules say.
-use Prim.Native.Nat.{ℕ, zero, suc, _+_, _-_, _*_, _^_, _≤_, _<_}
+use Prim.Native.Nat.{ℕ, zero, suc, _+_, _-_, _^_, _≤_, _<_}
 use native.Mathlib.Nat.{one-le-mul, add-assoc}
 use native.Mathlib.Omega.{arith}
 use mathlib.Core.Bool.{Bool, true, false, not, cond}
@@ -9,9 +9,10 @@ use lib.Dec.{eqb, leb}
 use lib.ListN.{length, getD, take, drop, set, replicate, length-drop}
 use lib.Seq.{getD-take, getD-drop, length-take-le, drop-drop}
 use borrow.Author.Tests.{eq-eqb, ne-eqb, le-leb, lt-leb}
-use Rattle.rules.specs.Hall.{Desk, Hall, allScreens, deskOf, screenIndex}
+use Rattle.rules.specs.Hall.{Desk, Hall, allScreens, deskOf, mostAllScreens, screenIndex}
 use Rattle.rules.specs.Steps.{Collect, Collected, Drop, Retire, Swap, Take, collect, collectSeeing, firstNo, inRange, retire, retireQuestions}
 use Rattle.rules.specs.Table.{decode, decodeDesk, encodeDesk, hallIn, need, openTable, positionWord, recordOf, screenWord, sound, stepTable}
+use Rattle.rules.specs.Table.{headerWords, widthFor}
 use Rattle.rules.specs.laws.Decoding.{small-drop, small-take}
 use Rattle.rules.specs.laws.Effect.{in-range}
 use Rattle.rules.specs.laws.TableSteps.{accepted-open, accepted-step, asked, asked-no, asked-yes, collect-seeing, desk-word, held-word, owed-word, refused-open, refused-step, shown-at, shown-word}
@@ -52,52 +53,52 @@ module _ (t : List ℕ) (d i : ℕ) (p : Place) (e : Entered t d p) where
 -- ---- the record of the desk, as the code lends it
 pub record Ready (t : List ℕ) (d s a : ℕ) : Type 0 where
   pub lent-is : Lent t d s a
-  pub end : a + (13 + 2 * s) ≤ length t
-  pub most : s ≤ 64
+  pub end : a + widthFor s ≤ length t
+  pub most : s ≤ mostAllScreens
   pub all-is : s ≡ allScreens (hallIn t)
-  pub encoded : Encoded s (take (a + (13 + 2 * s) - a) (drop a t))
-  pub desk-is : decodeDesk (take (a + (13 + 2 * s) - a) (drop a t)) ≡ deskOf (decode (hallIn t) t) d
+  pub encoded : Encoded s (take (a + widthFor s - a) (drop a t))
+  pub desk-is : decodeDesk (take (a + widthFor s - a) (drop a t)) ≡ deskOf (decode (hallIn t) t) d
 
 pub ready : (t : List ℕ) (d : ℕ) (p : Place) → Entered t d p → ((i : ℕ) → getD t i 0 < 2 ^ 16) → Ready t d (p .all) (p .start)
 ready t d p e sm =
     let s = p .all in
     let a = p .start in
     let g = lent t (e .facts) d s a (e .all-is) (e .start-is) (e .range .0) (e .range .1) in
-    let m : s ≤ 64 = omega (arith, e .all-is, e .facts .most) in
+    let m : s ≤ mostAllScreens = omega (arith, e .all-is, e .facts .most) in
     record {
       lent-is = g;
       end = g .end;
       most = m;
       all-is = e .all-is;
-      encoded = sound-encoded s (take (a + (13 + 2 * s) - a) (drop a t)) m (g .long) (small-take (a + (13 + 2 * s) - a) (drop a t) (small-drop a t sm)) (g .sound);
+      encoded = sound-encoded s (take (a + widthFor s - a) (drop a t)) m (g .long) (small-take (a + widthFor s - a) (drop a t) (small-drop a t sm)) (g .sound);
       desk-is = ap decodeDesk (g .part) ∙ sym (desk-word t d (e .range .0) (e .range .1));
     }
 
 -- ---- retire
 pub retire-told : (t : List ℕ) (d : ℕ) (p : Place) → Entered t d p → (r : Ready t d (p .all) (p .start)) (x : Reply) (ys : List ℕ)
-    → Retired (p .all) (take (p .start + (13 + 2 * p .all) - p .start) (drop (p .start) t)) (answerOf x) ys
-    → told x (take (p .start) t ++ (ys ++ drop (p .start + (13 + 2 * p .all) - p .start) (drop (p .start) t))) ≡ stepTable t (Retire d)
+    → Retired (p .all) (take (p .start + widthFor (p .all) - p .start) (drop (p .start) t)) (answerOf x) ys
+    → told x (take (p .start) t ++ (ys ++ drop (p .start + widthFor (p .all) - p .start) (drop (p .start) t))) ≡ stepTable t (Retire d)
 retire-told t d p e r x ys q = go (answerOf x .number) refl
   where
     all-asked : asked t (Retire d) ≡ answerOf x .number
     all-asked = asked-yes (inRange d (hallIn t .desks)) _ 6 _ (e .yes-desk) (sym (q .number ∙ ap₂ (λ (n : ℕ) (D : Desk). firstNo (retireQuestions n D)) (r .all-is) (r .desk-is)))
 
-    go : (n : ℕ) → answerOf x .number ≡ n → told x (take (p .start) t ++ (ys ++ drop (p .start + (13 + 2 * p .all) - p .start) (drop (p .start) t))) ≡ stepTable t (Retire d)
+    go : (n : ℕ) → answerOf x .number ≡ n → told x (take (p .start) t ++ (ys ++ drop (p .start + widthFor (p .all) - p .start) (drop (p .start) t))) ≡ stepTable t (Retire d)
     go zero z =
         let yes : eqb (answerOf x .number) 0 ≡ true = eq-eqb (answerOf x .number) 0 z in
         let v : answerOf x .session ≡ deskOf (decode (hallIn t) t) d .owed
-        = q .session ∙ ap (λ (b : Bool). cond b (decodeDesk (take (p .start + (13 + 2 * p .all) - p .start) (drop (p .start) t)) .owed) 0) yes ∙ ap (λ (D : Desk). D .owed) (r .desk-is) in
+        = q .session ∙ ap (λ (b : Bool). cond b (decodeDesk (take (p .start + widthFor (p .all) - p .start) (drop (p .start) t)) .owed) 0) yes ∙ ap (λ (D : Desk). D .owed) (r .desk-is) in
         let w : ys ≡ encodeDesk (allScreens (hallIn t)) (retire (decodeDesk (recordOf (hallIn t) t d)))
-        = q .after ∙ ap (λ (b : Bool). cond b (encodeDesk (p .all) (retire (decodeDesk (take (p .start + (13 + 2 * p .all) - p .start) (drop (p .start) t))))) (take (p .start + (13 + 2 * p .all) - p .start) (drop (p .start) t))) yes
+        = q .after ∙ ap (λ (b : Bool). cond b (encodeDesk (p .all) (retire (decodeDesk (take (p .start + widthFor (p .all) - p .start) (drop (p .start) t))))) (take (p .start + widthFor (p .all) - p .start) (drop (p .start) t))) yes
         ∙ ap₂ (λ (n : ℕ) (l : List ℕ). encodeDesk n (retire (decodeDesk l))) (r .all-is) (r .lent-is .part) in
         (λ i. record { answer = record { number = z i; session = v i }; after = put-on t d (p .all) (p .start) (r .lent-is) (r .all-is) ys _ w i })
         ∙ sym (accepted-step t (Retire d) (e .yes-sound) (all-asked ∙ z))
     go (suc n) z =
         let no-more : eqb (answerOf x .number) 0 ≡ false = ne-eqb (answerOf x .number) 0 (λ y. omega arith) in
-        let v : answerOf x .session ≡ 0 = q .session ∙ ap (λ (b : Bool). cond b (decodeDesk (take (p .start + (13 + 2 * p .all) - p .start) (drop (p .start) t)) .owed) 0) no-more in
-        let w : ys ≡ take (p .start + (13 + 2 * p .all) - p .start) (drop (p .start) t)
-        = q .after ∙ ap (λ (b : Bool). cond b (encodeDesk (p .all) (retire (decodeDesk (take (p .start + (13 + 2 * p .all) - p .start) (drop (p .start) t))))) (take (p .start + (13 + 2 * p .all) - p .start) (drop (p .start) t))) no-more in
-        (λ i. record { answer = record { number = z i; session = v i }; after = put-same t (p .start) (p .start + (13 + 2 * p .all) - p .start) ys w i })
+        let v : answerOf x .session ≡ 0 = q .session ∙ ap (λ (b : Bool). cond b (decodeDesk (take (p .start + widthFor (p .all) - p .start) (drop (p .start) t)) .owed) 0) no-more in
+        let w : ys ≡ take (p .start + widthFor (p .all) - p .start) (drop (p .start) t)
+        = q .after ∙ ap (λ (b : Bool). cond b (encodeDesk (p .all) (retire (decodeDesk (take (p .start + widthFor (p .all) - p .start) (drop (p .start) t))))) (take (p .start + widthFor (p .all) - p .start) (drop (p .start) t))) no-more in
+        (λ i. record { answer = record { number = z i; session = v i }; after = put-same t (p .start) (p .start + widthFor (p .all) - p .start) ys w i })
         ∙ sym (refused-step t (Retire d) n (e .yes-sound) (all-asked ∙ z))
 
 -- ---- collect: the screens that are read
@@ -112,18 +113,18 @@ one : (l : List ℕ) (k : ℕ) → k + 1 ≡ length l → take 2 (drop k l) ≡ 
 one l k h = rw (rest l k (omega arith), ended l (k + 1) (omega arith))
 
 pub record Reads (t : List ℕ) (d s l a k : ℕ) : Type 0 where
-  pub scanned-is : k ≡ decodeDesk (take (a + (13 + 2 * s) - a) (drop a t)) .scanned
+  pub scanned-is : k ≡ decodeDesk (take (a + widthFor s - a) (drop a t)) .scanned
   pub below : k < s
-  pub at : 3 + l + s ≤ a
-  pub see-two : k + 1 < s → getD t (3 + l + k) 0 ∷ getD t (3 + l + k + 1) 0 ∷ [] ≡ take 2 (drop k (decode (hallIn t) t .shown))
-  pub see-one : s ≤ k + 1 → getD t (3 + l + k) 0 ∷ [] ≡ take 2 (drop k (decode (hallIn t) t .shown))
+  pub at : headerWords + l + s ≤ a
+  pub see-two : k + 1 < s → getD t (headerWords + l + k) 0 ∷ getD t (headerWords + l + k + 1) 0 ∷ [] ≡ take 2 (drop k (decode (hallIn t) t .shown))
+  pub see-one : s ≤ k + 1 → getD t (headerWords + l + k) 0 ∷ [] ≡ take 2 (drop k (decode (hallIn t) t .shown))
 
 pub reads : (t : List ℕ) (d k : ℕ) (p : Place) → Entered t d p → (r : Ready t d (p .all) (p .start)) → k ≡ getD t (p .start + 1) 0 → Reads t d (p .all) (p .positions) (p .start) k
 reads t d k p e r ek =
     let s = p .all in
     let l = p .positions in
     let a = p .start in
-    let n = a + (13 + 2 * s) - a in
+    let n = a + widthFor s - a in
     let en = r .end in
     let es = e .all-is in
     let el = e .positions-is in
@@ -133,24 +134,24 @@ reads t d k p e r ek =
     let rk : k ≡ getD (take n (drop a t)) 1 0 = ek ∙ sym (getD-take n (drop a t) 1 0 (omega arith) ∙ getD-drop a t 1 0) in
     let kl : getD (take n (drop a t)) 1 0 < s = scanned-below s (take n (drop a t)) (omega arith) (r .lent-is .sound) in
     let ls : length (decode (hallIn t) t .shown) ≡ s
-    = length-take-le (allScreens (hallIn t)) (drop (hallIn t .positions) (drop 3 t)) (omega (arith, length-drop (hallIn t .positions) (drop 3 t), length-drop 3 t)) ∙ sym es in
-    let look : (j : ℕ) → j < s → getD (decode (hallIn t) t .shown) j 0 ≡ getD t (3 + l + j) 0
-    = λ j h. shown-at t j (omega arith) ∙ ap (λ (x : ℕ). getD t (3 + x + j) 0) (sym el) in
+    = length-take-le (allScreens (hallIn t)) (drop (hallIn t .positions) (drop headerWords t)) (omega (arith, length-drop (hallIn t .positions) (drop headerWords t), length-drop headerWords t)) ∙ sym es in
+    let look : (j : ℕ) → j < s → getD (decode (hallIn t) t .shown) j 0 ≡ getD t (headerWords + l + j) 0
+    = λ j h. shown-at t j (omega arith) ∙ ap (λ (x : ℕ). getD t (headerWords + x + j) 0) (sym el) in
     record {
       scanned-is = rk ∙ scanned-word (take n (drop a t));
       below = omega arith;
       at = omega (arith, e .start-is);
-      see-two = λ h. sym (two (decode (hallIn t) t .shown) k (omega arith) ∙ (λ i. look k (omega arith) i ∷ (look (k + 1) h ∙ ap (λ (x : ℕ). getD t x 0) (sym (add-assoc (3 + l) k 1))) i ∷ []));
+      see-two = λ h. sym (two (decode (hallIn t) t .shown) k (omega arith) ∙ (λ i. look k (omega arith) i ∷ (look (k + 1) h ∙ ap (λ (x : ℕ). getD t x 0) (sym (add-assoc (headerWords + l) k 1))) i ∷ []));
       see-one = λ h. sym (one (decode (hallIn t) t .shown) k (omega arith) ∙ (λ i. look k (omega arith) i ∷ []));
     }
 
-pub collect-told : (t : List ℕ) (d k : ℕ) (p : Place) → Entered t d p → (r : Ready t d (p .all) (p .start)) → k ≡ decodeDesk (take (p .start + (13 + 2 * p .all) - p .start) (drop (p .start) t)) .scanned
+pub collect-told : (t : List ℕ) (d k : ℕ) (p : Place) → Entered t d p → (r : Ready t d (p .all) (p .start)) → k ≡ decodeDesk (take (p .start + widthFor (p .all) - p .start) (drop (p .start) t)) .scanned
     → (vs : List ℕ) → vs ≡ take 2 (drop k (decode (hallIn t) t .shown)) → (x : ℕ) (ys : List ℕ)
-    → x ≡ collectSeeing (p .all) vs (decodeDesk (take (p .start + (13 + 2 * p .all) - p .start) (drop (p .start) t))) .session
-    → ys ≡ encodeDesk (p .all) (collectSeeing (p .all) vs (decodeDesk (take (p .start + (13 + 2 * p .all) - p .start) (drop (p .start) t))) .after)
-    → told (Accepted x) (take (p .start) t ++ (ys ++ drop (p .start + (13 + 2 * p .all) - p .start) (drop (p .start) t))) ≡ stepTable t (Collect d)
+    → x ≡ collectSeeing (p .all) vs (decodeDesk (take (p .start + widthFor (p .all) - p .start) (drop (p .start) t))) .session
+    → ys ≡ encodeDesk (p .all) (collectSeeing (p .all) vs (decodeDesk (take (p .start + widthFor (p .all) - p .start) (drop (p .start) t))) .after)
+    → told (Accepted x) (take (p .start) t ++ (ys ++ drop (p .start + widthFor (p .all) - p .start) (drop (p .start) t))) ≡ stepTable t (Collect d)
 collect-told t d k p e r ek vs ev x ys ex ey =
-    let D = decodeDesk (take (p .start + (13 + 2 * p .all) - p .start) (drop (p .start) t)) in
+    let D = decodeDesk (take (p .start + widthFor (p .all) - p .start) (drop (p .start) t)) in
     let H = hallIn t in
     let scr = decode (hallIn t) t .shown in
     let same : collectSeeing (p .all) vs D ≡ collect (allScreens H) scr D
@@ -224,8 +225,8 @@ module _ (t : List ℕ) (d q v : ℕ) (p : Place) (e : Entered t d p) where
 -- where a position and a desk's record stand
 pub record Stands (t : List ℕ) (l q a : ℕ) : Type 0 where
   pub first : 1 ≤ q
-  pub place : 3 + (q - 1) < length t
-  pub before : 3 + (q - 1) < a
+  pub place : headerWords + (q - 1) < length t
+  pub before : headerWords + (q - 1) < a
   pub owed : a < length t
 
 pub stands : (t : List ℕ) (d q : ℕ) (p : Place) → Entered t d p → inRange q (hallIn t .positions) ≡ true → Stands t (p .positions) q (p .start)

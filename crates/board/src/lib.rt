@@ -10,9 +10,10 @@ use reply::number;
 ghost use mathlib.Core.Path.{_≡_};
 ghost use Prim.Native.Nat.{_+_, _-_, _*_, _≤_, _<_};
 ghost use lib.ListN.{length, drop as dropWords};
-ghost use Rattle.rules.specs.Hall.{hallOf};
+ghost use Rattle.rules.specs.Hall.{hallOf, mostAllScreens, mostDesks, mostPositions};
 ghost use Rattle.rules.specs.Steps.{Collect, Drop, Retire, Swap, Take, inRange};
 ghost use Rattle.rules.specs.Table.{everyRecord, need as hallNeed, openTable, pieces, recordSound, sound as soundTable, stepTable};
+ghost use Rattle.rules.specs.Table.{headerWords, mostWords, startFor, widthFor};
 ghost use Rattle.rules.specs.laws.Window.{deskIn};
 ghost use Rattle.reply.specs.Answer.{answerOf, told};
 ghost use Rattle.board.specs.Entry.{entryOf};
@@ -29,7 +30,7 @@ const SCREENS: usize = 1;
 const POSITIONS: usize = 2;
 
 // The words before the session at each position.
-const HEADER: usize = 3;
+pub const HEADER: usize = 3;
 
 // The board of a hall: its limits, and the words that its table needs.
 pub struct Board;
@@ -66,8 +67,8 @@ fn in_range(n: u16, most: usize) -> bool
 // Where the record of desk d stands, with d counted from 0, in a hall of l positions and s screens.
 // It requires numbers within the limits: a sound table tells them. Desk P's end is the start of a desk after it.
 pub fn record_start(l: usize, s: usize, d: usize) -> usize
-    requires { ⌜ (l ≤ 64) × (s ≤ 64) × (d ≤ 16) ⌝ }
-    ensures { λ r. ⌜ (r ≡ 3 + l + s + d * (13 + 2 * s)) × (r ≤ 2387) ⌝ }
+    requires { ⌜ (l ≤ mostPositions) × (s ≤ mostAllScreens) × (d ≤ mostDesks) ⌝ }
+    ensures { λ r. ⌜ (r ≡ startFor l s d) × (r ≤ mostWords) ⌝ }
 {
     HEADER + l + s + d * (LIST + 2 * s)
 }
@@ -100,8 +101,8 @@ pub fn sound(t: &[u16]) -> bool
 
 // Whether the record of each desk is sound, in a table that is long enough.
 fn sound_records(t: &[u16], p: usize, l: usize, s: usize) -> bool
-    requires { ⌜ (p ≤ 16) × (l ≤ 64) × (s ≤ 64) × (3 + l + s + p * (13 + 2 * s) ≤ length (now t)) ⌝ }
-    ensures { λ r. ⌜ r ≡ everyRecord (recordSound s) (pieces p (13 + 2 * s) (dropWords (3 + l + s) (now (t .entry)))) ⌝ }
+    requires { ⌜ (p ≤ mostDesks) × (l ≤ mostPositions) × (s ≤ mostAllScreens) × (startFor l s p ≤ length (now t)) ⌝ }
+    ensures { λ r. ⌜ r ≡ everyRecord (recordSound s) (pieces p (widthFor s) (dropWords (headerWords + l + s) (now (t .entry)))) ⌝ }
 {
     let size = LIST + 2 * s;
     let mut d = 0;

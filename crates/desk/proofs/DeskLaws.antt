@@ -9,6 +9,8 @@ use lib.ListN.{length, getD, take, drop, set, replicate, length-append, length-d
 use lib.Seq.{drop-cons, getD-take, getD-drop, take-all, drop-drop, take-append-seam, drop-append-seam, take-at, drop-at, take-append-add, drop-append-add}
 use borrow.Author.Tests.{eq-eqb, ne-eqb, lt-ltb, le-ltb}
 use borrow.Rule.Slice.PartMut.{putMid}
+use Rattle.rules.specs.Hall.{mostAllScreens}
+use Rattle.rules.specs.Table.{listPlace, markWords, marksPlace, widthFor}
 use Rattle.marks.specs.Marks.{marks, onesIn, findPlace, markPlace, pick}
 use Rattle.marks.proofs.MarkLaws.{marks-length, mark-small}
 use Rattle.marks.proofs.PlaceLaws.{found-unmarked, marked-count, pick-all}
@@ -20,7 +22,7 @@ raw o k a b c ws l = o ∷ k ∷ a ∷ b ∷ c ∷ (ws ++ l)
 
 -- ---- from a state to its record and back
 
-pub record-length : (s : ℕ) (d : WordDesk) → Fit s d → length (recordWords s d) ≡ 13 + 2 * s
+pub record-length : (s : ℕ) (d : WordDesk) → Fit s d → length (recordWords s d) ≡ widthFor s
 unfolding recordWords
 record-length s d f =
     let z : List ℕ = replicate (2 * s - length (listed d)) 0 in
@@ -28,15 +30,15 @@ record-length s d f =
     let b = f .eight in
     omega (arith, length-append (d .words) (listed d ++ z), length-append (listed d) z, length-replicate {A = ℕ} (2 * s - length (listed d)) 0)
 
-pub round : (s : ℕ) (d : WordDesk) → length (d .words) ≡ 8 → wordDesk (recordWords s d) ≡ d
+pub round : (s : ℕ) (d : WordDesk) → length (d .words) ≡ markWords → wordDesk (recordWords s d) ≡ d
 unfolding recordWords wordDesk
 round s d e =
     let z : List ℕ = replicate (2 * s - length (listed d)) 0 in
-    let w : take 8 (d .words ++ (listed d ++ z)) ≡ d .words = take-at (d .words) (listed d ++ z) 8 e in
-    let p : drop 8 (d .words ++ (listed d ++ z)) ≡ d .ready ++ (d .tested ++ (d .waiting ++ z))
-    = drop-at (d .words) (listed d ++ z) 8 e ∙ append-assoc (d .ready) (d .tested ++ d .waiting) z
+    let w : take markWords (d .words ++ (listed d ++ z)) ≡ d .words = take-at (d .words) (listed d ++ z) markWords e in
+    let p : drop markWords (d .words ++ (listed d ++ z)) ≡ d .ready ++ (d .tested ++ (d .waiting ++ z))
+    = drop-at (d .words) (listed d ++ z) markWords e ∙ append-assoc (d .ready) (d .tested ++ d .waiting) z
     ∙ ap (λ (t : List ℕ). d .ready ++ t) (append-assoc (d .tested) (d .waiting) z) in
-    let q : drop (length (d .ready)) (drop 8 (d .words ++ (listed d ++ z))) ≡ d .tested ++ (d .waiting ++ z)
+    let q : drop (length (d .ready)) (drop markWords (d .words ++ (listed d ++ z))) ≡ d .tested ++ (d .waiting ++ z)
     = ap (drop (length (d .ready))) p ∙ drop-append-seam (d .ready) (d .tested ++ (d .waiting ++ z)) in
     let a = ap (take (length (d .ready))) p ∙ take-append-seam (d .ready) (d .tested ++ (d .waiting ++ z)) in
     let b = ap (take (length (d .tested))) q ∙ take-append-seam (d .tested) (d .waiting ++ z) in
@@ -44,19 +46,19 @@ round s d e =
     ∙ ap (take (length (d .waiting))) (drop-append-seam (d .tested) (d .waiting ++ z)) ∙ take-append-seam (d .waiting) z in
     (λ i. record { owed = d .owed; read = d .read; ready = a i; tested = b i; waiting = c i; words = w i })
 
-pub formed : (s : ℕ) (d : WordDesk) → s ≤ 64 → Fit s d → Formed s (recordWords s d)
+pub formed : (s : ℕ) (d : WordDesk) → s ≤ mostAllScreens → Fit s d → Formed s (recordWords s d)
 formed s d h f =
     let e = round s d (f .eight) in
     record { most = h; is = ap (recordWords s) (sym e); fit = subst (λ (x : WordDesk). Fit s x) (sym e) f }
 
 -- ---- what the words of a formed record are
 pub record Facts (s : ℕ) (r : List ℕ) : Type 0 where
-  pub long : length r ≡ 13 + 2 * s
+  pub long : length r ≡ widthFor s
   pub ready : getD r 2 0 ≡ length (wordDesk r .ready)
   pub tested : getD r 3 0 ≡ length (wordDesk r .tested)
   pub waiting : getD r 4 0 ≡ length (wordDesk r .waiting)
   pub sum : length (wordDesk r .ready) + length (wordDesk r .tested) + length (wordDesk r .waiting) ≤ 2 * s
-  pub most : s ≤ 64
+  pub most : s ≤ mostAllScreens
 
 pub facts : (s : ℕ) (r : List ℕ) → Formed s r → Facts s r
 unfolding recordWords
@@ -76,7 +78,7 @@ pub read-of : (r : List ℕ) → getD r 1 0 ≡ wordDesk r .read
 unfolding wordDesk
 read-of r = refl
 
-pub words-of : (r : List ℕ) → take 8 (drop 5 r) ≡ wordDesk r .words
+pub words-of : (r : List ℕ) → take markWords (drop marksPlace r) ≡ wordDesk r .words
 unfolding wordDesk
 words-of r = refl
 
@@ -100,11 +102,11 @@ start-words s d e =
 -- ---- a part replaced
 
 -- the mark words
-pub put-marks : (o k a b c : ℕ) (ws l ys : List ℕ) → length ws ≡ 8 → putMid 5 8 (raw o k a b c ws l) ys ≡ raw o k a b c ys l
-put-marks o k a b c ws l ys e = ap (λ (t : List ℕ). o ∷ k ∷ a ∷ b ∷ c ∷ (ys ++ t)) (drop-at ws l 8 e)
+pub put-marks : (o k a b c : ℕ) (ws l ys : List ℕ) → length ws ≡ markWords → putMid marksPlace markWords (raw o k a b c ws l) ys ≡ raw o k a b c ys l
+put-marks o k a b c ws l ys e = ap (λ (t : List ℕ). o ∷ k ∷ a ∷ b ∷ c ∷ (ys ++ t)) (drop-at ws l markWords e)
 
 -- a part of the places
-pub put-places : (o k a b c : ℕ) (ws p q r ys : List ℕ) (i n m : ℕ) → length ws ≡ 8 → i ≡ 13 + n → length p ≡ n → length q ≡ m
+pub put-places : (o k a b c : ℕ) (ws p q r ys : List ℕ) (i n m : ℕ) → length ws ≡ markWords → i ≡ listPlace + n → length p ≡ n → length q ≡ m
     → putMid i m (raw o k a b c ws (p ++ (q ++ r))) ys ≡ raw o k a b c ws (p ++ (ys ++ r))
 put-places o k a b c ws p q r ys i n m e h ep eq =
     let j : i ≡ suc (suc (suc (suc (suc (length ws + n))))) = omega arith in
@@ -121,7 +123,7 @@ abbrev pub withWords : WordDesk → List ℕ → WordDesk
 withWords d ws =
     record { owed = d .owed; read = d .read + 1; ready = d .ready; tested = d .tested; waiting = d .waiting; words = ws }
 
-pub see-marked : (s : ℕ) (d : WordDesk) (ys : List ℕ) → length (d .words) ≡ 8 → set (putMid 5 8 (recordWords s d) ys) 1 (d .read + 1) ≡ recordWords s (withWords d ys)
+pub see-marked : (s : ℕ) (d : WordDesk) (ys : List ℕ) → length (d .words) ≡ markWords → set (putMid marksPlace markWords (recordWords s d) ys) 1 (d .read + 1) ≡ recordWords s (withWords d ys)
 unfolding recordWords
 see-marked s d ys e =
     ap (λ (x : List ℕ). set x 1 (d .read + 1))
@@ -134,10 +136,10 @@ see-unmarked s d = refl
 -- ---- (d)
 
 -- all the places
-pub put-all : (o k a b c : ℕ) (ws l ys : List ℕ) (m : ℕ) → length ws ≡ 8 → length l ≤ m → putMid 13 m (raw o k a b c ws l) ys ≡ raw o k a b c ws ys
+pub put-all : (o k a b c : ℕ) (ws l ys : List ℕ) (m : ℕ) → length ws ≡ markWords → length l ≤ m → putMid listPlace m (raw o k a b c ws l) ys ≡ raw o k a b c ws ys
 put-all o k a b c ws l ys m e h =
-    let z : drop m (drop 8 (ws ++ l)) ≡ [] = ap (drop m) (drop-at ws l 8 e) ∙ drop-of-length-le l h in
-    (λ i. o ∷ k ∷ a ∷ b ∷ c ∷ (take-at ws l 8 e i ++ (ys ++ z i))) ∙ ap (λ (x : List ℕ). o ∷ k ∷ a ∷ b ∷ c ∷ (ws ++ x)) (append-nil ys)
+    let z : drop m (drop markWords (ws ++ l)) ≡ [] = ap (drop m) (drop-at ws l markWords e) ∙ drop-of-length-le l h in
+    (λ i. o ∷ k ∷ a ∷ b ∷ c ∷ (take-at ws l markWords e i ++ (ys ++ z i))) ∙ ap (λ (x : List ℕ). o ∷ k ∷ a ∷ b ∷ c ∷ (ws ++ x)) (append-nil ys)
 
 -- the first leaves a list that zeros follow
 hand-list : (q : ℕ) (rd tw : List ℕ) → 0 < length rd → length (rd ++ tw) ≤ q
@@ -150,22 +152,22 @@ hand-list q (x ∷ rd) tw h g =
 
 -- what the code makes of a record x
 abbrev pub handing : List ℕ → List ℕ
-handing x = set (putMid 13 (length x - 13) x (drop 1 (take (length x - 13) (drop 13 x)) ++ (0 ∷ []))) 2 (getD x 2 0 - 1)
+handing x = set (putMid listPlace (length x - listPlace) x (drop 1 (take (length x - listPlace) (drop listPlace x)) ++ (0 ∷ []))) 2 (getD x 2 0 - 1)
 
 hand-words : (s : ℕ) (d : WordDesk) → Fit s d → 0 < length (d .ready) → handing (recordWords s d) ≡ recordWords s (handed d)
 unfolding recordWords
 hand-words s d f h =
     let l : List ℕ = listed d ++ replicate (2 * s - length (listed d)) 0 in
-    let n = length (recordWords s d) - 13 in
+    let n = length (recordWords s d) - listPlace in
     let e = f .eight in
     let j : length l ≤ n = omega (arith, length-append (d .words) l) in
-    let p : drop 8 (d .words ++ l) ≡ l = drop-at (d .words) l 8 e in
-    let q : drop 1 (take n (drop 8 (d .words ++ l))) ++ (0 ∷ []) ≡ listed (handed d) ++ replicate (2 * s - length (listed (handed d))) 0
+    let p : drop markWords (d .words ++ l) ≡ l = drop-at (d .words) l markWords e in
+    let q : drop 1 (take n (drop markWords (d .words ++ l))) ++ (0 ∷ []) ≡ listed (handed d) ++ replicate (2 * s - length (listed (handed d))) 0
     = ap (λ (t : List ℕ). drop 1 t ++ (0 ∷ [])) (ap (take n) p ∙ take-all n l j)
     ∙ hand-list (2 * s) (d .ready) (d .tested ++ d .waiting) h (f .room) in
     let t : length (d .ready) - 1 ≡ length (drop 1 (d .ready)) = sym (length-drop 1 (d .ready)) in
     ap (λ (x : List ℕ). set x 2 (length (d .ready) - 1))
-    (put-all (d .owed) (d .read) (length (d .ready)) (length (d .tested)) (length (d .waiting)) (d .words) l (drop 1 (take n (drop 8 (d .words ++ l))) ++ (0 ∷ [])) n e j)
+    (put-all (d .owed) (d .read) (length (d .ready)) (length (d .tested)) (length (d .waiting)) (d .words) l (drop 1 (take n (drop markWords (d .words ++ l))) ++ (0 ∷ [])) n e j)
     ∙ (λ i. d .owed ∷ d .read ∷ t i ∷ length (d .tested) ∷ length (d .waiting) ∷ (d .words ++ q i))
 
 pub hand-stores : (s : ℕ) (r : List ℕ) → Formed s r → 0 < getD r 2 0 → handing r ≡ recordWords s (handed (wordDesk r))
@@ -181,13 +183,13 @@ hand-none s r f h =
     f .is ∙ ap (λ (x : List ℕ). recordWords s (record { owed = d .owed; read = d .read; ready = x; tested = d .tested; waiting = d .waiting; words = d .words }))
     (e ∙ sym (ap (drop 1) e))
 
-pub first-ready : (r : List ℕ) → 0 < getD r 2 0 → getD r 13 0 ≡ getD (wordDesk r .ready) 0 0
+pub first-ready : (r : List ℕ) → 0 < getD r 2 0 → getD r listPlace 0 ≡ getD (wordDesk r .ready) 0 0
 unfolding wordDesk
-first-ready r h = sym (getD-take (getD r 2 0) (drop 13 r) 0 0 h ∙ getD-drop 13 r 0 0)
+first-ready r h = sym (getD-take (getD r 2 0) (drop listPlace r) 0 0 h ∙ getD-drop listPlace r 0 0)
 
 pub none-ready : (r : List ℕ) → getD r 2 0 ≡ 0 → 0 ≡ getD (wordDesk r .ready) 0 0
 unfolding wordDesk
-none-ready r h = sym (ap (λ (k : ℕ). getD (take k (drop 13 r)) 0 0) h)
+none-ready r h = sym (ap (λ (k : ℕ). getD (take k (drop listPlace r)) 0 0) h)
 
 -- ---- (a), of a formed record
 pub start-stores : (s : ℕ) (r : List ℕ) → Formed s r → getD r 3 0 ≡ 0 → set (set r 3 (getD r 4 0)) 4 0 ≡ recordWords s (testing (wordDesk r))
@@ -202,19 +204,19 @@ start-none s r f h =
     f .is ∙ sym (rw (ne-eqb (length (d .tested)) 0 (λ z. h (facts s r f .tested ∙ z))))
 
 -- ---- (b), of a formed record: a, b and j as the code has them
-pub tested-part : (r : List ℕ) (a b : ℕ) → a ≡ getD r 2 0 → b ≡ getD r 3 0 → take (13 + a + b - (13 + a)) (drop (13 + a) r) ≡ wordDesk r .tested
+pub tested-part : (r : List ℕ) (a b : ℕ) → a ≡ getD r 2 0 → b ≡ getD r 3 0 → take (listPlace + a + b - (listPlace + a)) (drop (listPlace + a) r) ≡ wordDesk r .tested
 unfolding wordDesk
 tested-part r a b ea eb =
-    let n : 13 + a + b - (13 + a) ≡ b = omega arith in
-    ap₂ (λ (k : ℕ) (l : List ℕ). take k l) n (sym (drop-drop a 13 r)) ∙ ap₂ (λ (x y : ℕ). take x (drop y (drop 13 r))) eb ea
+    let n : listPlace + a + b - (listPlace + a) ≡ b = omega arith in
+    ap₂ (λ (k : ℕ) (l : List ℕ). take k l) n (sym (drop-drop a listPlace r)) ∙ ap₂ (λ (x y : ℕ). take x (drop y (drop listPlace r))) eb ea
 
 pub see-stores : (s : ℕ) (r : List ℕ) (x j : ℕ) → Formed s r → j ≡ findPlace x (wordDesk r .tested) (marks (wordDesk r .words)) → j < length (wordDesk r .tested)
-    → set (putMid 5 8 r (markPlace (take 8 (drop 5 r)) j)) 1 (getD r 1 0 + 1) ≡ recordWords s (seeing x (wordDesk r))
+    → set (putMid marksPlace markWords r (markPlace (take markWords (drop marksPlace r)) j)) 1 (getD r 1 0 + 1) ≡ recordWords s (seeing x (wordDesk r))
 see-stores s r x j f e h =
     let d = wordDesk r in
     let l = lt-ltb (findPlace x (d .tested) (marks (d .words))) (length (d .tested)) (omega arith) in
-    ap₂ (λ (y : List ℕ) (k : ℕ). set (putMid 5 8 y (markPlace (take 8 (drop 5 r)) j)) 1 (k + 1)) (f .is) (read-of r)
-    ∙ ap₂ (λ (ws : List ℕ) (i : ℕ). set (putMid 5 8 (recordWords s d) (markPlace ws i)) 1 (d .read + 1)) (words-of r) e
+    ap₂ (λ (y : List ℕ) (k : ℕ). set (putMid marksPlace markWords y (markPlace (take markWords (drop marksPlace r)) j)) 1 (k + 1)) (f .is) (read-of r)
+    ∙ ap₂ (λ (ws : List ℕ) (i : ℕ). set (putMid marksPlace markWords (recordWords s d) (markPlace ws i)) 1 (d .read + 1)) (words-of r) e
     ∙ see-marked s d (markPlace (d .words) (findPlace x (d .tested) (marks (d .words)))) (f .fit .eight)
     ∙ sym (rw l)
 
@@ -228,10 +230,10 @@ see-none s r x j f e h =
 -- what the code finds, and what holds of it
 pub record Found (s : ℕ) (r : List ℕ) (x j : ℕ) : Type 0 where
   pub is : j ≡ findPlace x (wordDesk r .tested) (marks (wordDesk r .words))
-  pub free : j < length (wordDesk r .tested) → getD (marks (take 8 (drop 5 r))) j 0 ≡ 0
+  pub free : j < length (wordDesk r .tested) → getD (marks (take markWords (drop marksPlace r))) j 0 ≡ 0
 
 pub found : (s : ℕ) (r : List ℕ) (x a b j : ℕ) → Formed s r → a ≡ getD r 2 0 → b ≡ getD r 3 0
-    → j ≡ findPlace x (take (13 + a + b - (13 + a)) (drop (13 + a) r)) (marks (take 8 (drop 5 r))) → Found s r x j
+    → j ≡ findPlace x (take (listPlace + a + b - (listPlace + a)) (drop (listPlace + a) r)) (marks (take markWords (drop marksPlace r))) → Found s r x j
 found s r x a b j f ea eb p =
     let d = wordDesk r in
     let q : j ≡ findPlace x (d .tested) (marks (d .words)) = p ∙ ap₂ (λ (l ws : List ℕ). findPlace x l (marks ws)) (tested-part r a b ea eb) (words-of r) in
@@ -247,17 +249,17 @@ found s r x a b j f ea eb p =
 -- ---- (c)
 
 -- a list of eight, word by word
-pub eight-is : (m : List ℕ) → length m ≡ 8 → m ≡ getD m 0 0 ∷ getD m 1 0 ∷ getD m 2 0 ∷ getD m 3 0 ∷ getD m 4 0 ∷ getD m 5 0 ∷ getD m 6 0 ∷ getD m 7 0 ∷ []
-eight-is m e = drop-cons m 0 0 (omega arith) ∙ ap (λ (t : List ℕ). getD m 0 0 ∷ t) (drop-cons m 1 0 (omega arith) ∙ ap (λ (t : List ℕ). getD m 1 0 ∷ t) (drop-cons m 2 0 (omega arith) ∙ ap (λ (t : List ℕ). getD m 2 0 ∷ t) (drop-cons m 3 0 (omega arith) ∙ ap (λ (t : List ℕ). getD m 3 0 ∷ t) (drop-cons m 4 0 (omega arith) ∙ ap (λ (t : List ℕ). getD m 4 0 ∷ t) (drop-cons m 5 0 (omega arith) ∙ ap (λ (t : List ℕ). getD m 5 0 ∷ t) (drop-cons m 6 0 (omega arith) ∙ ap (λ (t : List ℕ). getD m 6 0 ∷ t) (drop-cons m 7 0 (omega arith) ∙ ap (λ (t : List ℕ). getD m 7 0 ∷ t) (drop-of-length-le m {i = 8} (omega arith)))))))))
+pub eight-is : (m : List ℕ) → length m ≡ markWords → m ≡ getD m 0 0 ∷ getD m 1 0 ∷ getD m 2 0 ∷ getD m 3 0 ∷ getD m 4 0 ∷ getD m 5 0 ∷ getD m 6 0 ∷ getD m 7 0 ∷ []
+eight-is m e = drop-cons m 0 0 (omega arith) ∙ ap (λ (t : List ℕ). getD m 0 0 ∷ t) (drop-cons m 1 0 (omega arith) ∙ ap (λ (t : List ℕ). getD m 1 0 ∷ t) (drop-cons m 2 0 (omega arith) ∙ ap (λ (t : List ℕ). getD m 2 0 ∷ t) (drop-cons m 3 0 (omega arith) ∙ ap (λ (t : List ℕ). getD m 3 0 ∷ t) (drop-cons m 4 0 (omega arith) ∙ ap (λ (t : List ℕ). getD m 4 0 ∷ t) (drop-cons m 5 0 (omega arith) ∙ ap (λ (t : List ℕ). getD m 5 0 ∷ t) (drop-cons m 6 0 (omega arith) ∙ ap (λ (t : List ℕ). getD m 6 0 ∷ t) (drop-cons m 7 0 (omega arith) ∙ ap (λ (t : List ℕ). getD m 7 0 ∷ t) (drop-of-length-le m {i = markWords} (omega arith)))))))))
 
 -- what the code makes of a record x: ys in the place of the tested, no marks, and the counts
 abbrev pub settling : List ℕ → ℕ → ℕ → List ℕ → ℕ → ℕ → List ℕ
-settling x i n ys a w = set (set (set (set (putMid 5 8 (putMid i n x ys) (replicate 8 0)) 1 0) 2 a) 3 0) 4 w
+settling x i n ys a w = set (set (set (set (putMid marksPlace markWords (putMid i n x ys) (replicate markWords 0)) 1 0) 2 a) 3 0) 4 w
 
-settle-words : (s : ℕ) (d : WordDesk) (i n a w : ℕ) (p q : List ℕ) → length (d .words) ≡ 8 → i ≡ 13 + length (d .ready) → n ≡ length (d .tested)
+settle-words : (s : ℕ) (d : WordDesk) (i n a w : ℕ) (p q : List ℕ) → length (d .words) ≡ markWords → i ≡ listPlace + length (d .ready) → n ≡ length (d .tested)
     → length p + length q ≡ length (d .tested) → a ≡ length (d .ready ++ p) → w ≡ length (q ++ d .waiting)
     → settling (recordWords s d) i n (p ++ q) a w
-    ≡ recordWords s (record { owed = d .owed; read = 0; ready = d .ready ++ p; tested = []; waiting = q ++ d .waiting; words = replicate 8 0 })
+    ≡ recordWords s (record { owed = d .owed; read = 0; ready = d .ready ++ p; tested = []; waiting = q ++ d .waiting; words = replicate markWords 0 })
 unfolding recordWords
 settle-words s d i n a w p q e ei en h ea ew =
     let z : List ℕ = replicate (2 * s - length (listed d)) 0 in
@@ -278,11 +280,11 @@ settle-words s d i n a w p q e ei en h ea ew =
     let o1 : putMid i n (raw (d .owed) (d .read) nr nt nw (d .words) (listed d ++ z)) (p ++ q) ≡ raw (d .owed) (d .read) nr nt nw (d .words) (d .ready ++ ((p ++ q) ++ (d .waiting ++ z)))
     = ap (λ (x : List ℕ). putMid i n (raw (d .owed) (d .read) nr nt nw (d .words) x) (p ++ q)) l
     ∙ put-places (d .owed) (d .read) nr nt nw (d .words) (d .ready) (d .tested) (d .waiting ++ z) (p ++ q) i nr n e ei refl (sym en) in
-    ap (λ (x : List ℕ). set (set (set (set (putMid 5 8 x (replicate 8 0)) 1 0) 2 a) 3 0) 4 w) o1
+    ap (λ (x : List ℕ). set (set (set (set (putMid marksPlace markWords x (replicate markWords 0)) 1 0) 2 a) 3 0) 4 w) o1
     ∙ ap (λ (x : List ℕ). set (set (set (set x 1 0) 2 a) 3 0) 4 w)
-    (put-marks (d .owed) (d .read) nr nt nw (d .words) (d .ready ++ ((p ++ q) ++ (d .waiting ++ z))) (replicate 8 0) e)
-    ∙ (λ j. d .owed ∷ 0 ∷ ea j ∷ 0 ∷ ew j ∷ (replicate 8 0 ++ (g j)))
-    ∙ ap (λ (k : ℕ). d .owed ∷ 0 ∷ length (d .ready ++ p) ∷ 0 ∷ length (q ++ d .waiting) ∷ (replicate 8 0 ++ (((d .ready ++ p) ++ (q ++ d .waiting)) ++ replicate (2 * s - k) 0))) c
+    (put-marks (d .owed) (d .read) nr nt nw (d .words) (d .ready ++ ((p ++ q) ++ (d .waiting ++ z))) (replicate markWords 0) e)
+    ∙ (λ j. d .owed ∷ 0 ∷ ea j ∷ 0 ∷ ew j ∷ (replicate markWords 0 ++ (g j)))
+    ∙ ap (λ (k : ℕ). d .owed ∷ 0 ∷ length (d .ready ++ p) ∷ 0 ∷ length (q ++ d .waiting) ∷ (replicate markWords 0 ++ (((d .ready ++ p) ++ (q ++ d .waiting)) ++ replicate (2 * s - k) 0))) c
 
 -- the words of a part are words
 take-small : (n : ℕ) (l : List ℕ) → ((i : ℕ) → getD l i 0 < 2 ^ 16) → (i : ℕ) → getD (take n l) i 0 < 2 ^ 16
@@ -297,13 +299,13 @@ pub record Counted (s : ℕ) (r : List ℕ) (a b w k : ℕ) (m : List ℕ) : Typ
   pub tested : b ≡ length (wordDesk r .tested)
   pub waiting : w ≡ length (wordDesk r .waiting)
   pub marked : m ≡ wordDesk r .words
-  pub part : take (13 + a + b - (13 + a)) (drop (13 + a) r) ≡ wordDesk r .tested
+  pub part : take (listPlace + a + b - (listPlace + a)) (drop (listPlace + a) r) ≡ wordDesk r .tested
   pub kept : k ≡ length (pick 1 (marks (wordDesk r .words)) (wordDesk r .tested))
   pub all : length (pick 0 (marks (wordDesk r .words)) (wordDesk r .tested)) + length (pick 1 (marks (wordDesk r .words)) (wordDesk r .tested)) ≡ length (wordDesk r .tested)
-  pub eight : length m ≡ 8
+  pub eight : length m ≡ markWords
 
 pub counted : (s : ℕ) (r : List ℕ) → Formed s r → ((i : ℕ) → getD r i 0 < 2 ^ 16) → (a b w k : ℕ) (m : List ℕ)
-    → a ≡ getD r 2 0 → b ≡ getD r 3 0 → w ≡ getD r 4 0 → m ≡ take 8 (drop 5 r) → k ≡ onesIn m → Counted s r a b w k m
+    → a ≡ getD r 2 0 → b ≡ getD r 3 0 → w ≡ getD r 4 0 → m ≡ take markWords (drop marksPlace r) → k ≡ onesIn m → Counted s r a b w k m
 counted s r f h a b w k m ea eb ew em ek =
     let d = wordDesk r in
     let c = facts s r f in
@@ -311,7 +313,7 @@ counted s r f h a b w k m ea eb ew em ek =
     let n : length (d .tested) ≤ 16 * length (d .words) = omega arith in
     let small : (i : ℕ) → getD (d .words) i 0 < 2 ^ 16
     = subst (λ (l : List ℕ). (i : ℕ) → getD l i 0 < 2 ^ 16) (words-of r)
-    (take-small 8 (drop 5 r) (λ i. subst (λ (x : ℕ). x < 2 ^ 16) (sym (getD-drop 5 r i 0)) (h (5 + i)))) in
+    (take-small markWords (drop marksPlace r) (λ i. subst (λ (x : ℕ). x < 2 ^ 16) (sym (getD-drop marksPlace r i 0)) (h (marksPlace + i)))) in
     record {
       ready = ea ∙ c .ready;
       tested = eb ∙ c .tested;
@@ -324,16 +326,16 @@ counted s r f h a b w k m ea eb ew em ek =
     }
 
 pub settle-stores : (s : ℕ) (r : List ℕ) → Formed s r → (a b w k : ℕ) (m : List ℕ) → Counted s r a b w k m → (ys zs : List ℕ)
-    → ys ≡ pick 0 (marks m) (take (13 + a + b - (13 + a)) (drop (13 + a) r)) ++ pick 1 (marks m) (take (13 + a + b - (13 + a)) (drop (13 + a) r))
-    → zs ≡ replicate 8 0
-    → set (set (set (set (putMid 5 8 (putMid (13 + a) (13 + a + b - (13 + a)) r ys) zs) 1 0) 2 (a + (b - k))) 3 0) 4 (w + k) ≡ recordWords s (settled (wordDesk r))
+    → ys ≡ pick 0 (marks m) (take (listPlace + a + b - (listPlace + a)) (drop (listPlace + a) r)) ++ pick 1 (marks m) (take (listPlace + a + b - (listPlace + a)) (drop (listPlace + a) r))
+    → zs ≡ replicate markWords 0
+    → set (set (set (set (putMid marksPlace markWords (putMid (listPlace + a) (listPlace + a + b - (listPlace + a)) r ys) zs) 1 0) 2 (a + (b - k))) 3 0) 4 (w + k) ≡ recordWords s (settled (wordDesk r))
 settle-stores s r f a b w k m c ys zs ey ez =
     let d = wordDesk r in
     let p : List ℕ = pick 0 (marks (d .words)) (d .tested) in
     let q : List ℕ = pick 1 (marks (d .words)) (d .tested) in
     let y : ys ≡ p ++ q = ey ∙ ap₂ (λ (x l : List ℕ). pick 0 (marks x) l ++ pick 1 (marks x) l) (c .marked) (c .part) in
-    let n : 13 + a + b - (13 + a) ≡ b = omega arith in
+    let n : listPlace + a + b - (listPlace + a) ≡ b = omega arith in
     let e1 : a + (b - k) ≡ length (d .ready ++ p) = omega (arith, length-append (d .ready) p, c .ready, c .tested, c .kept, c .all) in
     let e2 : w + k ≡ length (q ++ d .waiting) = omega (arith, length-append q (d .waiting), c .waiting, c .kept) in
-    (λ i. set (set (set (set (putMid 5 8 (putMid (13 + a) (n i) (f .is i) (y i)) (ez i)) 1 0) 2 (a + (b - k))) 3 0) 4 (w + k))
-    ∙ settle-words s d (13 + a) b (a + (b - k)) (w + k) p q (f .fit .eight) (ap (λ (x : ℕ). 13 + x) (c .ready)) (c .tested) (c .all) e1 e2
+    (λ i. set (set (set (set (putMid marksPlace markWords (putMid (listPlace + a) (n i) (f .is i) (y i)) (ez i)) 1 0) 2 (a + (b - k))) 3 0) 4 (w + k))
+    ∙ settle-words s d (listPlace + a) b (a + (b - k)) (w + k) p q (f .fit .eight) (ap (λ (x : ℕ). listPlace + x) (c .ready)) (c .tested) (c .all) e1 e2

@@ -7,16 +7,17 @@ use mathlib.Core.Path.{_≡_, refl, sym, ap, ap₂, _∙_}
 use lib.Dec.{eqb, leb, ltb, eqb·suc-zero}
 use lib.ListN.{length-take, length, getD, take, drop, set, replicate, length-append, length-map, replicate-append-replicate}
 use borrow.Author.Tests.{eqb-true, ltb-true}
-use Rattle.rules.specs.Hall.{TestedPlace, marked, unmarked, usedPlaces, Desk}
+use Rattle.rules.specs.Hall.{TestedPlace, marked, unmarked, usedPlaces, Desk, mostAllScreens}
 use Rattle.rules.specs.Steps.{begin, beginAt, handBack, mark, markEach, markedOf, readScreens, retire, scanAt, settle, settleIf, unmarkedOf}
 use Rattle.rules.specs.Table.{bitValue, bitsOfWords, decodeDesk, encodeDesk, every, listOf, marksOf, ones, recordSound, scanSound, sessionsOf, wordsOfBits}
+use Rattle.rules.specs.Table.{allMarks, listPlace, markWords, marksPlace, widthFor}
 use Rattle.rules.specs.laws.Bools.{and-left, and-right}
 use Rattle.rules.specs.laws.Decoding.{length-places, record-again, small-drop, small-take}
 use Rattle.rules.specs.laws.Encoding.{desk-read-back, length-sessions}
 use Rattle.rules.specs.laws.Marks.{length-mark, length-mark-each, unmarked-and-marked}
 use Rattle.marks.specs.Words.{allZero}
 use Rattle.marks.specs.Marks.{pick}
-use Rattle.desk.proofs.WordDesk.{used, places, markWords, soundRecord, WordDesk, wordDesk, listed, recordWords, testing, seeing, reading, settled, handed, Fit, Formed}
+use Rattle.desk.proofs.WordDesk.{used, places, markWordsIn, soundRecord, WordDesk, wordDesk, listed, recordWords, testing, seeing, reading, settled, handed, Fit, Formed}
 use Rattle.desk.specs.Record.{Encoded}
 use Rattle.desk.proofs.FitLaws.{lengths, Left, left}
 use Rattle.desk.proofs.DeskLaws.{facts, record-length}
@@ -26,11 +27,11 @@ use Rattle.desk.proofs.MarkTie.{markBits, mark-bits, pick-unmarked, pic
 
 -- a desk of the rules, in words
 abbrev pub inWords : Desk → WordDesk
-inWords D = record { owed = D .owed; read = D .scanned; ready = D .ready; tested = sessionsOf (D .tested); waiting = D .waiting; words = wordsOfBits 8 (markBits (D .tested)) }
+inWords D = record { owed = D .owed; read = D .scanned; ready = D .ready; tested = sessionsOf (D .tested); waiting = D .waiting; words = wordsOfBits markWords (markBits (D .tested)) }
 
 pub encoded-words : (s : ℕ) (D : Desk) → encodeDesk s D ≡ recordWords s (inWords D)
 unfolding encodeDesk recordWords
-encoded-words s D = λ i. D .owed ∷ D .scanned ∷ length (D .ready) ∷ sym (length-sessions (D .tested)) i ∷ length (D .waiting) ∷ (wordsOfBits 8 (markBits (D .tested)) ++ (listOf D ++ replicate (2 * s - length (listOf D)) 0))
+encoded-words s D = λ i. D .owed ∷ D .scanned ∷ length (D .ready) ∷ sym (length-sessions (D .tested)) i ∷ length (D .waiting) ∷ (wordsOfBits markWords (markBits (D .tested)) ++ (listOf D ++ replicate (2 * s - length (listOf D)) 0))
 
 zero-pad : (T : List TestedPlace) (m : ℕ) → allZero (drop (length (sessionsOf T)) (map bitValue (marksOf T ++ replicate m false))) ≡ true
 zero-pad [] zero = refl
@@ -41,12 +42,12 @@ zero-pad (marked x ∷ T) m = zero-pad T m
 pub room-is : (D : Desk) → length (listed (inWords D)) ≡ usedPlaces D
 room-is D = omega (arith, lengths (inWords D), length-sessions (D .tested))
 
-pub fit-is : (s : ℕ) (D : Desk) → s ≤ 64 → usedPlaces D ≤ 2 * s → Fit s (inWords D)
+pub fit-is : (s : ℕ) (D : Desk) → s ≤ mostAllScreens → usedPlaces D ≤ 2 * s → Fit s (inWords D)
 fit-is s D h u =
     record {
       room = omega (arith, room-is D);
       eight = refl;
-      clear = ap (λ (m : List ℕ). allZero (drop (length (sessionsOf (D .tested))) m)) (mark-bits (D .tested) (omega arith)) ∙ zero-pad (D .tested) (128 - length (D .tested));
+      clear = ap (λ (m : List ℕ). allZero (drop (length (sessionsOf (D .tested))) m)) (mark-bits (D .tested) (omega arith)) ∙ zero-pad (D .tested) (allMarks - length (D .tested));
     }
 
 -- a record that codes the desk it is read as: what its words say
@@ -66,33 +67,33 @@ module _ (o k : ℕ) (R : List ℕ) where
   marks-begin [] = refl
   marks-begin (x ∷ W) = ap {B = List Bool} (λ l. false ∷ l) (marks-begin W)
 
-  no-marks : (W : List ℕ) → length W ≤ 128 → markBits [] ≡ markBits (map unmarked W)
+  no-marks : (W : List ℕ) → length W ≤ allMarks → markBits [] ≡ markBits (map unmarked W)
   no-marks W h =
-      let n : length W + (128 - length W) ≡ 128 = omega arith in
-      sym (ap₂ {C = List Bool} (λ x y. x ++ y) (marks-begin W) (ap (λ (m : ℕ). replicate {A = Bool} (128 - m) false) (length-map W unmarked)) ∙ replicate-append-replicate (length W) (128 - length W) false ∙ ap (λ (m : ℕ). replicate {A = Bool} m false) n)
+      let n : length W + (allMarks - length W) ≡ allMarks = omega arith in
+      sym (ap₂ {C = List Bool} (λ x y. x ++ y) (marks-begin W) (ap (λ (m : ℕ). replicate {A = Bool} (allMarks - m) false) (length-map W unmarked)) ∙ replicate-append-replicate (length W) (allMarks - length W) false ∙ ap (λ (m : ℕ). replicate {A = Bool} m false) n)
 
-  test-none : (W : List ℕ) → length W ≤ 128 → testing (inWords (mk [] W)) ≡ inWords (beginAt [] (mk [] W))
-  test-none W h = λ i. record { owed = o; read = k; ready = R; tested = sessions-begin W i; waiting = []; words = wordsOfBits 8 (no-marks W h i) }
+  test-none : (W : List ℕ) → length W ≤ allMarks → testing (inWords (mk [] W)) ≡ inWords (beginAt [] (mk [] W))
+  test-none W h = λ i. record { owed = o; read = k; ready = R; tested = sessions-begin W i; waiting = []; words = wordsOfBits markWords (no-marks W h i) }
 
   test-some : (p : TestedPlace) (T : List TestedPlace) (W : List ℕ) → testing (inWords (mk (p ∷ T) W)) ≡ inWords (mk (p ∷ T) W)
-  test-some p T W = ap (λ (n : ℕ). cond (eqb n 0) (record { owed = o; read = k; ready = R; tested = W; waiting = []; words = wordsOfBits 8 (markBits (p ∷ T)) }) (inWords (mk (p ∷ T) W))) (length-sessions (p ∷ T)) ∙ ap (λ (b : Bool). cond b (record { owed = o; read = k; ready = R; tested = W; waiting = []; words = wordsOfBits 8 (markBits (p ∷ T)) }) (inWords (mk (p ∷ T) W))) (eqb·suc-zero (length T))
+  test-some p T W = ap (λ (n : ℕ). cond (eqb n 0) (record { owed = o; read = k; ready = R; tested = W; waiting = []; words = wordsOfBits markWords (markBits (p ∷ T)) }) (inWords (mk (p ∷ T) W))) (length-sessions (p ∷ T)) ∙ ap (λ (b : Bool). cond b (record { owed = o; read = k; ready = R; tested = W; waiting = []; words = wordsOfBits markWords (markBits (p ∷ T)) }) (inWords (mk (p ∷ T) W))) (eqb·suc-zero (length T))
 
-  test-is : (T : List TestedPlace) (W : List ℕ) → length W ≤ 128 → testing (inWords (mk T W)) ≡ inWords (begin (mk T W))
+  test-is : (T : List TestedPlace) (W : List ℕ) → length W ≤ allMarks → testing (inWords (mk T W)) ≡ inWords (begin (mk T W))
   test-is [] W h = test-none W h
   test-is (p ∷ T) W h = test-some p T W
 
-pub testing-is : (D : Desk) → length (D .waiting) ≤ 128 → testing (inWords D) ≡ inWords (begin D)
+pub testing-is : (D : Desk) → length (D .waiting) ≤ allMarks → testing (inWords D) ≡ inWords (begin D)
 testing-is D h = test-is (D .owed) (D .scanned) (D .ready) (D .tested) (D .waiting) h
 
 -- ---- (b)
-pub reading-is : (vs : List ℕ) (D : Desk) → length (D .tested) ≤ 128 → reading vs (inWords D) ≡ inWords (readScreens vs D)
-reading-is [] D h = let e : D .scanned ≡ D .scanned + 0 = omega arith in λ i. record { owed = D .owed; read = e i; ready = D .ready; tested = sessionsOf (D .tested); waiting = D .waiting; words = wordsOfBits 8 (markBits (D .tested)) }
+pub reading-is : (vs : List ℕ) (D : Desk) → length (D .tested) ≤ allMarks → reading vs (inWords D) ≡ inWords (readScreens vs D)
+reading-is [] D h = let e : D .scanned ≡ D .scanned + 0 = omega arith in λ i. record { owed = D .owed; read = e i; ready = D .ready; tested = sessionsOf (D .tested); waiting = D .waiting; words = wordsOfBits markWords (markBits (D .tested)) }
 reading-is (x ∷ vs) D h =
     let E : Desk = record { owed = D .owed; scanned = D .scanned + 1; ready = D .ready; tested = mark x (D .tested); waiting = D .waiting } in
     let e : D .scanned + 1 + length vs ≡ D .scanned + suc (length vs) = omega arith in
     ap (reading vs) (λ i. record { owed = D .owed; read = D .scanned + 1; ready = D .ready; tested = same x (D .tested) i; waiting = D .waiting; words = marking-is x (D .tested) h i })
     ∙ reading-is vs E (omega (arith, length-mark x (D .tested)))
-    ∙ (λ i. record { owed = D .owed; read = e i; ready = D .ready; tested = sessionsOf (markEach vs (mark x (D .tested))); waiting = D .waiting; words = wordsOfBits 8 (markBits (markEach vs (mark x (D .tested)))) })
+    ∙ (λ i. record { owed = D .owed; read = e i; ready = D .ready; tested = sessionsOf (markEach vs (mark x (D .tested))); waiting = D .waiting; words = wordsOfBits markWords (markBits (markEach vs (mark x (D .tested)))) })
   where
     same : (v : ℕ) (T : List TestedPlace) → sessionsOf T ≡ sessionsOf (mark v T)
     same v [] = refl
@@ -104,13 +105,13 @@ reading-is (x ∷ vs) D h =
         go false ih = ap {B = List ℕ} (λ l. y ∷ l) ih
 
 -- ---- (c)
-pub settled-is : (D : Desk) → length (D .tested) ≤ 128 → settled (inWords D) ≡ inWords (settleIf true D)
+pub settled-is : (D : Desk) → length (D .tested) ≤ allMarks → settled (inWords D) ≡ inWords (settleIf true D)
 settled-is D h =
-    let pad : List Bool = replicate (128 - length (D .tested)) false in
+    let pad : List Bool = replicate (allMarks - length (D .tested)) false in
     let m = mark-bits (D .tested) h in
     let a = ap (λ (l : List ℕ). pick 0 l (sessionsOf (D .tested))) m ∙ pick-unmarked (D .tested) pad in
     let b = ap (λ (l : List ℕ). pick 1 l (sessionsOf (D .tested))) m ∙ pick-marked (D .tested) pad in
-    (λ i. record { owed = D .owed; read = 0; ready = D .ready ++ a i; tested = []; waiting = b i ++ D .waiting; words = replicate 8 0 })
+    (λ i. record { owed = D .owed; read = 0; ready = D .ready ++ a i; tested = []; waiting = b i ++ D .waiting; words = replicate markWords 0 })
 
 -- ---- soundness
 six : (a b c d e f : Bool) → a && b && c && d && e && f ≡ a && (b && (c && (d && (e && f))))
@@ -120,16 +121,16 @@ six true true false d e f = refl
 six true false c d e f = refl
 six false b c d e f = refl
 
-pub sound-is : (s : ℕ) (r : List ℕ) → ((i : ℕ) → getD (take 8 (drop 5 r)) i 0 < 2 ^ 16) → soundRecord s r ≡ recordSound s r
+pub sound-is : (s : ℕ) (r : List ℕ) → ((i : ℕ) → getD (take markWords (drop marksPlace r)) i 0 < 2 ^ 16) → soundRecord s r ≡ recordSound s r
 unfolding soundRecord recordSound
 sound-is s r h =
-    (λ i. leb (used r) (2 * s) && none-zero-is (take (used r) (places r)) i && all-zero-is (drop (used r) (places r)) i && clear-is (getD r 3 0) (markWords r) i && sound-read-is s (getD r 3 0) (getD r 1 0) i && leb (count-is (markWords r) h i) (getD r 1 0))
-    ∙ six (leb (used r) (2 * s)) (every (λ x. not (eqb x 0)) (take (used r) (places r))) (every (λ x. eqb x 0) (drop (used r) (places r))) (eqb (ones (drop (getD r 3 0) (bitsOfWords (markWords r)))) 0) (scanSound s (getD r 3 0) (getD r 1 0)) (leb (ones (bitsOfWords (markWords r))) (getD r 1 0))
+    (λ i. leb (used r) (2 * s) && none-zero-is (take (used r) (places r)) i && all-zero-is (drop (used r) (places r)) i && clear-is (getD r 3 0) (markWordsIn r) i && sound-read-is s (getD r 3 0) (getD r 1 0) i && leb (count-is (markWordsIn r) h i) (getD r 1 0))
+    ∙ six (leb (used r) (2 * s)) (every (λ x. not (eqb x 0)) (take (used r) (places r))) (every (λ x. eqb x 0) (drop (used r) (places r))) (eqb (ones (drop (getD r 3 0) (bitsOfWords (markWordsIn r)))) 0) (scanSound s (getD r 3 0) (getD r 1 0)) (leb (ones (bitsOfWords (markWordsIn r))) (getD r 1 0))
 
 pub sound-of : (s : ℕ) (r : List ℕ) → ((i : ℕ) → getD r i 0 < 2 ^ 16) → soundRecord s r ≡ recordSound s r
-sound-of s r h = sound-is s r (small-take 8 (drop 5 r) (small-drop 5 r h))
+sound-of s r h = sound-is s r (small-take markWords (drop marksPlace r) (small-drop marksPlace r h))
 
-pub sound-encoded : (s : ℕ) (r : List ℕ) → s ≤ 64 → length r ≡ 13 + 2 * s → ((i : ℕ) → getD r i 0 < 2 ^ 16) → recordSound s r ≡ true → Encoded s r
+pub sound-encoded : (s : ℕ) (r : List ℕ) → s ≤ mostAllScreens → length r ≡ widthFor s → ((i : ℕ) → getD r i 0 < 2 ^ 16) → recordSound s r ≡ true → Encoded s r
 unfolding decodeDesk
 sound-encoded s r h l sm e =
     let g = record-facts s r (sound-of s r sm ∙ e) in
@@ -137,13 +138,13 @@ sound-encoded s r h l sm e =
     let a = ready-length s r l g in
     let b = tested-length s r l g in
     let c = waiting-length s r l g in
-    record { most = h; long = l; is = sym (record-again s r l h sm e); room = omega (arith, length-take (getD r 2 0) (drop 13 r), length-places (take (getD r 3 0) (drop (getD r 2 0) (drop 13 r))) (take (getD r 3 0) (bitsOfWords (take 8 (drop 5 r)))), length-take (getD r 3 0) (drop (getD r 2 0) (drop 13 r)), length-take (getD r 4 0) (drop (getD r 2 0 + getD r 3 0) (drop 13 r))) }
+    record { most = h; long = l; is = sym (record-again s r l h sm e); room = omega (arith, length-take (getD r 2 0) (drop listPlace r), length-places (take (getD r 3 0) (drop (getD r 2 0) (drop listPlace r))) (take (getD r 3 0) (bitsOfWords (take markWords (drop marksPlace r)))), length-take (getD r 3 0) (drop (getD r 2 0) (drop listPlace r)), length-take (getD r 4 0) (drop (getD r 2 0 + getD r 3 0) (drop listPlace r))) }
 
 -- ---- retire: what the code finds in the words, and its three stores
 pub record Finds (s : ℕ) (r : List ℕ) : Type 0 where
   pub owed : getD r 0 0 ≡ decodeDesk r .owed
   pub count : getD r 2 0 + getD r 3 0 + getD r 4 0 ≡ usedPlaces (decodeDesk r)
-  pub stores : (n : ℕ) → n ≡ usedPlaces (decodeDesk r) → n < 2 * s → set (set (set r (13 + n) (getD r 0 0)) 4 (getD r 4 0 + 1)) 0 0 ≡ encodeDesk s (retire (decodeDesk r))
+  pub stores : (n : ℕ) → n ≡ usedPlaces (decodeDesk r) → n < 2 * s → set (set (set r (listPlace + n) (getD r 0 0)) 4 (getD r 4 0 + 1)) 0 0 ≡ encodeDesk s (retire (decodeDesk r))
 
 pub finds : (s : ℕ) (r : List ℕ) → Encoded s r → Finds s r
 unfolding decodeDesk wordDesk
@@ -161,7 +162,7 @@ finds s r c =
       count = omega (arith, f .ready, f .tested, f .waiting, length-sessions (D .tested));
       stores = λ n e h.
           let q : n ≡ length (listed (inWords D)) = e ∙ sym (room-is D) in
-          (λ i. set (set (set ((c .is ∙ encoded-words s D) i) (13 + q i) (o i)) 4 (g i + 1)) 0 0)
+          (λ i. set (set (set ((c .is ∙ encoded-words s D) i) (listPlace + q i) (o i)) 4 (g i + 1)) 0 0)
           ∙ retire-words s (inWords D) refl (omega arith) ∙ sym (encoded-words s (retire D));
     }
 
@@ -173,7 +174,7 @@ module _ (s : ℕ) (r : List ℕ) (c : Encoded s r) where
   part-encoded : (f : WordDesk → WordDesk) (E : Desk) → f (inWords (decodeDesk r)) ≡ inWords E → recordWords s (f (wordDesk r)) ≡ encodeDesk s E
   part-encoded f E e = ap (λ (d : WordDesk). recordWords s (f d)) (encoded-left s r c .desk-is) ∙ ap (recordWords s) e ∙ sym (encoded-words s E)
 
-  tested-most : length (decodeDesk r .tested) ≤ 128
+  tested-most : length (decodeDesk r .tested) ≤ allMarks
   tested-most = omega (arith, c .room, c .most)
 
   pub begun-encoded : recordWords s (testing (wordDesk r)) ≡ encodeDesk s (begin (decodeDesk r))
@@ -203,7 +204,7 @@ pub record Again (s : ℕ) (D : Desk) (r : List ℕ) : Type 0 where
   pub encoded : Encoded s r
   pub desk-is : decodeDesk r ≡ D
 
-pub again : (s : ℕ) (D : Desk) (r : List ℕ) → s ≤ 64 → usedPlaces D ≤ 2 * s → r ≡ encodeDesk s D → Again s D r
+pub again : (s : ℕ) (D : Desk) (r : List ℕ) → s ≤ mostAllScreens → usedPlaces D ≤ 2 * s → r ≡ encodeDesk s D → Again s D r
 again s D r h u e =
     let q : decodeDesk r ≡ D = ap decodeDesk e ∙ desk-read-back s D (omega arith) in
     record {
@@ -253,19 +254,19 @@ scanned-below s r h e = pass-k (getD r 3 0) (getD r 1 0) (and-left q5 q6 (and-ri
     q1 = leb (getD r 2 0 + getD r 3 0 + getD r 4 0) (2 * s)
 
     q2 : Bool
-    q2 = every (λ x. not (eqb x 0)) (take (getD r 2 0 + getD r 3 0 + getD r 4 0) (drop 13 r))
+    q2 = every (λ x. not (eqb x 0)) (take (getD r 2 0 + getD r 3 0 + getD r 4 0) (drop listPlace r))
 
     q3 : Bool
-    q3 = every (λ x. eqb x 0) (drop (getD r 2 0 + getD r 3 0 + getD r 4 0) (drop 13 r))
+    q3 = every (λ x. eqb x 0) (drop (getD r 2 0 + getD r 3 0 + getD r 4 0) (drop listPlace r))
 
     q4 : Bool
-    q4 = eqb (ones (drop (getD r 3 0) (bitsOfWords (take 8 (drop 5 r))))) 0
+    q4 = eqb (ones (drop (getD r 3 0) (bitsOfWords (take markWords (drop marksPlace r))))) 0
 
     q5 : Bool
     q5 = scanSound s (getD r 3 0) (getD r 1 0)
 
     q6 : Bool
-    q6 = leb (ones (bitsOfWords (take 8 (drop 5 r)))) (getD r 1 0)
+    q6 = leb (ones (bitsOfWords (take markWords (drop marksPlace r)))) (getD r 1 0)
 
     pass-k : (n k : ℕ) → scanSound s n k ≡ true → k < s
     pass-k zero k q = let z = eqb-true k 0 q in omega arith

@@ -4,6 +4,7 @@ use native.Mathlib.Omega.{arith}
 use mathlib.Core.List.{List, _++_}
 use mathlib.Core.Path.{_≡_, sym, ap, _∙_, subst}
 use lib.ListN.{length, length-append}
+use Rattle.rules.specs.Hall.{mostAllScreens}
 use Rattle.desk.proofs.WordDesk.{WordDesk, wordDesk, listed, recordWords, Fit, Formed}
 use Rattle.desk.proofs.DeskLaws.{round, formed}
 
@@ -15,7 +16,7 @@ pub record Left (s : ℕ) (d : WordDesk) (r : List ℕ) : Type 0 where
   pub formed-is : Formed s r
   pub desk-is : wordDesk r ≡ d
 
-pub left : (s : ℕ) (d : WordDesk) (r : List ℕ) → s ≤ 64 → Fit s d → r ≡ recordWords s d → Left s d r
+pub left : (s : ℕ) (d : WordDesk) (r : List ℕ) → s ≤ mostAllScreens → Fit s d → r ≡ recordWords s d → Left s d r
 left s d r h f e =
     record {
       formed-is = subst (λ (x : List ℕ). Formed s x) (sym e) (formed s d h f);

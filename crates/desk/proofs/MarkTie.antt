@@ -11,7 +11,7 @@ use lib.Seq.{take-set-lt, take-set-le, drop-set-lt, drop-set-add, getD-take, get
 use borrow.Author.Tests.{eq-eqb, ne-eqb, eqb-true, eqb-false, ltb-true, ltb-false}
 use Rattle.rules.specs.Hall.{TestedPlace, marked, unmarked}
 use Rattle.rules.specs.Steps.{mark, markedOf, unmarkedOf}
-use Rattle.rules.specs.Table.{bitValue, bitsOfWord, bitsOfWords, every, marksOf, ones, sessionsOf, wordOfBits, wordsOfBits}
+use Rattle.rules.specs.Table.{allMarks, bitValue, bitsOfWord, bitsOfWords, every, markWords, marksOf, ones, sessionsOf, wordOfBits, wordsOfBits}
 use Rattle.rules.specs.laws.Encoding.{length-marks, length-sessions, marks-read-back}
 use Rattle.rules.specs.laws.Marks.{length-mark}
 use Rattle.marks.specs.Words.{allZero, noneZero}
@@ -36,12 +36,12 @@ pub marks-bits : (ws : List ℕ) → marks ws ≡ map bitValue (bitsOfWords ws)
 marks-bits [] = refl
 marks-bits (w ∷ ws) = ap₂ {C = List ℕ} (λ x y. x ++ y) (digits-bits 16 w) (marks-bits ws) ∙ sym (map-append bitValue (bitsOfWord 16 w) (bitsOfWords ws))
 
--- the bits of a tested list, up to 128
+-- the bits of a tested list, up to all marks
 abbrev pub markBits : List TestedPlace → List Bool
-markBits T = marksOf T ++ replicate (128 - length T) false
+markBits T = marksOf T ++ replicate (allMarks - length T) false
 
-pub mark-bits : (T : List TestedPlace) → length T ≤ 128 → marks (wordsOfBits 8 (markBits T)) ≡ map bitValue (markBits T)
-mark-bits T h = marks-bits (wordsOfBits 8 (markBits T)) ∙ ap (map bitValue) (marks-read-back T h)
+pub mark-bits : (T : List TestedPlace) → length T ≤ allMarks → marks (wordsOfBits markWords (markBits T)) ≡ map bitValue (markBits T)
+mark-bits T h = marks-bits (wordsOfBits markWords (markBits T)) ∙ ap (map bitValue) (marks-read-back T h)
 
 -- ---- places picked by their marks
 pub pick-unmarked : (T : List TestedPlace) (bs : List Bool) → pick 0 (map bitValue (marksOf T ++ bs)) (sessionsOf T) ≡ unmarkedOf T
@@ -119,29 +119,29 @@ mark-words n bs j l h e =
     words-set n bs (j / 16) (j % 16) l (omega arith) (omega arith) (ap (λ (i : ℕ). getD bs i false) k ∙ e) ∙ ap (λ (i : ℕ). wordsOfBits n (set bs i true)) k
 
 -- one screen read: the mark words become those of the marked list
-pub marking-is : (x : ℕ) (T : List TestedPlace) → length T ≤ 128 → marking x (sessionsOf T) (wordsOfBits 8 (markBits T)) ≡ wordsOfBits 8 (markBits (mark x T))
+pub marking-is : (x : ℕ) (T : List TestedPlace) → length T ≤ allMarks → marking x (sessionsOf T) (wordsOfBits markWords (markBits T)) ≡ wordsOfBits markWords (markBits (mark x T))
 marking-is x T h = ap (λ (m : List ℕ). put (findPlace x (sessionsOf T) m)) (mark-bits T h) ∙ go (ltb (at x T pad) (length (sessionsOf T))) refl
   where
     pad : List Bool
-    pad = replicate (128 - length T) false
+    pad = replicate (allMarks - length T) false
 
     put : ℕ → List ℕ
-    put j = cond (ltb j (length (sessionsOf T))) (markPlace (wordsOfBits 8 (markBits T)) j) (wordsOfBits 8 (markBits T))
+    put j = cond (ltb j (length (sessionsOf T))) (markPlace (wordsOfBits markWords (markBits T)) j) (wordsOfBits markWords (markBits T))
 
     same-pad : markBits (mark x T) ≡ marksOf (mark x T) ++ pad
-    same-pad = ap (λ (n : ℕ). marksOf (mark x T) ++ replicate (128 - n) false) (length-mark x T)
+    same-pad = ap (λ (n : ℕ). marksOf (mark x T) ++ replicate (allMarks - n) false) (length-mark x T)
 
-    go : (b : Bool) → ltb (at x T pad) (length (sessionsOf T)) ≡ b → cond b (markPlace (wordsOfBits 8 (markBits T)) (at x T pad)) (wordsOfBits 8 (markBits T)) ≡ wordsOfBits 8 (markBits (mark x T))
+    go : (b : Bool) → ltb (at x T pad) (length (sessionsOf T)) ≡ b → cond b (markPlace (wordsOfBits markWords (markBits T)) (at x T pad)) (wordsOfBits markWords (markBits T)) ≡ wordsOfBits markWords (markBits (mark x T))
     go true e =
         let l = ltb-true (at x T pad) (length (sessionsOf T)) e in
         let n = length-sessions T in
         let f = found x T pad (omega arith) in
-        mark-words 8 (markBits T) (at x T pad) (omega (arith, length-append (marksOf T) pad, length-marks T, length-replicate {A = Bool} (128 - length T) false)) (omega arith) (f .free-at)
-        ∙ ap (wordsOfBits 8) (sym (f .set-at) ∙ sym same-pad)
+        mark-words markWords (markBits T) (at x T pad) (omega (arith, length-append (marksOf T) pad, length-marks T, length-replicate {A = Bool} (allMarks - length T) false)) (omega arith) (f .free-at)
+        ∙ ap (wordsOfBits markWords) (sym (f .set-at) ∙ sym same-pad)
     go false e =
         let l = ltb-false (at x T pad) (length (sessionsOf T)) e in
         let n = length-sessions T in
-        ap (λ (t : List TestedPlace). wordsOfBits 8 (markBits t)) (sym (none x T pad (omega arith)))
+        ap (λ (t : List TestedPlace). wordsOfBits markWords (markBits t)) (sym (none x T pad (omega arith)))
 
 -- ---- the tests of soundness
 pub none-zero-is : (l : List ℕ) → noneZero l ≡ every (λ x. not (eqb x 0)) l

@@ -8,19 +8,20 @@ use lib.Dec.{leb}
 use lib.ListN.{length, getD, take, drop, set, replicate, length-append, length-drop}
 use lib.Seq.{length-take-le, set-at}
 use borrow.Author.Tests.{leb-true}
+use Rattle.rules.specs.Table.{listPlace, markWords, widthFor}
 use Rattle.marks.proofs.BoolLaws.{set-append-add, &&-left, &&-right}
 use Rattle.marks.specs.Words.{allZero, noneZero}
 use Rattle.marks.specs.Marks.{marks, onesIn}
-use Rattle.desk.proofs.WordDesk.{used, places, markWords, soundRead, soundRecord, WordDesk, wordDesk, listed, recordWords, retired}
+use Rattle.desk.proofs.WordDesk.{used, places, markWordsIn, soundRead, soundRecord, WordDesk, wordDesk, listed, recordWords, retired}
 
 -- ---- what soundness says of a record
 pub record SoundRec (s : ℕ) (r : List ℕ) : Type 0 where
   pub room : used r ≤ 2 * s
   pub full : noneZero (take (used r) (places r)) ≡ true
   pub free : allZero (drop (used r) (places r)) ≡ true
-  pub unmarked : allZero (drop (getD r 3 0) (marks (markWords r))) ≡ true
+  pub unmarked : allZero (drop (getD r 3 0) (marks (markWordsIn r))) ≡ true
   pub reading : soundRead s (getD r 3 0) (getD r 1 0) ≡ true
-  pub few : onesIn (markWords r) ≤ getD r 1 0
+  pub few : onesIn (markWordsIn r) ≤ getD r 1 0
 
 pub record-facts : (s : ℕ) (r : List ℕ) → soundRecord s r ≡ true → SoundRec s r
 unfolding soundRecord
@@ -28,9 +29,9 @@ record-facts s r e =
     let a1 = leb (used r) (2 * s) in
     let a2 = noneZero (take (used r) (places r)) in
     let a3 = allZero (drop (used r) (places r)) in
-    let a4 = allZero (drop (getD r 3 0) (marks (markWords r))) in
+    let a4 = allZero (drop (getD r 3 0) (marks (markWordsIn r))) in
     let a5 = soundRead s (getD r 3 0) (getD r 1 0) in
-    let a6 = leb (onesIn (markWords r)) (getD r 1 0) in
+    let a6 = leb (onesIn (markWordsIn r)) (getD r 1 0) in
     let b5 = &&-left (a1 && a2 && a3 && a4 && a5) a6 e in
     let b4 = &&-left (a1 && a2 && a3 && a4) a5 b5 in
     let b3 = &&-left (a1 && a2 && a3) a4 b4 in
@@ -41,13 +42,13 @@ record-facts s r e =
       free = &&-right (a1 && a2) a3 b3;
       unmarked = &&-right (a1 && a2 && a3) a4 b4;
       reading = &&-right (a1 && a2 && a3 && a4) a5 b5;
-      few = leb-true (onesIn (markWords r)) (getD r 1 0) (&&-right (a1 && a2 && a3 && a4 && a5) a6 e);
+      few = leb-true (onesIn (markWordsIn r)) (getD r 1 0) (&&-right (a1 && a2 && a3 && a4 && a5) a6 e);
     }
 
 -- ---- a sound record is what its desk's state says
-module _ (s : ℕ) (r : List ℕ) (len : length r ≡ 13 + 2 * s) (f : SoundRec s r) where
+module _ (s : ℕ) (r : List ℕ) (len : length r ≡ widthFor s) (f : SoundRec s r) where
   places-length : length (places r) ≡ 2 * s
-  places-length = let e = length-drop 13 r in omega arith
+  places-length = let e = length-drop listPlace r in omega arith
 
   pub ready-length : length (wordDesk r .ready) ≡ getD r 2 0
   unfolding wordDesk
@@ -71,10 +72,10 @@ module _ (s : ℕ) (r : List ℕ) (len : length r ≡ 13 + 2 * s) (f : SoundRec 
       length-take-le (getD r 4 0) (drop (getD r 3 0) (drop (getD r 2 0) (places r))) (omega arith)
 
 -- ---- a store at place n of the list
-pub set-place : (o k a b c : ℕ) (m l : List ℕ) (n v : ℕ) → length m ≡ 8
-    → set (o ∷ k ∷ a ∷ b ∷ c ∷ (m ++ l)) (13 + n) v ≡ o ∷ k ∷ a ∷ b ∷ c ∷ (m ++ set l n v)
+pub set-place : (o k a b c : ℕ) (m l : List ℕ) (n v : ℕ) → length m ≡ markWords
+    → set (o ∷ k ∷ a ∷ b ∷ c ∷ (m ++ l)) (listPlace + n) v ≡ o ∷ k ∷ a ∷ b ∷ c ∷ (m ++ set l n v)
 set-place o k a b c m l n v e =
-    let h : 13 + n ≡ suc (suc (suc (suc (suc (length m + n))))) = omega arith in
+    let h : listPlace + n ≡ suc (suc (suc (suc (suc (length m + n))))) = omega arith in
     ap (λ (j : ℕ). set (o ∷ k ∷ a ∷ b ∷ c ∷ (m ++ l)) j v) h
     ∙ ap (λ (x : List ℕ). o ∷ k ∷ a ∷ b ∷ c ∷ x) (set-append-add m l n v)
 
@@ -86,8 +87,8 @@ set-end p q n v e h =
     ∙ sym (append-assoc p (v ∷ []) (replicate (q - (n + 1)) 0))
 
 -- ---- retire: three stores
-pub retire-words : (s : ℕ) (d : WordDesk) → length (d .words) ≡ 8 → length (listed d) < 2 * s
-    → set (set (set (recordWords s d) (13 + length (listed d)) (d .owed)) 4 (length (d .waiting) + 1)) 0 0 ≡ recordWords s (retired d)
+pub retire-words : (s : ℕ) (d : WordDesk) → length (d .words) ≡ markWords → length (listed d) < 2 * s
+    → set (set (set (recordWords s d) (listPlace + length (listed d)) (d .owed)) 4 (length (d .waiting) + 1)) 0 0 ≡ recordWords s (retired d)
 unfolding recordWords
 retire-words s d e h =
     let n = length (listed d) in

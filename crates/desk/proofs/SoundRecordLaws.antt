@@ -8,10 +8,10 @@ use lib.Dec.{eqb, leb, ltb, eqb·suc-zero}
 use lib.ListN.{length, getD, take, drop, length-drop}
 use lib.Seq.{drop-drop, take-all}
 use borrow.Author.Tests.{le-leb, lt-leb}
-use Rattle.rules.specs.Table.{scanSound}
+use Rattle.rules.specs.Table.{listPlace, markWords, marksPlace, scanSound}
 use Rattle.marks.specs.Words.{allZero, noneZero}
 use Rattle.marks.specs.Marks.{marks, onesIn}
-use Rattle.desk.proofs.WordDesk.{used, places, markWords, soundRead}
+use Rattle.desk.proofs.WordDesk.{used, places, markWordsIn, soundRead}
 
 -- k fits the number of tested places: the rules' clauses, as one test
 pub sound-read-is : (s t k : ℕ) → soundRead s t k ≡ scanSound s t k
@@ -30,20 +30,20 @@ module _ (s : ℕ) (r : List ℕ) (n t : ℕ) (en : n ≡ used r) (et : t ≡ ge
   pub no-room : 2 * s < n → leb (used r) (2 * s) ≡ false
   no-room h = lt-leb (used r) (2 * s) (omega arith)
 
-  pub used-part : {x v : Bool} → x ≡ noneZero (take (13 + n - 13) (drop 13 r)) → x ≡ v → noneZero (take (used r) (places r)) ≡ v
+  pub used-part : {x v : Bool} → x ≡ noneZero (take (listPlace + n - listPlace) (drop listPlace r)) → x ≡ v → noneZero (take (used r) (places r)) ≡ v
   used-part p q =
-      let e : used r ≡ 13 + n - 13 = omega arith in
-      ap (λ (k : ℕ). noneZero (take k (drop 13 r))) e ∙ sym p ∙ q
+      let e : used r ≡ listPlace + n - listPlace = omega arith in
+      ap (λ (k : ℕ). noneZero (take k (drop listPlace r))) e ∙ sym p ∙ q
 
-  pub free-part : {x v : Bool} → x ≡ allZero (take (length r - (13 + n)) (drop (13 + n) r)) → x ≡ v → allZero (drop (used r) (places r)) ≡ v
+  pub free-part : {x v : Bool} → x ≡ allZero (take (length r - (listPlace + n)) (drop (listPlace + n) r)) → x ≡ v → allZero (drop (used r) (places r)) ≡ v
   free-part p q =
-      let h : length (drop (13 + n) r) ≤ length r - (13 + n) = omega (arith, length-drop (13 + n) r) in
-      ap (λ (k : ℕ). allZero (drop k (drop 13 r))) (sym en) ∙ ap allZero (drop-drop n 13 r ∙ sym (take-all (length r - (13 + n)) (drop (13 + n) r) h))
+      let h : length (drop (listPlace + n) r) ≤ length r - (listPlace + n) = omega (arith, length-drop (listPlace + n) r) in
+      ap (λ (k : ℕ). allZero (drop k (drop listPlace r))) (sym en) ∙ ap allZero (drop-drop n listPlace r ∙ sym (take-all (length r - (listPlace + n)) (drop (listPlace + n) r) h))
       ∙ sym p ∙ q
 
-  pub marks-part : {x : Bool} (k : ℕ) → k ≡ getD r 1 0 → x ≡ allZero (drop t (marks (take 8 (drop 5 r)))) && leb (onesIn (take 8 (drop 5 r))) k
-      → x ≡ allZero (drop (getD r 3 0) (marks (markWords r))) && leb (onesIn (markWords r)) (getD r 1 0)
-  marks-part k ek p = p ∙ ap₂ (λ (m j : ℕ). allZero (drop m (marks (markWords r))) && leb (onesIn (markWords r)) j) et ek
+  pub marks-part : {x : Bool} (k : ℕ) → k ≡ getD r 1 0 → x ≡ allZero (drop t (marks (take markWords (drop marksPlace r)))) && leb (onesIn (take markWords (drop marksPlace r))) k
+      → x ≡ allZero (drop (getD r 3 0) (marks (markWordsIn r))) && leb (onesIn (markWordsIn r)) (getD r 1 0)
+  marks-part k ek p = p ∙ ap₂ (λ (m j : ℕ). allZero (drop m (marks (markWordsIn r))) && leb (onesIn (markWordsIn r)) j) et ek
 
   pub read-part : {x v : Bool} (k : ℕ) → k ≡ getD r 1 0 → x ≡ scanSound s t k → x ≡ v → soundRead s (getD r 3 0) (getD r 1 0) ≡ v
   read-part k ek p q = sym (rw (← ek, ← et) (sym q ∙ p ∙ sym (sound-read-is s t k)))

@@ -5,19 +5,17 @@ use mathlib.Core.List.{List, [], _∷_, _++_}
 use mathlib.Core.Path.{_≡_}
 use lib.Dec.{eqb, leb, ltb}
 use lib.ListN.{length, getD, take, drop, replicate}
+use Rattle.rules.specs.Hall.{mostAllScreens}
+use Rattle.rules.specs.Table.{listPlace, markWords, marksPlace}
 use Rattle.marks.specs.Words.{allZero, noneZero}
 use Rattle.marks.specs.Marks.{marks, onesIn, findPlace, markPlace, pick}
 
--- the words of a record
-abbrev pub size : ℕ → ℕ
-size s = 13 + 2 * s
-
 -- the mark words of a record, and its list of places
-abbrev pub markWords : List ℕ → List ℕ
-markWords r = take 8 (drop 5 r)
+abbrev pub markWordsIn : List ℕ → List ℕ
+markWordsIn r = take markWords (drop marksPlace r)
 
 abbrev pub places : List ℕ → List ℕ
-places r = drop 13 r
+places r = drop listPlace r
 
 -- the used places: the sum of the three counts
 abbrev pub used : List ℕ → ℕ
@@ -30,9 +28,9 @@ soundRead s tested k = cond (eqb tested 0) (eqb k 0) (eqb (k % 2) 0 && leb 2 k &
 unfoldable pub soundRecord : ℕ → List ℕ → Bool
 soundRecord s r =
     leb (used r) (2 * s) && noneZero (take (used r) (places r)) && allZero (drop (used r) (places r))
-    && allZero (drop (getD r 3 0) (marks (markWords r)))
+    && allZero (drop (getD r 3 0) (marks (markWordsIn r)))
     && soundRead s (getD r 3 0) (getD r 1 0)
-    && leb (onesIn (markWords r)) (getD r 1 0)
+    && leb (onesIn (markWordsIn r)) (getD r 1 0)
 
 -- What a record says: the owed session, k, the three groups of the list, and the mark words.
 pub record WordDesk : Type 0 where
@@ -51,7 +49,7 @@ wordDesk r =
       ready = take (getD r 2 0) (places r);
       tested = take (getD r 3 0) (drop (getD r 2 0) (places r));
       waiting = take (getD r 4 0) (drop (getD r 3 0) (drop (getD r 2 0) (places r)));
-      words = markWords r;
+      words = markWordsIn r;
     }
 
 -- the list: ready first, then tested, then waiting
@@ -102,7 +100,7 @@ settled d =
       ready = d .ready ++ pick 0 (marks (d .words)) (d .tested);
       tested = [];
       waiting = pick 1 (marks (d .words)) (d .tested) ++ d .waiting;
-      words = replicate 8 0;
+      words = replicate markWords 0;
     }
 
 -- (d) the first ready session leaves
@@ -113,12 +111,12 @@ handed d =
 -- What every part of a collect keeps: the list fits, there are eight mark words, and no place beyond the tested is marked.
 pub record Fit (s : ℕ) (d : WordDesk) : Type 0 where
   pub room : length (listed d) ≤ 2 * s
-  pub eight : length (d .words) ≡ 8
+  pub eight : length (d .words) ≡ markWords
   pub clear : allZero (drop (length (d .tested)) (marks (d .words))) ≡ true
 
 -- a record that says such a state
 pub record Formed (s : ℕ) (r : List ℕ) : Type 0 where
-  pub most : s ≤ 64
+  pub most : s ≤ mostAllScreens
   pub is : r ≡ recordWords s (wordDesk r)
   pub fit : Fit s (wordDesk r)
 

@@ -14,8 +14,9 @@ ghost use mathlib.Core.Bool.{true, false};
 ghost use Prim.Native.Nat.{_+_, _-_, _*_, _%_, _≤_, _<_};
 ghost use lib.ListN.{length, take};
 ghost use mathlib.Core.List.{[], _∷_};
+ghost use Rattle.rules.specs.Hall.{mostAllScreens};
 ghost use Rattle.rules.specs.Steps.{begin, collectSeeing, handBack, readScreens, scanAt, settle as settleDesk, settleIf};
-ghost use Rattle.rules.specs.Table.{decodeDesk, encodeDesk, recordSound, scanSound};
+ghost use Rattle.rules.specs.Table.{decodeDesk, encodeDesk, markWords, recordSound, scanSound, widthFor};
 ghost use Rattle.reply.specs.Answer.{answerOf};
 ghost use Rattle.desk.specs.Record.{Encoded, Retired};
 
@@ -42,7 +43,7 @@ pub const LIST: usize = 13;
 
 // The eight mark words of a record, by value.
 fn mark_words(m: &[u16]) -> [u16; 8]
-    requires { ⌜ length (now m) ≡ 8 ⌝ }
+    requires { ⌜ length (now m) ≡ markWords ⌝ }
     ensures { λ r. ⌜ r ≡ now (m .entry) ⌝ }
 {
     [m[0], m[1], m[2], m[3], m[4], m[5], m[6], m[7]]
@@ -67,7 +68,7 @@ fn sound_scan(s: usize, tested: usize, k: usize) -> bool
 // Whether a desk's record is sound, in a hall of s screens.
 // It requires a whole record of such a hall: the board's soundness test has shown that the table is long enough.
 pub fn sound_record(r: &[u16], s: usize) -> bool
-    requires { ⌜ (s ≤ 64) × (length (now r) ≡ 13 + 2 * s) ⌝ }
+    requires { ⌜ (s ≤ mostAllScreens) × (length (now r) ≡ widthFor s) ⌝ }
     ensures { λ b. ⌜ b ≡ recordSound s (now (r .entry)) ⌝ }
 {
     let tested = word(r, TESTED);

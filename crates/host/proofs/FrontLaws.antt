@@ -1,29 +1,29 @@
 -- How many words of a table are enough.
-use Prim.Native.Nat.{ℕ, _≤_, _<_}
+use Prim.Native.Nat.{ℕ, _*_, _≤_, _<_}
 use native.Mathlib.Omega.{arith}
 use mathlib.Core.Path.{_≡_, refl}
 use mathlib.Core.List.{List, [], _∷_}
 use lib.ListN.{length, getD}
 use Rattle.rules.specs.Hall.{Hall, hallOf, mostDesks, mostScreens, mostPositions}
-use Rattle.rules.specs.Table.{need, hallIn}
+use Rattle.rules.specs.Table.{hallIn, headerWords, need}
 use Rattle.rules.specs.Bytes.{wordsOfBytes}
 use Rattle.rules.specs.laws.Tables.{Opens}
 use Rattle.rules.specs.laws.Prefix.{need-at-most}
 use Rattle.host.specs.Heard.{Front}
 use Rattle.host.proofs.WordLaws.{words-length}
 
-header-alone : (H : Hall) → (Opens H → ⊥) → Front H 3
+header-alone : (H : Hall) → (Opens H → ⊥) → Front H headerWords
 header-alone H none = record { header = omega arith; most = omega arith; enough = λ o. absurd (none o) }
 
 -- by the hall's numbers: one is out of range, or all are in it
 module _ (P c L : ℕ) where
-  pub desks-out : (1 ≤ P → P ≤ mostDesks → ⊥) → Front (hallOf P c L) 3
+  pub desks-out : (1 ≤ P → P ≤ mostDesks → ⊥) → Front (hallOf P c L) headerWords
   desks-out none = header-alone (hallOf P c L) (λ o. none (o .desks .0) (o .desks .1))
 
-  pub screens-out : (1 ≤ c → c ≤ mostScreens → ⊥) → Front (hallOf P c L) 3
+  pub screens-out : (1 ≤ c → c ≤ mostScreens → ⊥) → Front (hallOf P c L) headerWords
   screens-out none = header-alone (hallOf P c L) (λ o. none (o .screens .0) (o .screens .1))
 
-  pub positions-out : (1 ≤ L → L ≤ mostPositions → ⊥) → Front (hallOf P c L) 3
+  pub positions-out : (1 ≤ L → L ≤ mostPositions → ⊥) → Front (hallOf P c L) headerWords
   positions-out none = header-alone (hallOf P c L) (λ o. none (o .positions .0) (o .positions .1))
 
   pub all-in : (m : ℕ) → m ≡ need (hallOf P c L) → 1 ≤ P → P ≤ mostDesks → 1 ≤ c → c ≤ mostScreens → 1 ≤ L → L ≤ mostPositions
@@ -39,7 +39,7 @@ no-third (x ∷ []) h = refl
 no-third (x ∷ y ∷ []) h = refl
 no-third (x ∷ y ∷ z ∷ xs) h = absurd (omega arith)
 
-pub no-header : (bytes : List ℕ) → length bytes < 6 → Front (hallIn (wordsOfBytes bytes)) 3
+pub no-header : (bytes : List ℕ) → length bytes < 2 * headerWords → Front (hallIn (wordsOfBytes bytes)) headerWords
 no-header bytes h =
     header-alone (hallIn (wordsOfBytes bytes))
     (λ o. omega (arith, o .positions .0, no-third (wordsOfBytes bytes) (omega (arith, words-length bytes))))

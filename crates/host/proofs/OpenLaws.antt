@@ -7,7 +7,7 @@ use lib.ListN.{length, take, drop, replicate, length-drop, length-replicate}
 use lib.Seq.{length-take-le, drop-drop}
 use Rattle.rules.specs.Hall.{Hall}
 use Rattle.rules.specs.Steps.{firstNo}
-use Rattle.rules.specs.Table.{TableDone, need, openQuestions, openTable}
+use Rattle.rules.specs.Table.{TableDone, headerWords, mostWords, need, openQuestions, openTable}
 use Rattle.rules.specs.Bytes.{IsBytes, bytesOfWords, laidOver, onBytes, openBytes, reply, wordsOfBytes}
 use Rattle.rules.specs.laws.Front.{laid-front}
 use Rattle.rules.specs.laws.Prefix.{need-at-most}
@@ -32,8 +32,8 @@ zero-bytes (suc k) =
 
 pub record Room (H : Hall) (bytes : List ℕ) : Type 0 where
   pub asked : firstNo (openQuestions H (wordsOfBytes bytes)) ≡ 0
-  pub least : 3 ≤ need H
-  pub most : need H ≤ 2387
+  pub least : headerWords ≤ need H
+  pub most : need H ≤ mostWords
   pub there : 2 * need H ≤ length bytes
 
 module _ (H : Hall) (bytes : List ℕ) (r : Reply) (e : answerOf r ≡ openTable H (wordsOfBytes bytes) .answer) where
@@ -57,34 +57,34 @@ module _ (H : Hall) (bytes : List ℕ) (r : Reply) (e : answerOf r ≡ openTable
         ∙ ap (λ (d : TableDone). onBytes d bytes) (not-opened H (wordsOfBytes bytes) r e no-opening)
 
     zeros-heard : answerOf r .number ≡ 0 → (n : ℕ) → n ≡ need H → (zeros : List ℕ)
-        → zeros ≡ replicate (length (take (2 * n - 6) (drop 6 (laidOver (header H) bytes)))) 0
-        → heard number (take 6 (laidOver (header H) bytes) ++ (zeros ++ drop (2 * n - 6) (drop 6 (laidOver (header H) bytes)))) ≡ openBytes H bytes
+        → zeros ≡ replicate (length (take (2 * n - 2 * headerWords) (drop (2 * headerWords) (laidOver (header H) bytes)))) 0
+        → heard number (take (2 * headerWords) (laidOver (header H) bytes) ++ (zeros ++ drop (2 * n - 2 * headerWords) (drop (2 * headerWords) (laidOver (header H) bytes)))) ≡ openBytes H bytes
     unfolding openBytes laidOver
     zeros-heard z n is zeros q =
         let place = room z in
-        let words : List ℕ = H .desks ∷ H .screens ∷ H .positions ∷ replicate (need H - 3) 0 in
-        let long : length words ≡ need H = omega (arith, place .least, length-replicate {A = ℕ} (need H - 3) 0) in
+        let words : List ℕ = H .desks ∷ H .screens ∷ H .positions ∷ replicate (need H - headerWords) 0 in
+        let long : length words ≡ need H = omega (arith, place .least, length-replicate {A = ℕ} (need H - headerWords) 0) in
         let all : length words ≡ length (take (need H) (wordsOfBytes bytes)) =
         long ∙ sym (length-take-le (need H) (wordsOfBytes bytes) (hall-opens H (wordsOfBytes bytes) (place .asked) .1)) in
-        let many : length (take (2 * n - 6) (drop 6 bytes)) ≡ 2 * (need H - 3) =
-        length-take-le (2 * n - 6) (drop 6 bytes) (omega (arith, length-drop 6 bytes, place .there)) ∙ omega (arith, place .least) in
-        let cleared : zeros ≡ bytesOfWords (replicate (need H - 3) 0) = q ∙ ap (λ (k : ℕ). replicate k 0) many ∙ sym (zero-bytes (need H - 3)) in
-        let end : 6 + (2 * n - 6) ≡ 2 * length words = omega (arith, place .least, long) in
-        let behind : drop (2 * n - 6) (drop 6 bytes) ≡ drop (2 * length words) bytes = drop-drop (2 * n - 6) 6 bytes ∙ ap (λ (k : ℕ). drop k bytes) end in
-        let laid : take 6 (laidOver (header H) bytes) ++ (zeros ++ drop (2 * n - 6) (drop 6 (laidOver (header H) bytes))) ≡ laidOver words bytes =
+        let many : length (take (2 * n - 2 * headerWords) (drop (2 * headerWords) bytes)) ≡ 2 * (need H - headerWords) =
+        length-take-le (2 * n - 2 * headerWords) (drop (2 * headerWords) bytes) (omega (arith, length-drop (2 * headerWords) bytes, place .there)) ∙ omega (arith, place .least) in
+        let cleared : zeros ≡ bytesOfWords (replicate (need H - headerWords) 0) = q ∙ ap (λ (k : ℕ). replicate k 0) many ∙ sym (zero-bytes (need H - headerWords)) in
+        let end : 2 * headerWords + (2 * n - 2 * headerWords) ≡ 2 * length words = omega (arith, place .least, long) in
+        let behind : drop (2 * n - 2 * headerWords) (drop (2 * headerWords) bytes) ≡ drop (2 * length words) bytes = drop-drop (2 * n - 2 * headerWords) (2 * headerWords) bytes ∙ ap (λ (k : ℕ). drop k bytes) end in
+        let laid : take (2 * headerWords) (laidOver (header H) bytes) ++ (zeros ++ drop (2 * n - 2 * headerWords) (drop (2 * headerWords) (laidOver (header H) bytes))) ≡ laidOver words bytes =
         ap₂ {C = List ℕ} (λ x y. bytesOfWords (header H) ++ (x ++ y)) cleared behind in
         (λ i. record { reply = answer i; after = (laid ∙ laid-front (need H) bytes words are all) i })
         ∙ ap (λ (d : TableDone). onBytes d bytes) ((λ i. record { answer = e i; after = words ++ drop (need H) (wordsOfBytes bytes) }) ∙ opened)
       where
-        opened : record { answer = openTable H (wordsOfBytes bytes) .answer; after = (H .desks ∷ H .screens ∷ H .positions ∷ replicate (need H - 3) 0) ++ drop (need H) (wordsOfBytes bytes) } ≡ openTable H (wordsOfBytes bytes)
+        opened : record { answer = openTable H (wordsOfBytes bytes) .answer; after = (H .desks ∷ H .screens ∷ H .positions ∷ replicate (need H - headerWords) 0) ++ drop (need H) (wordsOfBytes bytes) } ≡ openTable H (wordsOfBytes bytes)
         opened =
             let found = accepted-open H (wordsOfBytes bytes) (room z .asked) in
-            (λ i. record { answer = found i .answer; after = (H .desks ∷ H .screens ∷ H .positions ∷ replicate (need H - 3) 0) ++ drop (need H) (wordsOfBytes bytes) }) ∙ sym found
+            (λ i. record { answer = found i .answer; after = (H .desks ∷ H .screens ∷ H .positions ∷ replicate (need H - headerWords) 0) ++ drop (need H) (wordsOfBytes bytes) }) ∙ sym found
 
     -- the header was laid over the bytes, and then zeros up to the need
     pub opened-heard : answerOf r .number ≡ 0 → (n : ℕ) → n ≡ need H → (headed zeros : List ℕ) → headed ≡ laidOver (header H) bytes
-        → zeros ≡ replicate (length (take (2 * n - 6) (drop 6 headed))) 0
-        → heard number (take 6 headed ++ (zeros ++ drop (2 * n - 6) (drop 6 headed))) ≡ openBytes H bytes
+        → zeros ≡ replicate (length (take (2 * n - 2 * headerWords) (drop (2 * headerWords) headed))) 0
+        → heard number (take (2 * headerWords) headed ++ (zeros ++ drop (2 * n - 2 * headerWords) (drop (2 * headerWords) headed))) ≡ openBytes H bytes
     opened-heard z n is headed zeros h q =
-        ap (λ (l : List ℕ). heard number (take 6 l ++ (zeros ++ drop (2 * n - 6) (drop 6 l)))) h
-        ∙ zeros-heard z n is zeros (q ∙ ap (λ (l : List ℕ). replicate (length (take (2 * n - 6) (drop 6 l))) 0) h)
+        ap (λ (l : List ℕ). heard number (take (2 * headerWords) l ++ (zeros ++ drop (2 * n - 2 * headerWords) (drop (2 * headerWords) l)))) h
+        ∙ zeros-heard z n is zeros (q ∙ ap (λ (l : List ℕ). replicate (length (take (2 * n - 2 * headerWords) (drop (2 * headerWords) l))) 0) h)

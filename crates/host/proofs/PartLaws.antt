@@ -6,8 +6,8 @@ use mathlib.Core.Path.{_≡_, sym, ap, ap₂, _∙_}
 use mathlib.Core.List.{List, [], _++_, append-nil}
 use lib.ListN.{length, take, drop, length-drop, drop-of-length-le}
 use lib.Seq.{length-take-le, take-take}
-use Rattle.rules.specs.Hall.{Hall, allScreens}
-use Rattle.rules.specs.Table.{hallIn, recordStart, recordWidth}
+use Rattle.rules.specs.Hall.{Hall, allScreens, mostAllScreens, mostDesks, mostPositions}
+use Rattle.rules.specs.Table.{hallIn, headerWords, recordStart, recordWidth, startFor}
 use Rattle.rules.specs.Bytes.{IsBytes, bytesOfWords, laidOver, wordsOfBytes}
 use Rattle.rules.specs.laws.TableSteps.{record-within}
 use Rattle.rules.specs.laws.Window.{Rewritten, partLaid, rewritten-laid}
@@ -45,9 +45,9 @@ part-there a e words bytes order there room = (
 
 -- where the two parts stand
 pub record Parts (d : ℕ) (words : List ℕ) : Type 0 where
-  pub screens : allScreens (hallIn words) ≤ 64
-  pub positions : (1 ≤ hallIn words .positions) × (hallIn words .positions ≤ 64)
-  pub desk : (1 ≤ d) × (d ≤ 16)
+  pub screens : allScreens (hallIn words) ≤ mostAllScreens
+  pub positions : (1 ≤ hallIn words .positions) × (hallIn words .positions ≤ mostPositions)
+  pub desk : (1 ≤ d) × (d ≤ mostDesks)
   pub end : recordStart (hallIn words) d + recordWidth (hallIn words) ≤ length words
 
 module _ (d : ℕ) (words bytes : List ℕ) (done : Rewritten d (take (length words) (wordsOfBytes bytes)) words) where
@@ -61,15 +61,15 @@ module _ (d : ℕ) (words bytes : List ℕ) (done : Rewritten d (take (length wo
       }
 
   -- one after the other
-  pub parts-laid : IsBytes bytes → 2 * length words ≤ length bytes → (records start end : ℕ) → records ≡ 3 + hallIn words .positions + allScreens (hallIn words)
+  pub parts-laid : IsBytes bytes → 2 * length words ≤ length bytes → (records start end : ℕ) → records ≡ headerWords + hallIn words .positions + allScreens (hallIn words)
       → start ≡ recordStart (hallIn words) d → end ≡ recordStart (hallIn words) d + recordWidth (hallIn words) → (first second : List ℕ)
-      → first ≡ partLaid 3 records words bytes → second ≡ partLaid start end words first → second ≡ laidOver words bytes
+      → first ≡ partLaid headerWords records words bytes → second ≡ partLaid start end words first → second ≡ laidOver words bytes
   parts-laid are room records start end is-records is-start is-end first second one two =
       two ∙ ap₂ (λ (a e : ℕ). partLaid a e words first) is-start is-end
       ∙ ap (partLaid (recordStart (hallIn words) d) (recordStart (hallIn words) d + recordWidth (hallIn words)) words)
-      (one ∙ ap (λ (e : ℕ). partLaid 3 e words bytes) is-records)
+      (one ∙ ap (λ (e : ℕ). partLaid headerWords e words bytes) is-records)
       ∙ rewritten-laid d words bytes are room done
 
 -- the end of a record is the start of the next
-pub next-start : (H : Hall) (d : ℕ) → 1 ≤ d → 3 + H .positions + allScreens H + d * recordWidth H ≡ recordStart H d + recordWidth H
-next-start H d h = let e : d ≡ 1 + (d - 1) = omega arith in ap (λ (m : ℕ). 3 + H .positions + allScreens H + m * recordWidth H) e ∙ omega arith
+pub next-start : (H : Hall) (d : ℕ) → 1 ≤ d → startFor (H .positions) (allScreens H) d ≡ recordStart H d + recordWidth H
+next-start H d h = let e : d ≡ 1 + (d - 1) = omega arith in ap (startFor (H .positions) (allScreens H)) e ∙ omega arith

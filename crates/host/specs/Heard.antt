@@ -5,7 +5,7 @@ use mathlib.Core.List.{List}
 use lib.ListN.{length, take}
 use Rattle.rules.specs.Hall.{Hall}
 use Rattle.rules.specs.Steps.{Call}
-use Rattle.rules.specs.Table.{mostWords, need, stepTable}
+use Rattle.rules.specs.Table.{headerWords, mostWords, need, stepTable}
 use Rattle.rules.specs.Bytes.{BytesDone, laidOver, reply, wordsOfBytes}
 use Rattle.rules.specs.laws.Tables.{Opens}
 
@@ -15,7 +15,7 @@ heard reply bytes = record { reply = reply; after = bytes }
 
 -- "Words past the need are neither read nor written": the first m words are enough for a call on a table of this hall
 pub record Front (hall : Hall) (m : ℕ) : Type 0 where
-  pub header : 3 ≤ m
+  pub header : headerWords ≤ m
   pub most : m ≤ mostWords
   pub enough : Opens hall → need hall ≤ m
 

@@ -1,5 +1,6 @@
 use board::Board;
 use board::Call;
+use board::HEADER;
 use board::desk_of;
 use board::opening;
 use board::record_start;
@@ -16,9 +17,6 @@ ghost use Rattle.rules.specs.Bytes.{wordsOfBytes, laidOver, openBytes, stepByte
 ghost use Rattle.rules.specs.laws.Window.{Rewritten, partLaid};
 ghost use Rattle.board.specs.Asked.{callOf};
 ghost use Rattle.host.specs.Heard.{heard, Front, Seen, Told};
-
-// The words of the header: P, c and L.
-const HEADER: usize = 3;
 
 // How many words a step on a table of a hall looks at: its need, or the header alone where there is no such hall.
 fn front(desks: u16, screens: u16, positions: u16) -> usize

@@ -27,6 +27,10 @@ mostPositions = 64
 abbrev pub allScreens : Hall → ℕ
 allScreens hall = hall .desks * hall .screens
 
+-- The most screens of a hall.
+abbrev pub mostAllScreens : ℕ
+mostAllScreens = mostDesks * mostScreens
+
 -- A tested place of a desk's list: its session, and whether a screen that was read has marked it.
 -- The tested places are the snapshot under scan; a mark is a hit in the announcement array.
 pub data TestedPlace : Type 0 where

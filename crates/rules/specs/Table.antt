@@ -14,6 +14,10 @@ use Rattle.rules.specs.Steps.{isSession, retire, step}
 -- for each desk 13 + 2S words: owed session; k, the screens read so far; counts of ready, tested and waiting; 8 mark words;
 -- a list of 2S places."
 
+-- The words of P, c and L.
+abbrev pub headerWords : ℕ
+headerWords = 3
+
 -- Places in a desk's record.
 abbrev pub owedPlace : ℕ
 owedPlace = 0
@@ -36,15 +40,23 @@ marksPlace = 5
 abbrev pub markWords : ℕ
 markWords = 8
 
+-- The marks that they hold, 16 to a word: one for each of the 2S places of the largest hall.
+abbrev pub allMarks : ℕ
+allMarks = 16 * markWords
+
 abbrev pub listPlace : ℕ
 listPlace = 13
 
+-- The words of a record in a hall of S screens.
+abbrev pub widthFor : ℕ → ℕ
+widthFor S = listPlace + 2 * S
+
 abbrev pub recordWidth : Hall → ℕ
-recordWidth hall = 13 + 2 * allScreens hall
+recordWidth hall = widthFor (allScreens hall)
 
 -- "Need: 3 + L + S + P times (13 + 2S)"
 abbrev pub need : Hall → ℕ
-need hall = 3 + (hall .positions + (allScreens hall + hall .desks * recordWidth hall))
+need hall = headerWords + (hall .positions + (allScreens hall + hall .desks * recordWidth hall))
 
 -- "2,387 for the largest"
 abbrev pub mostWords : ℕ
@@ -52,13 +64,17 @@ mostWords = 2387
 
 -- Where position p, desk d's screen c and desk d's record stand in the table.
 abbrev pub positionWord : ℕ → ℕ
-positionWord p = 3 + (p - 1)
+positionWord p = headerWords + (p - 1)
 
 abbrev pub screenWord : Hall → ℕ → ℕ → ℕ
-screenWord hall d c = 3 + hall .positions + screenIndex hall d c
+screenWord hall d c = headerWords + hall .positions + screenIndex hall d c
+
+-- (the record that d others stand before, in a hall of L positions and S screens)
+abbrev pub startFor : ℕ → ℕ → ℕ → ℕ
+startFor L S d = headerWords + L + S + d * widthFor S
 
 abbrev pub recordStart : Hall → ℕ → ℕ
-recordStart hall d = 3 + hall .positions + allScreens hall + (d - 1) * recordWidth hall
+recordStart hall d = startFor (hall .positions) (allScreens hall) (d - 1)
 
 abbrev pub recordOf : Hall → List ℕ → ℕ → List ℕ
 recordOf hall table d = take (recordWidth hall) (drop (recordStart hall d) table)
@@ -130,7 +146,7 @@ encodeDesk S desk =
     ∷ length (desk .ready)
     ∷ length (desk .tested)
     ∷ length (desk .waiting)
-    ∷ (wordsOfBits markWords (marksOf (desk .tested) ++ replicate (128 - length (desk .tested)) false)
+    ∷ (wordsOfBits markWords (marksOf (desk .tested) ++ replicate (allMarks - length (desk .tested)) false)
     ++ (listOf desk ++ replicate (2 * S - length (listOf desk)) 0))
 
 -- the counts, the mark bits and the list places of a record
@@ -184,7 +200,7 @@ pieces zero width words = []
 pieces (suc n) width words = take width words ∷ pieces n width (drop width words)
 
 abbrev pub recordsIn : Hall → List ℕ → List (List ℕ)
-recordsIn hall table = pieces (hall .desks) (recordWidth hall) (drop (allScreens hall) (drop (hall .positions) (drop 3 table)))
+recordsIn hall table = pieces (hall .desks) (recordWidth hall) (drop (allScreens hall) (drop (hall .positions) (drop headerWords table)))
 
 abbrev pub everyRecord : (List ℕ → Bool) → List (List ℕ) → Bool
 everyRecord test [] = true
@@ -203,8 +219,8 @@ sound table =
 abbrev pub decode : Hall → List ℕ → State
 decode hall table =
     record {
-      held = take (hall .positions) (drop 3 table);
-      shown = take (allScreens hall) (drop (hall .positions) (drop 3 table));
+      held = take (hall .positions) (drop headerWords table);
+      shown = take (allScreens hall) (drop (hall .positions) (drop headerWords table));
       desks = map decodeDesk (recordsIn hall table);
     }
 
@@ -254,7 +270,7 @@ endTable table (call ∷ calls) = endTable (stepTable table call .after) calls
 -- ---- The opening.
 -- "Opening writes P, c, L and zeros up to the need." "Words past the need are neither read nor written."
 abbrev pub openedTable : Hall → List ℕ → List ℕ
-openedTable hall table = (hall .desks ∷ hall .screens ∷ hall .positions ∷ replicate (need hall - 3) 0) ++ drop (need hall) table
+openedTable hall table = (hall .desks ∷ hall .screens ∷ hall .positions ∷ replicate (need hall - headerWords) 0) ++ drop (need hall) table
 
 -- "Opening: is P 1 to 16? 1. Is c 1 to 4? 2. Is L 1 to 64? 3. Is the table at least the need? 4."
 abbrev pub openQuestions : Hall → List ℕ → List Question

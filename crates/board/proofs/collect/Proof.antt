@@ -1,11 +1,12 @@
 -- `board::collect` meets its contract. Each need cites one of two facts: what is known once the questions are answered, and once k is read.
 --
-use Prim.Native.Nat.{ℕ, _+_, _*_, _-_}
+use Prim.Native.Nat.{ℕ, _+_, _-_}
 use native.Mathlib.Omega.{arith}
 use mathlib.Core.Path.{refl, sym, _∙_}
 use borrow.Author.Needs.{needs}
 use borrow.Rule.Slice.PartMut.{same-len-mid}
 use Rattle.rules.specs.Steps.{Collect}
+use Rattle.rules.specs.Table.{widthFor}
 use Rattle.board.proofs.EntryLaws.{Entered, entered, refused}
 use Rattle.board.proofs.StepLaws.{Ready, ready, Reads, reads, collect-told}
 use Rattle.board.proofs.collect.Statement.{statement}
@@ -107,7 +108,7 @@ returns : tie.Need-returns
 returns c = refused (c .before .before .before .before .before .before .args .t .now) (c .before .before .before .before .before .before .args .desk) (c .before .entry .given .0 .0) (Collect (c .before .before .before .before .before .before .args .desk)) _ refl (sym (c .before .entry .given .1) ∙ c .before .before .before .enter .ensures)
 
 same-length-2 : tie.Need-same-length-2
-same-length-2 c = let s = c .before .before .before .before .before .before .before .before .before .before .before .entry2 .given .0 .0 .all in let a = c .before .before .before .before .before .before .before .before .before .before .before .entry2 .given .0 .0 .start in same-len-mid {X = ℕ} a (a + (13 + 2 * s) - a) (c .before .before .before .before .before .before .before .before .before .before .before .before .before .before .before .before .args .t .now) (c .before .before .collect-record .last .0) (c .before .before .collect-record .kept .0)
+same-length-2 c = let s = c .before .before .before .before .before .before .before .before .before .before .before .entry2 .given .0 .0 .all in let a = c .before .before .before .before .before .before .before .before .before .before .before .entry2 .given .0 .0 .start in same-len-mid {X = ℕ} a (a + widthFor s - a) (c .before .before .before .before .before .before .before .before .before .before .before .before .before .before .before .before .args .t .now) (c .before .before .collect-record .last .0) (c .before .before .collect-record .kept .0)
 
 returns-2 : tie.Need-returns-2
 returns-2 c =
@@ -115,7 +116,7 @@ returns-2 c =
     collect-told (c .before .before .before .before .before .before .before .before .before .before .before .before .before .before .before .before .args .t .now) (c .before .before .before .before .before .before .before .before .before .before .before .before .before .before .before .before .args .desk) _ _ (here (c .before .before .before .before .before .before .before .before .before .before)) (entered-at (c .before .before .before .before .before .before .before .before .before .before)) (g .scanned-is) _ (g .see-two (c .before .before .before .before .before .if1 .taken)) _ _ (c .before .before .collect-record .ensures .0) (c .before .before .collect-record .ensures .1)
 
 same-length-3 : tie.Need-same-length-3
-same-length-3 c = let s = c .before .before .before .before .before .before .before .before .before .before .entry2 .given .0 .0 .all in let a = c .before .before .before .before .before .before .before .before .before .before .entry2 .given .0 .0 .start in same-len-mid {X = ℕ} a (a + (13 + 2 * s) - a) (c .before .before .before .before .before .before .before .before .before .before .before .before .before .before .before .args .t .now) (c .before .before .collect-record2 .last .0) (c .before .before .collect-record2 .kept .0)
+same-length-3 c = let s = c .before .before .before .before .before .before .before .before .before .before .entry2 .given .0 .0 .all in let a = c .before .before .before .before .before .before .before .before .before .before .entry2 .given .0 .0 .start in same-len-mid {X = ℕ} a (a + widthFor s - a) (c .before .before .before .before .before .before .before .before .before .before .before .before .before .before .before .args .t .now) (c .before .before .collect-record2 .last .0) (c .before .before .collect-record2 .kept .0)
 
 returns-3 : tie.Need-returns-3
 returns-3 c =

@@ -1,12 +1,12 @@
 -- `board::enter` meets its contract.
-use Prim.Native.Nat.{_+_, _-_, _*_, _≤_}
+use Prim.Native.Nat.{_-_, _*_, _≤_}
 use native.Mathlib.Omega.{arith}
 use mathlib.Core.Bool.{true}
 use mathlib.Core.Path.{_≡_, sym, ap₂, _∙_}
 use borrow.Author.Needs.{needs}
 use Rattle.rules.specs.Hall.{allScreens}
 use Rattle.rules.specs.Steps.{inRange}
-use Rattle.rules.specs.Table.{hallIn, recordStart, sound}
+use Rattle.rules.specs.Table.{hallIn, recordStart, sound, startFor}
 use Rattle.rules.specs.laws.Effect.{in-range}
 use Rattle.rules.specs.laws.TableSteps.{Known, known}
 use Rattle.marks.proofs.BoolLaws.{not-true, not-false}
@@ -68,7 +68,7 @@ record-start-requires c κs = let f = facts (c .before .before .before .before .
 
 returns-3 : tie.Need-returns-3
 unfolding entryOf
-returns-3 c = let e = all-is (c .before) in let g : c .record-start .result ≡ recordStart (hallIn (c .before .before .before .before .before .before .before .before .before .args .t .now)) (c .before .before .before .before .before .before .before .before .before .args .desk) = c .record-start .ensures .0 ∙ (λ i. 3 + c .before .word3 .ensures .0 i + e i + (c .before .before .before .before .before .before .before .before .before .args .desk - 1) * (13 + 2 * e i)) in simp (table-is-sound (c .before .before .before .before .before .before), is-desk (c .before .before .before)) (λ i. Entry.At (record { positions = c .before .word3 .ensures .0 i; screens = c .before .before .word2 .ensures .0 i; all = e i; start = g i }))
+returns-3 c = let e = all-is (c .before) in let g : c .record-start .result ≡ recordStart (hallIn (c .before .before .before .before .before .before .before .before .before .args .t .now)) (c .before .before .before .before .before .before .before .before .before .args .desk) = c .record-start .ensures .0 ∙ (λ i. startFor (c .before .word3 .ensures .0 i) (e i) (c .before .before .before .before .before .before .before .before .before .args .desk - 1)) in simp (table-is-sound (c .before .before .before .before .before .before), is-desk (c .before .before .before)) (λ i. Entry.At (record { positions = c .before .word3 .ensures .0 i; screens = c .before .before .word2 .ensures .0 i; all = e i; start = g i }))
 
 pub enter-spec : {M : Type 1} → statement M
 enter-spec =

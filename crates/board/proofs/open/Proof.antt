@@ -8,7 +8,7 @@ use borrow.Author.Needs.{needs}
 use borrow.Rule.Slice.PartMut.{same-len-mid}
 use Rattle.rules.specs.Hall.{Hall, hallOf}
 use Rattle.rules.specs.Steps.{firstNo}
-use Rattle.rules.specs.Table.{need, openQuestions}
+use Rattle.rules.specs.Table.{headerWords, need, openQuestions}
 use Rattle.rules.specs.laws.Tables.{hall-opens}
 use Rattle.board.proofs.OpenLaws.{not-opened, is-opened, opened}
 use Rattle.board.proofs.open.Statement.{statement}
@@ -23,8 +23,8 @@ room : (c : tie.Else1) → need (hallOf (c .before .before .before .before .args
 room c = hall-opens (hallOf (c .before .before .before .before .args .desks) (c .before .before .before .before .args .screens) (c .before .before .before .before .args .positions)) (c .before .before .before .before .args .t .now) (all-yes c) .1
 
 -- the table after the clearing is as long as it was
-same : (c : tie.After-slice-known2) → length (take 3 (c .before .before .before .before .before .before .before .before .before .args .t .now) ++ (c .before .before .clear .last .0 ++ drop (c .before .before .before .before .need .result - 3) (drop 3 (c .before .before .before .before .before .before .before .before .before .args .t .now)))) ≡ length (c .before .before .before .before .before .before .before .before .before .args .t .now)
-same c = same-len-mid {X = ℕ} 3 (c .before .before .before .before .need .result - 3) (c .before .before .before .before .before .before .before .before .before .args .t .now) (c .before .before .clear .last .0) (c .before .before .clear .kept .0)
+same : (c : tie.After-slice-known2) → length (take headerWords (c .before .before .before .before .before .before .before .before .before .args .t .now) ++ (c .before .before .clear .last .0 ++ drop (c .before .before .before .before .need .result - headerWords) (drop headerWords (c .before .before .before .before .before .before .before .before .before .args .t .now)))) ≡ length (c .before .before .before .before .before .before .before .before .before .args .t .now)
+same c = same-len-mid {X = ℕ} headerWords (c .before .before .before .before .need .result - headerWords) (c .before .before .before .before .before .before .before .before .before .args .t .now) (c .before .before .clear .last .0) (c .before .before .clear .kept .0)
 
 opening-requires : tie.Need-opening-requires
 opening-requires c κs = search needs

@@ -3,7 +3,7 @@ use mathlib.Core.Bool.{true}
 use mathlib.Core.Path.{_≡_, refl}
 use native.Mathlib.Omega.{arith}
 use borrow.Author.Needs.{needs}
-use Rattle.rules.specs.Hall.{hallOf}
+use Rattle.rules.specs.Hall.{hallOf, mostDesks, mostPositions, mostScreens}
 use Rattle.rules.specs.Steps.{inRange}
 use Rattle.board.proofs.OpenLaws.{bad-desks, bad-screens, bad-positions, too-short, opens}
 use Rattle.board.proofs.SoundLaws.{is-in, is-out}
@@ -11,32 +11,32 @@ use Rattle.board.proofs.opening.Statement.{statement}
 use Rattle.board.proofs.opening.Tie as tie
 
 -- the three numbers are in range
-desks-in : (c : tie.Else1) → inRange (c .before .before .args .desks) 16 ≡ true
-desks-in c = is-in (c .before .in-range .result) (c .before .before .args .desks) 16 16 (c .before .in-range .ensures) refl (c .if1 .left)
+desks-in : (c : tie.Else1) → inRange (c .before .before .args .desks) mostDesks ≡ true
+desks-in c = is-in (c .before .in-range .result) (c .before .before .args .desks) mostDesks mostDesks (c .before .in-range .ensures) refl (c .if1 .left)
 
-screens-in : (c : tie.Else2) → inRange (c .before .before .before .before .args .screens) 4 ≡ true
-screens-in c = is-in (c .before .in-range2 .result) (c .before .before .before .before .args .screens) 4 4 (c .before .in-range2 .ensures) refl (c .if2 .left)
+screens-in : (c : tie.Else2) → inRange (c .before .before .before .before .args .screens) mostScreens ≡ true
+screens-in c = is-in (c .before .in-range2 .result) (c .before .before .before .before .args .screens) mostScreens mostScreens (c .before .in-range2 .ensures) refl (c .if2 .left)
 
-positions-in : (c : tie.Else3) → inRange (c .before .before .before .before .before .before .args .positions) 64 ≡ true
-positions-in c = is-in (c .before .in-range3 .result) (c .before .before .before .before .before .before .args .positions) 64 64 (c .before .in-range3 .ensures) refl (c .if3 .left)
+positions-in : (c : tie.Else3) → inRange (c .before .before .before .before .before .before .args .positions) mostPositions ≡ true
+positions-in c = is-in (c .before .in-range3 .result) (c .before .before .before .before .before .before .args .positions) mostPositions mostPositions (c .before .in-range3 .ensures) refl (c .if3 .left)
 
 in-range-requires : tie.Need-in-range-requires
 in-range-requires c κs = search needs
 
 returns : tie.Need-returns
-returns c = λ t long. bad-desks (hallOf (c .before .before .args .desks) (c .before .before .args .screens) (c .before .before .args .positions)) (c .before .before .args .words) t long (is-out (c .before .in-range .result) (c .before .before .args .desks) 16 16 (c .before .in-range .ensures) refl (c .if1 .taken))
+returns c = λ t long. bad-desks (hallOf (c .before .before .args .desks) (c .before .before .args .screens) (c .before .before .args .positions)) (c .before .before .args .words) t long (is-out (c .before .in-range .result) (c .before .before .args .desks) mostDesks mostDesks (c .before .in-range .ensures) refl (c .if1 .taken))
 
 in-range-requires-2 : tie.Need-in-range-requires-2
 in-range-requires-2 c κs = search needs
 
 returns-2 : tie.Need-returns-2
-returns-2 c = λ t long. bad-screens (hallOf (c .before .before .before .before .args .desks) (c .before .before .before .before .args .screens) (c .before .before .before .before .args .positions)) (c .before .before .before .before .args .words) t long (desks-in (c .before .before)) (is-out (c .before .in-range2 .result) (c .before .before .before .before .args .screens) 4 4 (c .before .in-range2 .ensures) refl (c .if2 .taken))
+returns-2 c = λ t long. bad-screens (hallOf (c .before .before .before .before .args .desks) (c .before .before .before .before .args .screens) (c .before .before .before .before .args .positions)) (c .before .before .before .before .args .words) t long (desks-in (c .before .before)) (is-out (c .before .in-range2 .result) (c .before .before .before .before .args .screens) mostScreens mostScreens (c .before .in-range2 .ensures) refl (c .if2 .taken))
 
 in-range-requires-3 : tie.Need-in-range-requires-3
 in-range-requires-3 c κs = search needs
 
 returns-3 : tie.Need-returns-3
-returns-3 c = λ t long. bad-positions (hallOf (c .before .before .before .before .before .before .args .desks) (c .before .before .before .before .before .before .args .screens) (c .before .before .before .before .before .before .args .positions)) (c .before .before .before .before .before .before .args .words) t long (desks-in (c .before .before .before .before)) (screens-in (c .before .before)) (is-out (c .before .in-range3 .result) (c .before .before .before .before .before .before .args .positions) 64 64 (c .before .in-range3 .ensures) refl (c .if3 .taken))
+returns-3 c = λ t long. bad-positions (hallOf (c .before .before .before .before .before .before .args .desks) (c .before .before .before .before .before .before .args .screens) (c .before .before .before .before .before .before .args .positions)) (c .before .before .before .before .before .before .args .words) t long (desks-in (c .before .before .before .before)) (screens-in (c .before .before)) (is-out (c .before .in-range3 .result) (c .before .before .before .before .before .before .args .positions) mostPositions mostPositions (c .before .in-range3 .ensures) refl (c .if3 .taken))
 
 need-requires : tie.Need-need-requires
 need-requires c κs = search needs

@@ -1,10 +1,11 @@
 -- `board::retire` meets its contract.
-use Prim.Native.Nat.{ℕ, _+_, _*_, _-_}
+use Prim.Native.Nat.{ℕ, _+_, _-_}
 use native.Mathlib.Omega.{arith}
 use mathlib.Core.Path.{refl, sym, _∙_}
 use borrow.Author.Needs.{needs}
 use borrow.Rule.Slice.PartMut.{same-len-mid}
 use Rattle.rules.specs.Steps.{Retire}
+use Rattle.rules.specs.Table.{widthFor}
 use Rattle.board.proofs.EntryLaws.{Entered, entered, refused}
 use Rattle.board.proofs.StepLaws.{Ready, ready, retire-told}
 use Rattle.board.proofs.retire.Statement.{statement}
@@ -57,7 +58,7 @@ returns : tie.Need-returns
 returns c = refused (c .before .before .before .before .before .before .args .t .now) (c .before .before .before .before .before .before .args .desk) (c .before .entry .given .0 .0) (Retire (c .before .before .before .before .before .before .args .desk)) _ refl (sym (c .before .entry .given .1) ∙ c .before .before .before .enter .ensures)
 
 same-length-2 : tie.Need-same-length-2
-same-length-2 c = let s = c .before .before .before .before .before .entry2 .given .0 .0 .all in let a = c .before .before .before .before .before .entry2 .given .0 .0 .start in same-len-mid {X = ℕ} a (a + (13 + 2 * s) - a) (c .before .before .before .before .before .before .before .before .before .before .args .t .now) (c .before .before .retire-record .last .0) (c .before .before .retire-record .kept .0)
+same-length-2 c = let s = c .before .before .before .before .before .entry2 .given .0 .0 .all in let a = c .before .before .before .before .before .entry2 .given .0 .0 .start in same-len-mid {X = ℕ} a (a + widthFor s - a) (c .before .before .before .before .before .before .before .before .before .before .args .t .now) (c .before .before .retire-record .last .0) (c .before .before .retire-record .kept .0)
 
 returns-2 : tie.Need-returns-2
 returns-2 c = retire-told (c .before .before .before .before .before .before .before .before .before .before .args .t .now) (c .before .before .before .before .before .before .before .before .before .before .args .desk) _ (here (c .before .before .before .before)) (record-at (c .before .before .before .before)) (c .before .before .retire-record .result) (c .before .before .retire-record .last .0) (c .before .before .retire-record .ensures)

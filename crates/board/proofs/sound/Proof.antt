@@ -6,7 +6,7 @@ use mathlib.Core.Bool.{true}
 use mathlib.Core.Path.{_≡_, refl, sym, _∙_}
 use lib.ListN.{getD}
 use borrow.Author.Needs.{needs}
-use Rattle.rules.specs.Hall.{allScreens}
+use Rattle.rules.specs.Hall.{allScreens, mostAllScreens, mostDesks, mostPositions, mostScreens}
 use Rattle.rules.specs.Steps.{inRange}
 use Rattle.rules.specs.Table.{hallIn}
 use Rattle.rules.specs.laws.Effect.{in-range}
@@ -15,17 +15,17 @@ use Rattle.board.proofs.sound.Statement.{statement}
 use Rattle.board.proofs.sound.Tie as tie
 
 -- the three numbers are in range
-desks-in : (c : tie.Else4) → inRange (hallIn (c .before .before .before .before .before .before .before .before .before .before .before .args .t .now) .desks) 16 ≡ true
-desks-in c = is-in (c .before .before .before .before .before .in-range .result) (getD (c .before .before .before .before .before .before .before .before .before .before .before .args .t .now) 0 0) 16 16 (c .before .before .before .before .before .in-range .ensures) refl (c .before .before .before .before .if2 .left)
+desks-in : (c : tie.Else4) → inRange (hallIn (c .before .before .before .before .before .before .before .before .before .before .before .args .t .now) .desks) mostDesks ≡ true
+desks-in c = is-in (c .before .before .before .before .before .in-range .result) (getD (c .before .before .before .before .before .before .before .before .before .before .before .args .t .now) 0 0) mostDesks mostDesks (c .before .before .before .before .before .in-range .ensures) refl (c .before .before .before .before .if2 .left)
 
-screens-in : (c : tie.Else4) → inRange (hallIn (c .before .before .before .before .before .before .before .before .before .before .before .args .t .now) .screens) 4 ≡ true
-screens-in c = is-in (c .before .before .before .in-range2 .result) (getD (c .before .before .before .before .before .before .before .before .before .before .before .args .t .now) 1 0) 4 4 (c .before .before .before .in-range2 .ensures) refl (c .before .before .if3 .left)
+screens-in : (c : tie.Else4) → inRange (hallIn (c .before .before .before .before .before .before .before .before .before .before .before .args .t .now) .screens) mostScreens ≡ true
+screens-in c = is-in (c .before .before .before .in-range2 .result) (getD (c .before .before .before .before .before .before .before .before .before .before .before .args .t .now) 1 0) mostScreens mostScreens (c .before .before .before .in-range2 .ensures) refl (c .before .before .if3 .left)
 
-positions-in : (c : tie.Else4) → inRange (hallIn (c .before .before .before .before .before .before .before .before .before .before .before .args .t .now) .positions) 64 ≡ true
-positions-in c = is-in (c .before .in-range3 .result) (getD (c .before .before .before .before .before .before .before .before .before .before .before .args .t .now) 2 0) 64 64 (c .before .in-range3 .ensures) refl (c .if4 .left)
+positions-in : (c : tie.Else4) → inRange (hallIn (c .before .before .before .before .before .before .before .before .before .before .before .args .t .now) .positions) mostPositions ≡ true
+positions-in c = is-in (c .before .in-range3 .result) (getD (c .before .before .before .before .before .before .before .before .before .before .before .args .t .now) 2 0) mostPositions mostPositions (c .before .in-range3 .ensures) refl (c .if4 .left)
 
-most : (c : tie.Else4) → (hallIn (c .before .before .before .before .before .before .before .before .before .before .before .args .t .now) .desks ≤ 16) × (hallIn (c .before .before .before .before .before .before .before .before .before .before .before .args .t .now) .positions ≤ 64) × (allScreens (hallIn (c .before .before .before .before .before .before .before .before .before .before .before .args .t .now)) ≤ 64) × (hallIn (c .before .before .before .before .before .before .before .before .before .before .before .args .t .now) .screens ≤ 4)
-most c = let d = in-range (hallIn (c .before .before .before .before .before .before .before .before .before .before .before .args .t .now) .desks) 16 (desks-in c) in let s = in-range (hallIn (c .before .before .before .before .before .before .before .before .before .before .before .args .t .now) .screens) 4 (screens-in c) in (d .1, in-range (hallIn (c .before .before .before .before .before .before .before .before .before .before .before .args .t .now) .positions) 64 (positions-in c) .1, mul-le-mul (d .1) (s .1), s .1)
+most : (c : tie.Else4) → (hallIn (c .before .before .before .before .before .before .before .before .before .before .before .args .t .now) .desks ≤ mostDesks) × (hallIn (c .before .before .before .before .before .before .before .before .before .before .before .args .t .now) .positions ≤ mostPositions) × (allScreens (hallIn (c .before .before .before .before .before .before .before .before .before .before .before .args .t .now)) ≤ mostAllScreens) × (hallIn (c .before .before .before .before .before .before .before .before .before .before .before .args .t .now) .screens ≤ mostScreens)
+most c = let d = in-range (hallIn (c .before .before .before .before .before .before .before .before .before .before .before .args .t .now) .desks) mostDesks (desks-in c) in let s = in-range (hallIn (c .before .before .before .before .before .before .before .before .before .before .before .args .t .now) .screens) mostScreens (screens-in c) in (d .1, in-range (hallIn (c .before .before .before .before .before .before .before .before .before .before .before .args .t .now) .positions) mostPositions (positions-in c) .1, mul-le-mul (d .1) (s .1), s .1)
 
 returns : tie.Need-returns
 returns c = sym (not-long (c .before .before .args .t .now) (omega (arith, c .if1 .taken)))
@@ -43,19 +43,19 @@ in-range-requires : tie.Need-in-range-requires
 in-range-requires c κs = search needs
 
 returns-2 : tie.Need-returns-2
-returns-2 c = sym (bad-desks (c .before .before .before .before .before .before .before .args .t .now) (is-out (c .before .in-range .result) (getD (c .before .before .before .before .before .before .before .args .t .now) 0 0) 16 16 (c .before .in-range .ensures) refl (c .if2 .taken)))
+returns-2 c = sym (bad-desks (c .before .before .before .before .before .before .before .args .t .now) (is-out (c .before .in-range .result) (getD (c .before .before .before .before .before .before .before .args .t .now) 0 0) mostDesks mostDesks (c .before .in-range .ensures) refl (c .if2 .taken)))
 
 in-range-requires-2 : tie.Need-in-range-requires-2
 in-range-requires-2 c κs = search needs
 
 returns-3 : tie.Need-returns-3
-returns-3 c = sym (bad-screens (c .before .before .before .before .before .before .before .before .before .args .t .now) (is-out (c .before .in-range2 .result) (getD (c .before .before .before .before .before .before .before .before .before .args .t .now) 1 0) 4 4 (c .before .in-range2 .ensures) refl (c .if3 .taken)))
+returns-3 c = sym (bad-screens (c .before .before .before .before .before .before .before .before .before .args .t .now) (is-out (c .before .in-range2 .result) (getD (c .before .before .before .before .before .before .before .before .before .args .t .now) 1 0) mostScreens mostScreens (c .before .in-range2 .ensures) refl (c .if3 .taken)))
 
 in-range-requires-3 : tie.Need-in-range-requires-3
 in-range-requires-3 c κs = search needs
 
 returns-4 : tie.Need-returns-4
-returns-4 c = sym (bad-positions (c .before .before .before .before .before .before .before .before .before .before .before .args .t .now) (is-out (c .before .in-range3 .result) (getD (c .before .before .before .before .before .before .before .before .before .before .before .args .t .now) 2 0) 64 64 (c .before .in-range3 .ensures) refl (c .if4 .taken)))
+returns-4 c = sym (bad-positions (c .before .before .before .before .before .before .before .before .before .before .before .args .t .now) (is-out (c .before .in-range3 .result) (getD (c .before .before .before .before .before .before .before .before .before .before .before .args .t .now) 2 0) mostPositions mostPositions (c .before .in-range3 .ensures) refl (c .if4 .taken)))
 
 need-requires : tie.Need-need-requires
 need-requires c κs = search needs

@@ -1,11 +1,11 @@
 -- `board::sound_records` meets its contract.
-use Prim.Native.Nat.{ℕ, _+_, _-_, _*_, _≤_}
+use Prim.Native.Nat.{ℕ, _+_, _-_, _≤_}
 use native.Mathlib.Omega.{arith}
 use mathlib.Core.Bool.{Bool, true}
 use mathlib.Core.Path.{_≡_, refl, sym, _∙_, ap}
 use lib.ListN.{take, drop}
 use borrow.Author.Needs.{needs}
-use Rattle.rules.specs.Table.{recordSound}
+use Rattle.rules.specs.Table.{headerWords, recordSound, startFor, widthFor}
 use Rattle.marks.proofs.BoolLaws.{not-true, not-false}
 use Rattle.board.proofs.Rows.{row-part, row-ends}
 use Rattle.board.proofs.SoundLaws.{each, each-next, each-stop, each-all}
@@ -13,7 +13,7 @@ use Rattle.board.proofs.sound_records.Statement.{statement}
 use Rattle.board.proofs.sound_records.Tie as tie
 
 abbrev Inv-loop : tie.InvT-loop
-Inv-loop t p l s size d₀ d = (d ≤ p) × (each (λ i. recordSound s (take (13 + 2 * s) (drop (3 + l + s + i * (13 + 2 * s)) t))) d ≡ true)
+Inv-loop t p l s size d₀ d = (d ≤ p) × (each (λ i. recordSound s (take (widthFor s) (drop (startFor l s i) t))) d ≡ true)
 
 abbrev μ-loop : tie.MeasureT-loop
 μ-loop t p l s size d₀ d = p - d
@@ -45,7 +45,7 @@ part-sound-record-start c = search needs
 part-sound-record-end : tie.Need-part-sound-record-end Inv-loop μ-loop
 part-sound-record-end c =
     let e = c .record-start .ensures .0 in
-    let h = row-ends (c .before .before .loop .d) (c .before .before .before .before .args .p) (13 + 2 * c .before .before .before .before .args .s) (omega arith) in
+    let h = row-ends (c .before .before .loop .d) (c .before .before .before .before .args .p) (widthFor (c .before .before .before .before .args .s)) (omega arith) in
     omega arith
 
 sound-record-requires : tie.Need-sound-record-requires Inv-loop μ-loop
@@ -56,10 +56,10 @@ returns c =
     let t = c .before .before .before .before .before .before .before .args .t .now in
     let s = c .before .before .before .before .before .before .before .args .s in
     let l = c .before .before .before .before .before .before .before .args .l in
-    let n = 13 + 2 * s in
-    let f : ℕ → Bool = λ i. recordSound s (take n (drop (3 + l + s + i * n) t)) in
-    let e = row-part t (c .before .before .before .record-start .result) (3 + l + s + c .before .before .before .before .before .loop .d * n) n (c .before .before .before .record-start .ensures .0) in
-    sym (sym (each-all (recordSound s) n (3 + l + s) (c .before .before .before .before .before .before .before .args .p) t) ∙ each-stop f (c .before .before .before .before .before .before .before .args .p) (c .before .before .before .before .before .loop .d) (omega arith) (ap (recordSound s) (sym e) ∙ sym (c .before .sound-record .ensures) ∙ not-true (c .if1 .taken)))
+    let n = widthFor s in
+    let f : ℕ → Bool = λ i. recordSound s (take n (drop (startFor l s i) t)) in
+    let e = row-part t (c .before .before .before .record-start .result) (startFor l s (c .before .before .before .before .before .loop .d)) n (c .before .before .before .record-start .ensures .0) in
+    sym (sym (each-all (recordSound s) n (headerWords + l + s) (c .before .before .before .before .before .before .before .args .p) t) ∙ each-stop f (c .before .before .before .before .before .before .before .args .p) (c .before .before .before .before .before .loop .d) (omega arith) (ap (recordSound s) (sym e) ∙ sym (c .before .sound-record .ensures) ∙ not-true (c .if1 .taken)))
 
 add-d : tie.Need-add-d Inv-loop μ-loop
 add-d c = search needs
@@ -72,9 +72,9 @@ loop-again c =
     let t = c .before .before .before .before .before .before .before .args .t .now in
     let s = c .before .before .before .before .before .before .before .args .s in
     let l = c .before .before .before .before .before .before .before .args .l in
-    let n = 13 + 2 * s in
-    let f : ℕ → Bool = λ i. recordSound s (take n (drop (3 + l + s + i * n) t)) in
-    let e = row-part t (c .before .before .before .record-start .result) (3 + l + s + c .before .before .before .before .before .loop .d * n) n (c .before .before .before .record-start .ensures .0) in
+    let n = widthFor s in
+    let f : ℕ → Bool = λ i. recordSound s (take n (drop (startFor l s i) t)) in
+    let e = row-part t (c .before .before .before .record-start .result) (startFor l s (c .before .before .before .before .before .loop .d)) n (c .before .before .before .record-start .ensures .0) in
     (omega arith, each-next f (c .before .before .before .before .before .loop .d) (c .before .before .before .before .before .loop .inv .1) (ap (recordSound s) (sym e) ∙ sym (c .before .sound-record .ensures) ∙ not-false (c .if1 .left)))
 
 returns-2 : tie.Need-returns-2 Inv-loop μ-loop
@@ -83,7 +83,7 @@ returns-2 c =
     let t = c .before .before .before .args .t .now in
     let s = c .before .before .before .args .s in
     let l = c .before .before .before .args .l in
-    sym (sym (each-all (recordSound s) (13 + 2 * s) (3 + l + s) (c .before .before .before .args .p) t) ∙ rw (← e) (c .before .loop .inv .1))
+    sym (sym (each-all (recordSound s) (widthFor s) (headerWords + l + s) (c .before .before .before .args .p) t) ∙ rw (← e) (c .before .loop .inv .1))
 
 pub sound-records-spec : {M : Type 1} → statement M
 sound-records-spec =

@@ -6,6 +6,7 @@ use mathlib.Core.Path.{ap, _∙_}
 use lib.ListN.{getD, set, length, drop, length-take, length-drop}
 use borrow.Author.Needs.{needs}
 use borrow.Rule.Slice.PartMut.{putMid, same-len-mid}
+use Rattle.rules.specs.Table.{listPlace}
 use Rattle.desk.proofs.DeskTie.{formed-of, first-handed, handed-encoded}
 use Rattle.desk.proofs.DeskLaws.{facts, hand-stores, hand-none, first-ready, none-ready}
 use Rattle.desk.proofs.hand_back.Statement.{statement}
@@ -33,7 +34,7 @@ move-up-requires : tie.Need-move-up-requires
 move-up-requires c κs =
     let a = facts (c .before .before .before .before .before .args .s) (c .before .before .before .before .before .args .r .now) (formed-of (c .before .before .before .before .before .args .s) (c .before .before .before .before .before .args .r .now) (c .before .before .before .before .before .pre)) in
     let z = c .before .before .if1 .left in
-    omega (arith, length-take (length (c .before .before .before .before .before .args .r .now) - 13) (drop 13 (c .before .before .before .before .before .args .r .now)), length-drop 13 (c .before .before .before .before .before .args .r .now))
+    omega (arith, length-take (length (c .before .before .before .before .before .args .r .now) - listPlace) (drop listPlace (c .before .before .before .before .before .args .r .now)), length-drop listPlace (c .before .before .before .before .before .args .r .now))
 
 sub-r : tie.Need-sub-r
 sub-r c = search needs
@@ -41,7 +42,7 @@ sub-r c = search needs
 slice-write-r : tie.Need-slice-write-r
 slice-write-r c =
     let a = facts (c .before .before .before .before .before .before .before .before .args .s) (c .before .before .before .before .before .before .before .before .args .r .now) (formed-of (c .before .before .before .before .before .before .before .before .args .s) (c .before .before .before .before .before .before .before .before .args .r .now) (c .before .before .before .before .before .before .before .before .pre)) in
-    let e = same-len-mid {X = ℕ} 13 (length (c .before .before .before .before .before .before .before .before .args .r .now) - 13) (c .before .before .before .before .before .before .before .before .args .r .now) (c .before .before .move-up .last .0) (c .before .before .move-up .kept .0) in
+    let e = same-len-mid {X = ℕ} listPlace (length (c .before .before .before .before .before .before .before .before .args .r .now) - listPlace) (c .before .before .before .before .before .before .before .before .args .r .now) (c .before .before .move-up .last .0) (c .before .before .move-up .kept .0) in
     omega arith
 
 same-length : tie.Need-same-length
@@ -52,7 +53,7 @@ returns-2 c =
     let r = c .before .before .before .before .before .before .before .before .args .r .now in
     let a = facts (c .before .before .before .before .before .before .before .before .args .s) r (formed-of (c .before .before .before .before .before .before .before .before .args .s) (c .before .before .before .before .before .before .before .before .args .r .now) (c .before .before .before .before .before .before .before .before .pre)) in
     let z = c .before .before .before .before .before .if1 .left in
-    (first-ready r (omega arith) ∙ first-handed (c .before .before .before .before .before .before .before .before .args .s) (c .before .before .before .before .before .before .before .before .args .r .now) (c .before .before .before .before .before .before .before .before .pre), ap (λ (y : List ℕ). set (putMid 13 (length r - 13) r y) 2 (getD r 2 0 - 1)) (c .before .before .move-up .ensures) ∙ hand-stores (c .before .before .before .before .before .before .before .before .args .s) r (formed-of (c .before .before .before .before .before .before .before .before .args .s) (c .before .before .before .before .before .before .before .before .args .r .now) (c .before .before .before .before .before .before .before .before .pre)) (omega arith) ∙ handed-encoded (c .before .before .before .before .before .before .before .before .args .s) (c .before .before .before .before .before .before .before .before .args .r .now) (c .before .before .before .before .before .before .before .before .pre))
+    (first-ready r (omega arith) ∙ first-handed (c .before .before .before .before .before .before .before .before .args .s) (c .before .before .before .before .before .before .before .before .args .r .now) (c .before .before .before .before .before .before .before .before .pre), ap (λ (y : List ℕ). set (putMid listPlace (length r - listPlace) r y) 2 (getD r 2 0 - 1)) (c .before .before .move-up .ensures) ∙ hand-stores (c .before .before .before .before .before .before .before .before .args .s) r (formed-of (c .before .before .before .before .before .before .before .before .args .s) (c .before .before .before .before .before .before .before .before .args .r .now) (c .before .before .before .before .before .before .before .before .pre)) (omega arith) ∙ handed-encoded (c .before .before .before .before .before .before .before .before .args .s) (c .before .before .before .before .before .before .before .before .args .r .now) (c .before .before .before .before .before .before .before .before .pre))
 
 pub hand-back-spec : {M : Type 1} → statement M
 hand-back-spec =

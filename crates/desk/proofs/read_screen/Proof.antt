@@ -6,6 +6,7 @@ use mathlib.Core.Path.{ap, _∙_}
 use lib.ListN.{set, getD, length}
 use borrow.Author.Needs.{needs}
 use borrow.Rule.Slice.PartMut.{same-len-mid, putMid}
+use Rattle.rules.specs.Table.{markWords, marksPlace}
 use Rattle.desk.proofs.DeskTie.{formed-of, read-encoded, scanned-word}
 use Rattle.desk.proofs.DeskLaws.{tested-part, words-of, found, see-stores, see-none, facts}
 use Rattle.desk.proofs.read_screen.Statement.{statement}
@@ -81,7 +82,7 @@ add-r c = let e = scanned-word (c .before .before .before .before .before .befor
 slice-write-r : tie.Need-slice-write-r
 slice-write-r c =
     let a = facts (c .before .before .before .before .before .before .before .before .before .before .before .before .before .before .before .args .s) (c .before .before .before .before .before .before .before .before .before .before .before .before .before .before .before .args .r .now) (formed-of (c .before .before .before .before .before .before .before .before .before .before .before .before .before .before .before .args .s) (c .before .before .before .before .before .before .before .before .before .before .before .before .before .before .before .args .r .now) (c .before .before .before .before .before .before .before .before .before .before .before .before .before .before .before .pre .0)) in
-    let e = same-len-mid {X = ℕ} 5 8 (c .before .before .before .before .before .before .before .before .before .before .before .before .before .before .before .args .r .now) (c .before .before .mark-place .last .0) (c .before .before .mark-place .kept .0) in
+    let e = same-len-mid {X = ℕ} marksPlace markWords (c .before .before .before .before .before .before .before .before .before .before .before .before .before .before .before .args .r .now) (c .before .before .mark-place .last .0) (c .before .before .mark-place .kept .0) in
     omega arith
 
 add-r-2 : tie.Need-add-r-2
@@ -100,7 +101,7 @@ returns c =
     let f = found (c .before .before .before .before .before .before .before .before .before .before .before .before .before .before .before .args .s) r (c .before .before .before .before .before .before .before .before .before .before .before .before .before .before .before .args .x) (c .before .before .before .before .before .before .before .before .before .before .before .word .result) (c .before .before .before .before .before .before .before .before .before .word2 .result) (c .before .before .before .before .before .find-place .result) (formed-of (c .before .before .before .before .before .before .before .before .before .before .before .before .before .before .before .args .s) (c .before .before .before .before .before .before .before .before .before .before .before .before .before .before .before .args .r .now) (c .before .before .before .before .before .before .before .before .before .before .before .before .before .before .before .pre .0)) (c .before .before .before .before .before .before .before .before .before .before .before .word .ensures .0) (c .before .before .before .before .before .before .before .before .before .word2 .ensures .0) (c .before .before .before .before .before .find-place .ensures) in
     let h = c .before .before .before .before .if1 .taken in
     let e = c .before .before .before .before .before .before .before .before .before .word2 .ensures .0 in
-    ap (λ (y : List ℕ). set (putMid 5 8 r y) 1 (getD r 1 0 + 1)) (c .before .before .mark-place .ensures)
+    ap (λ (y : List ℕ). set (putMid marksPlace markWords r y) 1 (getD r 1 0 + 1)) (c .before .before .mark-place .ensures)
     ∙ see-stores (c .before .before .before .before .before .before .before .before .before .before .before .before .before .before .before .args .s) r (c .before .before .before .before .before .before .before .before .before .before .before .before .before .before .before .args .x) (c .before .before .before .before .before .find-place .result) (formed-of (c .before .before .before .before .before .before .before .before .before .before .before .before .before .before .before .args .s) (c .before .before .before .before .before .before .before .before .before .before .before .before .before .before .before .args .r .now) (c .before .before .before .before .before .before .before .before .before .before .before .before .before .before .before .pre .0)) (f .is) (omega arith) ∙ read-encoded (c .before .before .before .before .before .before .before .before .before .before .before .before .before .before .before .args .s) (c .before .before .before .before .before .before .before .before .before .before .before .before .before .before .before .args .r .now) (c .before .before .before .before .before .before .before .before .before .before .before .before .before .before .before .pre .0) (c .before .before .before .before .before .before .before .before .before .before .before .before .before .before .before .args .x)
 
 same-length-2 : tie.Need-same-length-2

@@ -6,6 +6,7 @@ use mathlib.Core.Path.{_≡_, _∙_, ap}
 use lib.ListN.{length, length-set, drop, take, length-take, length-drop, replicate}
 use borrow.Author.Needs.{needs}
 use borrow.Rule.Slice.PartMut.{same-len-mid, putMid}
+use Rattle.rules.specs.Table.{listPlace, markWords, marksPlace}
 use Rattle.desk.proofs.DeskTie.{formed-of, settled-encoded}
 use Rattle.desk.proofs.DeskLaws.{facts, counted, settle-stores}
 use Rattle.desk.proofs.settle_tested.Statement.{statement}
@@ -45,7 +46,7 @@ mark-words-requires : tie.Need-mark-words-requires
 mark-words-requires c κs =
     let r = c .before .before .before .before .before .before .before .before .before .args .r .now in
     let f = facts (c .before .before .before .before .before .before .before .before .before .args .s) r (formed-of (c .before .before .before .before .before .before .before .before .before .args .s) (c .before .before .before .before .before .before .before .before .before .args .r .now) (c .before .before .before .before .before .before .before .before .before .pre)) in
-    omega (arith, length-take 8 (drop 5 r), length-drop 5 r)
+    omega (arith, length-take markWords (drop marksPlace r), length-drop marksPlace r)
 
 slice-aggregate-ones : tie.Need-slice-aggregate-ones
 slice-aggregate-ones c = search needs
@@ -97,7 +98,7 @@ part-clear-end c =
     let f = facts (c .before .before .before .before .before .before .before .before .before .before .before .before .before .before .before .before .before .args .s) r (formed-of (c .before .before .before .before .before .before .before .before .before .before .before .before .before .before .before .before .before .args .s) (c .before .before .before .before .before .before .before .before .before .before .before .before .before .before .before .before .before .args .r .now) (c .before .before .before .before .before .before .before .before .before .before .before .before .before .before .before .before .before .pre)) in
     let k = counted (c .before .before .before .before .before .before .before .before .before .before .before .before .before .before .before .before .before .args .s) r (formed-of (c .before .before .before .before .before .before .before .before .before .before .before .before .before .before .before .before .before .args .s) (c .before .before .before .before .before .before .before .before .before .before .before .before .before .before .before .before .before .args .r .now) (c .before .before .before .before .before .before .before .before .before .before .before .before .before .before .before .before .before .pre)) (λ i. c .before .before .before .before .before .before .before .before .before .before .before .before .before .before .before .before .slice-known .given i .fits) (c .before .before .before .before .before .before .before .before .before .before .before .before .before .before .word .result) (c .before .before .before .before .before .before .before .before .before .before .before .before .word2 .result) (c .before .before .before .before .before .before .before .before .before .before .word3 .result) (c .before .before .before .before .before .ones .result) (c .before .before .before .before .before .before .before .mark-words .result) (c .before .before .before .before .before .before .before .before .before .before .before .before .before .before .word .ensures .0) (c .before .before .before .before .before .before .before .before .before .before .before .before .word2 .ensures .0) (c .before .before .before .before .before .before .before .before .before .before .word3 .ensures .0) (c .before .before .before .before .before .before .before .mark-words .ensures) (c .before .before .before .before .before .ones .ensures) in
     let n = c .before .before .before .before .before .before .before .before .before .before .before .before .word2 .result in
-    let i = 13 + c .before .before .before .before .before .before .before .before .before .before .before .before .before .before .word .result in
+    let i = listPlace + c .before .before .before .before .before .before .before .before .before .before .before .before .before .before .word .result in
     let x : List ℕ = putMid i (i + n - i) r (c .before .before .partition .last .0) in
     let e1 : length x ≡ length r = same-len-mid {X = ℕ} i (i + n - i) r (c .before .before .partition .last .0) (c .before .before .partition .kept .0) in
     omega arith
@@ -111,10 +112,10 @@ slice-write-r c =
     let f = facts (c .before .before .before .before .before .before .before .before .before .before .before .before .before .before .before .before .before .before .before .before .before .args .s) r (formed-of (c .before .before .before .before .before .before .before .before .before .before .before .before .before .before .before .before .before .before .before .before .before .args .s) (c .before .before .before .before .before .before .before .before .before .before .before .before .before .before .before .before .before .before .before .before .before .args .r .now) (c .before .before .before .before .before .before .before .before .before .before .before .before .before .before .before .before .before .before .before .before .before .pre)) in
     let k = counted (c .before .before .before .before .before .before .before .before .before .before .before .before .before .before .before .before .before .before .before .before .before .args .s) r (formed-of (c .before .before .before .before .before .before .before .before .before .before .before .before .before .before .before .before .before .before .before .before .before .args .s) (c .before .before .before .before .before .before .before .before .before .before .before .before .before .before .before .before .before .before .before .before .before .args .r .now) (c .before .before .before .before .before .before .before .before .before .before .before .before .before .before .before .before .before .before .before .before .before .pre)) (λ i. c .before .before .before .before .before .before .before .before .before .before .before .before .before .before .before .before .before .before .before .before .slice-known .given i .fits) (c .before .before .before .before .before .before .before .before .before .before .before .before .before .before .before .before .before .before .word .result) (c .before .before .before .before .before .before .before .before .before .before .before .before .before .before .before .before .word2 .result) (c .before .before .before .before .before .before .before .before .before .before .before .before .before .before .word3 .result) (c .before .before .before .before .before .before .before .before .before .ones .result) (c .before .before .before .before .before .before .before .before .before .before .before .mark-words .result) (c .before .before .before .before .before .before .before .before .before .before .before .before .before .before .before .before .before .before .word .ensures .0) (c .before .before .before .before .before .before .before .before .before .before .before .before .before .before .before .before .word2 .ensures .0) (c .before .before .before .before .before .before .before .before .before .before .before .before .before .before .word3 .ensures .0) (c .before .before .before .before .before .before .before .before .before .before .before .mark-words .ensures) (c .before .before .before .before .before .before .before .before .before .ones .ensures) in
     let n = c .before .before .before .before .before .before .before .before .before .before .before .before .before .before .before .before .word2 .result in
-    let i = 13 + c .before .before .before .before .before .before .before .before .before .before .before .before .before .before .before .before .before .before .word .result in
+    let i = listPlace + c .before .before .before .before .before .before .before .before .before .before .before .before .before .before .before .before .before .before .word .result in
     let x : List ℕ = putMid i (i + n - i) r (c .before .before .before .before .before .before .partition .last .0) in
     let e1 : length x ≡ length r = same-len-mid {X = ℕ} i (i + n - i) r (c .before .before .before .before .before .before .partition .last .0) (c .before .before .before .before .before .before .partition .kept .0) in
-    let e2 = same-len-mid {X = ℕ} 5 8 x (c .before .before .clear .last .0) (c .before .before .clear .kept .0) in
+    let e2 = same-len-mid {X = ℕ} marksPlace markWords x (c .before .before .clear .last .0) (c .before .before .clear .kept .0) in
     omega arith
 
 sub-r : tie.Need-sub-r
@@ -140,10 +141,10 @@ slice-write-r-2 c =
     let f = facts (c .before .before .before .before .before .before .before .before .before .before .before .before .before .before .before .before .before .before .before .before .before .args .s) r (formed-of (c .before .before .before .before .before .before .before .before .before .before .before .before .before .before .before .before .before .before .before .before .before .args .s) (c .before .before .before .before .before .before .before .before .before .before .before .before .before .before .before .before .before .before .before .before .before .args .r .now) (c .before .before .before .before .before .before .before .before .before .before .before .before .before .before .before .before .before .before .before .before .before .pre)) in
     let k = counted (c .before .before .before .before .before .before .before .before .before .before .before .before .before .before .before .before .before .before .before .before .before .args .s) r (formed-of (c .before .before .before .before .before .before .before .before .before .before .before .before .before .before .before .before .before .before .before .before .before .args .s) (c .before .before .before .before .before .before .before .before .before .before .before .before .before .before .before .before .before .before .before .before .before .args .r .now) (c .before .before .before .before .before .before .before .before .before .before .before .before .before .before .before .before .before .before .before .before .before .pre)) (λ i. c .before .before .before .before .before .before .before .before .before .before .before .before .before .before .before .before .before .before .before .before .slice-known .given i .fits) (c .before .before .before .before .before .before .before .before .before .before .before .before .before .before .before .before .before .before .word .result) (c .before .before .before .before .before .before .before .before .before .before .before .before .before .before .before .before .word2 .result) (c .before .before .before .before .before .before .before .before .before .before .before .before .before .before .word3 .result) (c .before .before .before .before .before .before .before .before .before .ones .result) (c .before .before .before .before .before .before .before .before .before .before .before .mark-words .result) (c .before .before .before .before .before .before .before .before .before .before .before .before .before .before .before .before .before .before .word .ensures .0) (c .before .before .before .before .before .before .before .before .before .before .before .before .before .before .before .before .word2 .ensures .0) (c .before .before .before .before .before .before .before .before .before .before .before .before .before .before .word3 .ensures .0) (c .before .before .before .before .before .before .before .before .before .before .before .mark-words .ensures) (c .before .before .before .before .before .before .before .before .before .ones .ensures) in
     let n = c .before .before .before .before .before .before .before .before .before .before .before .before .before .before .before .before .word2 .result in
-    let i = 13 + c .before .before .before .before .before .before .before .before .before .before .before .before .before .before .before .before .before .before .word .result in
+    let i = listPlace + c .before .before .before .before .before .before .before .before .before .before .before .before .before .before .before .before .before .before .word .result in
     let x : List ℕ = putMid i (i + n - i) r (c .before .before .before .before .before .before .partition .last .0) in
     let e1 : length x ≡ length r = same-len-mid {X = ℕ} i (i + n - i) r (c .before .before .before .before .before .before .partition .last .0) (c .before .before .before .before .before .before .partition .kept .0) in
-    let e2 = same-len-mid {X = ℕ} 5 8 x (c .before .before .clear .last .0) (c .before .before .clear .kept .0) in
+    let e2 = same-len-mid {X = ℕ} marksPlace markWords x (c .before .before .clear .last .0) (c .before .before .clear .kept .0) in
     simp length-set (omega arith)
 
 slice-write-r-3 : tie.Need-slice-write-r-3
@@ -152,10 +153,10 @@ slice-write-r-3 c =
     let f = facts (c .before .before .before .before .before .before .before .before .before .before .before .before .before .before .before .before .before .before .before .before .before .args .s) r (formed-of (c .before .before .before .before .before .before .before .before .before .before .before .before .before .before .before .before .before .before .before .before .before .args .s) (c .before .before .before .before .before .before .before .before .before .before .before .before .before .before .before .before .before .before .before .before .before .args .r .now) (c .before .before .before .before .before .before .before .before .before .before .before .before .before .before .before .before .before .before .before .before .before .pre)) in
     let k = counted (c .before .before .before .before .before .before .before .before .before .before .before .before .before .before .before .before .before .before .before .before .before .args .s) r (formed-of (c .before .before .before .before .before .before .before .before .before .before .before .before .before .before .before .before .before .before .before .before .before .args .s) (c .before .before .before .before .before .before .before .before .before .before .before .before .before .before .before .before .before .before .before .before .before .args .r .now) (c .before .before .before .before .before .before .before .before .before .before .before .before .before .before .before .before .before .before .before .before .before .pre)) (λ i. c .before .before .before .before .before .before .before .before .before .before .before .before .before .before .before .before .before .before .before .before .slice-known .given i .fits) (c .before .before .before .before .before .before .before .before .before .before .before .before .before .before .before .before .before .before .word .result) (c .before .before .before .before .before .before .before .before .before .before .before .before .before .before .before .before .word2 .result) (c .before .before .before .before .before .before .before .before .before .before .before .before .before .before .word3 .result) (c .before .before .before .before .before .before .before .before .before .ones .result) (c .before .before .before .before .before .before .before .before .before .before .before .mark-words .result) (c .before .before .before .before .before .before .before .before .before .before .before .before .before .before .before .before .before .before .word .ensures .0) (c .before .before .before .before .before .before .before .before .before .before .before .before .before .before .before .before .word2 .ensures .0) (c .before .before .before .before .before .before .before .before .before .before .before .before .before .before .word3 .ensures .0) (c .before .before .before .before .before .before .before .before .before .before .before .mark-words .ensures) (c .before .before .before .before .before .before .before .before .before .ones .ensures) in
     let n = c .before .before .before .before .before .before .before .before .before .before .before .before .before .before .before .before .word2 .result in
-    let i = 13 + c .before .before .before .before .before .before .before .before .before .before .before .before .before .before .before .before .before .before .word .result in
+    let i = listPlace + c .before .before .before .before .before .before .before .before .before .before .before .before .before .before .before .before .before .before .word .result in
     let x : List ℕ = putMid i (i + n - i) r (c .before .before .before .before .before .before .partition .last .0) in
     let e1 : length x ≡ length r = same-len-mid {X = ℕ} i (i + n - i) r (c .before .before .before .before .before .before .partition .last .0) (c .before .before .before .before .before .before .partition .kept .0) in
-    let e2 = same-len-mid {X = ℕ} 5 8 x (c .before .before .clear .last .0) (c .before .before .clear .kept .0) in
+    let e2 = same-len-mid {X = ℕ} marksPlace markWords x (c .before .before .clear .last .0) (c .before .before .clear .kept .0) in
     simp length-set (omega arith)
 
 add-r-2 : tie.Need-add-r-2
@@ -178,10 +179,10 @@ slice-write-r-4 c =
     let f = facts (c .before .before .before .before .before .before .before .before .before .before .before .before .before .before .before .before .before .before .before .before .before .args .s) r (formed-of (c .before .before .before .before .before .before .before .before .before .before .before .before .before .before .before .before .before .before .before .before .before .args .s) (c .before .before .before .before .before .before .before .before .before .before .before .before .before .before .before .before .before .before .before .before .before .args .r .now) (c .before .before .before .before .before .before .before .before .before .before .before .before .before .before .before .before .before .before .before .before .before .pre)) in
     let k = counted (c .before .before .before .before .before .before .before .before .before .before .before .before .before .before .before .before .before .before .before .before .before .args .s) r (formed-of (c .before .before .before .before .before .before .before .before .before .before .before .before .before .before .before .before .before .before .before .before .before .args .s) (c .before .before .before .before .before .before .before .before .before .before .before .before .before .before .before .before .before .before .before .before .before .args .r .now) (c .before .before .before .before .before .before .before .before .before .before .before .before .before .before .before .before .before .before .before .before .before .pre)) (λ i. c .before .before .before .before .before .before .before .before .before .before .before .before .before .before .before .before .before .before .before .before .slice-known .given i .fits) (c .before .before .before .before .before .before .before .before .before .before .before .before .before .before .before .before .before .before .word .result) (c .before .before .before .before .before .before .before .before .before .before .before .before .before .before .before .before .word2 .result) (c .before .before .before .before .before .before .before .before .before .before .before .before .before .before .word3 .result) (c .before .before .before .before .before .before .before .before .before .ones .result) (c .before .before .before .before .before .before .before .before .before .before .before .mark-words .result) (c .before .before .before .before .before .before .before .before .before .before .before .before .before .before .before .before .before .before .word .ensures .0) (c .before .before .before .before .before .before .before .before .before .before .before .before .before .before .before .before .word2 .ensures .0) (c .before .before .before .before .before .before .before .before .before .before .before .before .before .before .word3 .ensures .0) (c .before .before .before .before .before .before .before .before .before .before .before .mark-words .ensures) (c .before .before .before .before .before .before .before .before .before .ones .ensures) in
     let n = c .before .before .before .before .before .before .before .before .before .before .before .before .before .before .before .before .word2 .result in
-    let i = 13 + c .before .before .before .before .before .before .before .before .before .before .before .before .before .before .before .before .before .before .word .result in
+    let i = listPlace + c .before .before .before .before .before .before .before .before .before .before .before .before .before .before .before .before .before .before .word .result in
     let x : List ℕ = putMid i (i + n - i) r (c .before .before .before .before .before .before .partition .last .0) in
     let e1 : length x ≡ length r = same-len-mid {X = ℕ} i (i + n - i) r (c .before .before .before .before .before .before .partition .last .0) (c .before .before .before .before .before .before .partition .kept .0) in
-    let e2 = same-len-mid {X = ℕ} 5 8 x (c .before .before .clear .last .0) (c .before .before .clear .kept .0) in
+    let e2 = same-len-mid {X = ℕ} marksPlace markWords x (c .before .before .clear .last .0) (c .before .before .clear .kept .0) in
     simp length-set (omega arith)
 
 same-length : tie.Need-same-length
@@ -190,10 +191,10 @@ same-length c =
     let f = facts (c .before .before .before .before .before .before .before .before .before .before .before .before .before .before .before .before .before .before .before .before .before .args .s) r (formed-of (c .before .before .before .before .before .before .before .before .before .before .before .before .before .before .before .before .before .before .before .before .before .args .s) (c .before .before .before .before .before .before .before .before .before .before .before .before .before .before .before .before .before .before .before .before .before .args .r .now) (c .before .before .before .before .before .before .before .before .before .before .before .before .before .before .before .before .before .before .before .before .before .pre)) in
     let k = counted (c .before .before .before .before .before .before .before .before .before .before .before .before .before .before .before .before .before .before .before .before .before .args .s) r (formed-of (c .before .before .before .before .before .before .before .before .before .before .before .before .before .before .before .before .before .before .before .before .before .args .s) (c .before .before .before .before .before .before .before .before .before .before .before .before .before .before .before .before .before .before .before .before .before .args .r .now) (c .before .before .before .before .before .before .before .before .before .before .before .before .before .before .before .before .before .before .before .before .before .pre)) (λ i. c .before .before .before .before .before .before .before .before .before .before .before .before .before .before .before .before .before .before .before .before .slice-known .given i .fits) (c .before .before .before .before .before .before .before .before .before .before .before .before .before .before .before .before .before .before .word .result) (c .before .before .before .before .before .before .before .before .before .before .before .before .before .before .before .before .word2 .result) (c .before .before .before .before .before .before .before .before .before .before .before .before .before .before .word3 .result) (c .before .before .before .before .before .before .before .before .before .ones .result) (c .before .before .before .before .before .before .before .before .before .before .before .mark-words .result) (c .before .before .before .before .before .before .before .before .before .before .before .before .before .before .before .before .before .before .word .ensures .0) (c .before .before .before .before .before .before .before .before .before .before .before .before .before .before .before .before .word2 .ensures .0) (c .before .before .before .before .before .before .before .before .before .before .before .before .before .before .word3 .ensures .0) (c .before .before .before .before .before .before .before .before .before .before .before .mark-words .ensures) (c .before .before .before .before .before .before .before .before .before .ones .ensures) in
     let n = c .before .before .before .before .before .before .before .before .before .before .before .before .before .before .before .before .word2 .result in
-    let i = 13 + c .before .before .before .before .before .before .before .before .before .before .before .before .before .before .before .before .before .before .word .result in
+    let i = listPlace + c .before .before .before .before .before .before .before .before .before .before .before .before .before .before .before .before .before .before .word .result in
     let x : List ℕ = putMid i (i + n - i) r (c .before .before .before .before .before .before .partition .last .0) in
     let e1 : length x ≡ length r = same-len-mid {X = ℕ} i (i + n - i) r (c .before .before .before .before .before .before .partition .last .0) (c .before .before .before .before .before .before .partition .kept .0) in
-    let e2 = same-len-mid {X = ℕ} 5 8 x (c .before .before .clear .last .0) (c .before .before .clear .kept .0) in
+    let e2 = same-len-mid {X = ℕ} marksPlace markWords x (c .before .before .clear .last .0) (c .before .before .clear .kept .0) in
     simp length-set (e2 ∙ e1)
 
 returns : tie.Need-returns
@@ -202,10 +203,10 @@ returns c =
     let f = facts (c .before .before .before .before .before .before .before .before .before .before .before .before .before .before .before .before .before .before .before .before .before .args .s) r (formed-of (c .before .before .before .before .before .before .before .before .before .before .before .before .before .before .before .before .before .before .before .before .before .args .s) (c .before .before .before .before .before .before .before .before .before .before .before .before .before .before .before .before .before .before .before .before .before .args .r .now) (c .before .before .before .before .before .before .before .before .before .before .before .before .before .before .before .before .before .before .before .before .before .pre)) in
     let k = counted (c .before .before .before .before .before .before .before .before .before .before .before .before .before .before .before .before .before .before .before .before .before .args .s) r (formed-of (c .before .before .before .before .before .before .before .before .before .before .before .before .before .before .before .before .before .before .before .before .before .args .s) (c .before .before .before .before .before .before .before .before .before .before .before .before .before .before .before .before .before .before .before .before .before .args .r .now) (c .before .before .before .before .before .before .before .before .before .before .before .before .before .before .before .before .before .before .before .before .before .pre)) (λ i. c .before .before .before .before .before .before .before .before .before .before .before .before .before .before .before .before .before .before .before .before .slice-known .given i .fits) (c .before .before .before .before .before .before .before .before .before .before .before .before .before .before .before .before .before .before .word .result) (c .before .before .before .before .before .before .before .before .before .before .before .before .before .before .before .before .word2 .result) (c .before .before .before .before .before .before .before .before .before .before .before .before .before .before .word3 .result) (c .before .before .before .before .before .before .before .before .before .ones .result) (c .before .before .before .before .before .before .before .before .before .before .before .mark-words .result) (c .before .before .before .before .before .before .before .before .before .before .before .before .before .before .before .before .before .before .word .ensures .0) (c .before .before .before .before .before .before .before .before .before .before .before .before .before .before .before .before .word2 .ensures .0) (c .before .before .before .before .before .before .before .before .before .before .before .before .before .before .word3 .ensures .0) (c .before .before .before .before .before .before .before .before .before .before .before .mark-words .ensures) (c .before .before .before .before .before .before .before .before .before .ones .ensures) in
     let n = c .before .before .before .before .before .before .before .before .before .before .before .before .before .before .before .before .word2 .result in
-    let i = 13 + c .before .before .before .before .before .before .before .before .before .before .before .before .before .before .before .before .before .before .word .result in
+    let i = listPlace + c .before .before .before .before .before .before .before .before .before .before .before .before .before .before .before .before .before .before .word .result in
     let x : List ℕ = putMid i (i + n - i) r (c .before .before .before .before .before .before .partition .last .0) in
     let e1 : length x ≡ length r = same-len-mid {X = ℕ} i (i + n - i) r (c .before .before .before .before .before .before .partition .last .0) (c .before .before .before .before .before .before .partition .kept .0) in
-    let z : length (take 8 (drop 5 x)) ≡ 8 = omega (arith, length-take 8 (drop 5 x), length-drop 5 x) in
+    let z : length (take markWords (drop marksPlace x)) ≡ markWords = omega (arith, length-take markWords (drop marksPlace x), length-drop marksPlace x) in
     settle-stores (c .before .before .before .before .before .before .before .before .before .before .before .before .before .before .before .before .before .before .before .before .before .args .s) r (formed-of (c .before .before .before .before .before .before .before .before .before .before .before .before .before .before .before .before .before .before .before .before .before .args .s) (c .before .before .before .before .before .before .before .before .before .before .before .before .before .before .before .before .before .before .before .before .before .args .r .now) (c .before .before .before .before .before .before .before .before .before .before .before .before .before .before .before .before .before .before .before .before .before .pre)) (c .before .before .before .before .before .before .before .before .before .before .before .before .before .before .before .before .before .before .word .result) (c .before .before .before .before .before .before .before .before .before .before .before .before .before .before .before .before .word2 .result) (c .before .before .before .before .before .before .before .before .before .before .before .before .before .before .word3 .result) (c .before .before .before .before .before .before .before .before .before .ones .result) (c .before .before .before .before .before .before .before .before .before .before .before .mark-words .result) k (c .before .before .before .before .before .before .partition .last .0) (c .before .before .clear .last .0) (c .before .before .before .before .before .before .partition .ensures) (c .before .before .clear .ensures ∙ ap (λ (j : ℕ). replicate j 0) z) ∙ settled-encoded (c .before .before .before .before .before .before .before .before .before .before .before .before .before .before .before .before .before .before .before .before .before .args .s) (c .before .before .before .before .before .before .before .before .before .before .before .before .before .before .before .before .before .before .before .before .before .args .r .now) (c .before .before .before .before .before .before .before .before .before .before .before .before .before .before .before .before .before .before .before .before .before .pre)
 
 pub settle-tested-spec : {M : Type 1} → statement M

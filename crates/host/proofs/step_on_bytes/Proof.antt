@@ -3,6 +3,7 @@ use native.Mathlib.Omega.{arith}
 use borrow.Author.Needs.{needs}
 use mathlib.Core.Path.{_≡_, subst}
 use Prim.Native.Nat.{ℕ}
+use Rattle.rules.specs.Table.{mostWords}
 use Rattle.board.specs.Asked.{callOf}
 use Rattle.host.specs.Heard.{Seen}
 use Rattle.host.proofs.CallLaws.{step-heard}
@@ -10,8 +11,8 @@ use Rattle.host.proofs.step_on_bytes.Statement.{statement}
 use Rattle.host.proofs.step_on_bytes.Tie as tie
 
 -- all words of the largest hall are there
-largest : (c : tie.Else1) → Seen (c .before .before .before .before .before .before .args .table .now) (c .before .before .before .looked-at .result) 2387
-largest c = let all : c .before .seen .result ≡ 2387 = omega (arith, c .before .seen .ensures .fit, c .before .before .before .looked-at .ensures .most) in subst (λ (k : ℕ). Seen (c .before .before .before .before .before .before .args .table .now) (c .before .before .before .looked-at .result) k) all (c .before .seen .ensures)
+largest : (c : tie.Else1) → Seen (c .before .before .before .before .before .before .args .table .now) (c .before .before .before .looked-at .result) mostWords
+largest c = let all : c .before .seen .result ≡ mostWords = omega (arith, c .before .seen .ensures .fit, c .before .before .before .looked-at .ensures .most) in subst (λ (k : ℕ). Seen (c .before .before .before .before .before .before .args .table .now) (c .before .before .before .looked-at .result) k) all (c .before .seen .ensures)
 
 looked-at-requires : tie.Need-looked-at-requires
 looked-at-requires c κs = search needs
@@ -53,7 +54,7 @@ same-length-2 : tie.Need-same-length-2
 same-length-2 c = search needs
 
 returns-2 : tie.Need-returns-2
-returns-2 c = step-heard (c .before .before .before .before .before .before .before .before .before .before .before .before .before .looked-at .result) 2387 _ (c .before .before .before .before .before .before .before .before .before .before .before .before .before .before .before .before .args .table .now) _ _ (callOf (c .before .before .before .before .before .before .before .before .before .before .before .before .before .before .before .before .args .call)) (λ j. omega (arith, c .before .before .before .before .before .before .before .before .before .before .before .before .before .before .before .slice-known .given j)) (c .before .before .before .before .before .before .before .before .before .before .before .before .before .looked-at .ensures) (largest (c .before .before .before .before .before .before .before .before .before .before)) (c .before .before .before .before .before .before .before .decode2 .ensures) (c .before .before .before .step-on-words2 .ensures)
+returns-2 c = step-heard (c .before .before .before .before .before .before .before .before .before .before .before .before .before .looked-at .result) mostWords _ (c .before .before .before .before .before .before .before .before .before .before .before .before .before .before .before .before .args .table .now) _ _ (callOf (c .before .before .before .before .before .before .before .before .before .before .before .before .before .before .before .before .args .call)) (λ j. omega (arith, c .before .before .before .before .before .before .before .before .before .before .before .before .before .before .before .slice-known .given j)) (c .before .before .before .before .before .before .before .before .before .before .before .before .before .looked-at .ensures) (largest (c .before .before .before .before .before .before .before .before .before .before)) (c .before .before .before .before .before .before .before .decode2 .ensures) (c .before .before .before .step-on-words2 .ensures)
 
 pub step-on-bytes-spec : {M : Type 1} → statement M
 step-on-bytes-spec =

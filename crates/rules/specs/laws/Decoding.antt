@@ -9,11 +9,11 @@ use lib.ListN.{length, getD, take, drop, replicate, length-append, length-drop, 
 use lib.Seq.{take-add, length-take-le, drop-drop, drop-cons, getD-drop, take-at, drop-at}
 use lib.Dec.{leb, eqb}
 use borrow.Author.Tests.{eqb-true, eqb-false, leb-true}
-use Rattle.rules.specs.Hall.{Hall, TestedPlace, allScreens}
+use Rattle.rules.specs.Hall.{Hall, TestedPlace, allScreens, mostAllScreens, mostDesks, mostPositions, mostScreens}
 use Rattle.rules.specs.Steps.{inRange}
-use Rattle.rules.specs.Table.{bitValue, bitsOfWord, bitsOfWords, decode, decodeDesk, encode, encodeDesk, every, everyRecord, hallIn, joined}
+use Rattle.rules.specs.Table.{allMarks, bitValue, bitsOfWord, bitsOfWords, decode, decodeDesk, encode, encodeDesk, every, everyRecord, hallIn, joined}
 use Rattle.rules.specs.Table.{marksOf, need, ones, pieces, placesOf, recordSound, recordWidth, recordsIn, scanSound, sessionsOf, sound}
-use Rattle.rules.specs.Table.{wordOfBits, wordsOfBits}
+use Rattle.rules.specs.Table.{headerWords, listPlace, markWords, widthFor, wordOfBits, wordsOfBits}
 use Rattle.rules.specs.laws.Bools.{and-left, and-right}
 use Rattle.rules.specs.laws.Effect.{in-range}
 
@@ -76,8 +76,8 @@ zeros (x ∷ xs) h = by-cases (eqb x 0) refl h (zeros xs)
     by-cases true q e ih = λ i. eqb-true x 0 q i ∷ ih e i
     by-cases false q e ih = let z : _≡_ {A = ℕ} 0 1 = cc in absurd (omega arith)
 
--- A desk's record, in its parts: a ready, b tested and c waiting sessions on the list l, and the 128 bits u.
-module _ (S a b c : ℕ) (l : List ℕ) (u : List Bool) (hl : length l ≡ 2 * S) (hu : length u ≡ 128) (hS : S ≤ 64) (h : a + b + c ≤ 2 * S) where
+-- A desk's record, in its parts: a ready, b tested and c waiting sessions on the list l, and the mark bits u.
+module _ (S a b c : ℕ) (l : List ℕ) (u : List Bool) (hl : length l ≡ 2 * S) (hu : length u ≡ allMarks) (hS : S ≤ mostAllScreens) (h : a + b + c ≤ 2 * S) where
   abbrev rd : List ℕ
   rd = take a l
 
@@ -96,12 +96,12 @@ module _ (S a b c : ℕ) (l : List ℕ) (u : List Bool) (hl : length l ≡ 2 * S
   pub waiting-length : length wd ≡ c
   waiting-length = length-take-le c (drop (a + b) l) (omega (arith, length-drop (a + b) l))
 
-  marks-again : ones (drop b u) ≡ 0 → marksOf td ++ replicate (128 - length td) false ≡ u
+  marks-again : ones (drop b u) ≡ 0 → marksOf td ++ replicate (allMarks - length td) false ≡ u
   marks-again e =
       let f =
       marks-of-places (take b (drop a l)) (take b u)
       (omega (arith, length-take-le b (drop a l) (omega (arith, length-drop a l)), length-take-le b u (omega arith))) in
-      let n : length (drop b u) ≡ 128 - length td = omega (arith, length-drop b u, tested-length) in
+      let n : length (drop b u) ≡ allMarks - length td = omega (arith, length-drop b u, tested-length) in
       ap₂ {C = List Bool} (λ x y. x ++ y) f (ap (λ (m : ℕ). replicate m false) (sym n) ∙ sym (every-one (drop b u) e)) ∙ take-append-drop b u
 
   pub list-parts : rd ++ (sessionsOf td ++ wd) ≡ take (a + b + c) l
@@ -117,7 +117,7 @@ module _ (S a b c : ℕ) (l : List ℕ) (u : List Bool) (hl : length l ≡ 2 * S
       ap₂ {C = List ℕ} (λ x y. x ++ y) list-parts (ap (λ (m : ℕ). replicate {A = ℕ} m 0) (sym n) ∙ sym (zeros (drop (a + b + c) l) e))
       ∙ take-append-drop (a + b + c) l
 
-pub record-encoded-again : (S o k a b c m0 m1 m2 m3 m4 m5 m6 m7 : ℕ) (l : List ℕ) → length l ≡ 2 * S → S ≤ 64 → Small (m0 ∷ m1 ∷ m2 ∷ m3 ∷ m4 ∷ m5 ∷ m6 ∷ m7 ∷ [])
+pub record-encoded-again : (S o k a b c m0 m1 m2 m3 m4 m5 m6 m7 : ℕ) (l : List ℕ) → length l ≡ 2 * S → S ≤ mostAllScreens → Small (m0 ∷ m1 ∷ m2 ∷ m3 ∷ m4 ∷ m5 ∷ m6 ∷ m7 ∷ [])
     → recordSound S (o ∷ k ∷ a ∷ b ∷ c ∷ m0 ∷ m1 ∷ m2 ∷ m3 ∷ m4 ∷ m5 ∷ m6 ∷ m7 ∷ l) ≡ true
     → encodeDesk S (decodeDesk (o ∷ k ∷ a ∷ b ∷ c ∷ m0 ∷ m1 ∷ m2 ∷ m3 ∷ m4 ∷ m5 ∷ m6 ∷ m7 ∷ l)) ≡ o ∷ k ∷ a ∷ b ∷ c ∷ m0 ∷ m1 ∷ m2 ∷ m3 ∷ m4 ∷ m5 ∷ m6 ∷ m7 ∷ l
 unfolding encodeDesk decodeDesk recordSound
@@ -130,9 +130,9 @@ record-encoded-again S o k a b c m0 m1 m2 m3 m4 m5 m6 m7 l hl hS sm h =
     let h3 : n3 ws ≡ true = and-right (every (λ x. eqb x 0) (drop (a + b + c) l)) (n3 ws) h2 in
     let ho : ones (drop b (bitsOfWords ws)) ≡ 0 =
     eqb-true (ones (drop b (bitsOfWords ws))) 0 (and-left (eqb (ones (drop b (bitsOfWords ws))) 0) (n4 ws) h3) in
-    let hu : length (bitsOfWords ws) ≡ 128 = length-bits-of-words ws in
-    let q : wordsOfBits 8 (bitsOfWords ws) ≡ ws = words-of-bits-of-words ws sm in
-    (λ i. o ∷ k ∷ ready-length S a b c l (bitsOfWords ws) hl hu hS h0 i ∷ tested-length S a b c l (bitsOfWords ws) hl hu hS h0 i ∷ waiting-length S a b c l (bitsOfWords ws) hl hu hS h0 i ∷ (wordsOfBits 8 (marks-again S a b c l (bitsOfWords ws) hl hu hS h0 ho i) ++ list-again S a b c l (bitsOfWords ws) hl hu hS h0 hz i))
+    let hu : length (bitsOfWords ws) ≡ allMarks = length-bits-of-words ws in
+    let q : wordsOfBits markWords (bitsOfWords ws) ≡ ws = words-of-bits-of-words ws sm in
+    (λ i. o ∷ k ∷ ready-length S a b c l (bitsOfWords ws) hl hu hS h0 i ∷ tested-length S a b c l (bitsOfWords ws) hl hu hS h0 i ∷ waiting-length S a b c l (bitsOfWords ws) hl hu hS h0 i ∷ (wordsOfBits markWords (marks-again S a b c l (bitsOfWords ws) hl hu hS h0 ho i) ++ list-again S a b c l (bitsOfWords ws) hl hu hS h0 hz i))
     ∙ ap {B = List ℕ} (λ x. o ∷ k ∷ a ∷ b ∷ c ∷ (x ++ l)) q
   where
     n4 : List ℕ → Bool
@@ -147,20 +147,20 @@ record-encoded-again S o k a b c m0 m1 m2 m3 m4 m5 m6 m7 l hl hS sm h =
     n1 : List ℕ → Bool
     n1 v = every (λ x. not (eqb x 0)) (take (a + b + c) l) && n2 v
 
-parts : (r : List ℕ) → 13 ≤ length r
-    → r ≡ getD r 0 0 ∷ getD r 1 0 ∷ getD r 2 0 ∷ getD r 3 0 ∷ getD r 4 0 ∷ getD r 5 0 ∷ getD r 6 0 ∷ getD r 7 0 ∷ getD r 8 0 ∷ getD r 9 0 ∷ getD r 10 0 ∷ getD r 11 0 ∷ getD r 12 0 ∷ drop 13 r
+parts : (r : List ℕ) → listPlace ≤ length r
+    → r ≡ getD r 0 0 ∷ getD r 1 0 ∷ getD r 2 0 ∷ getD r 3 0 ∷ getD r 4 0 ∷ getD r 5 0 ∷ getD r 6 0 ∷ getD r 7 0 ∷ getD r 8 0 ∷ getD r 9 0 ∷ getD r 10 0 ∷ getD r 11 0 ∷ getD r 12 0 ∷ drop listPlace r
 parts r h =
     drop-cons r 0 0 (omega arith)
     ∙ ap {B = List ℕ} (λ x. getD r 0 0 ∷ x)
     (drop-cons r 1 0 (omega arith) ∙ ap {B = List ℕ} (λ x. getD r 1 0 ∷ x) (drop-cons r 2 0 (omega arith) ∙ ap {B = List ℕ} (λ x. getD r 2 0 ∷ x) (drop-cons r 3 0 (omega arith) ∙ ap {B = List ℕ} (λ x. getD r 3 0 ∷ x) (drop-cons r 4 0 (omega arith) ∙ ap {B = List ℕ} (λ x. getD r 4 0 ∷ x) (drop-cons r 5 0 (omega arith) ∙ ap {B = List ℕ} (λ x. getD r 5 0 ∷ x) (drop-cons r 6 0 (omega arith) ∙ ap {B = List ℕ} (λ x. getD r 6 0 ∷ x) (drop-cons r 7 0 (omega arith) ∙ ap {B = List ℕ} (λ x. getD r 7 0 ∷ x) (drop-cons r 8 0 (omega arith) ∙ ap {B = List ℕ} (λ x. getD r 8 0 ∷ x) (drop-cons r 9 0 (omega arith) ∙ ap {B = List ℕ} (λ x. getD r 9 0 ∷ x) (drop-cons r 10 0 (omega arith) ∙ ap {B = List ℕ} (λ x. getD r 10 0 ∷ x) (drop-cons r 11 0 (omega arith) ∙ ap {B = List ℕ} (λ x. getD r 11 0 ∷ x) (drop-cons r 12 0 (omega arith)))))))))))))
 
 -- Any record of 16-bit words that passes the test.
-pub record-again : (S : ℕ) (r : List ℕ) → length r ≡ 13 + 2 * S → S ≤ 64 → ((i : ℕ) → getD r i 0 < 65536) → recordSound S r ≡ true
+pub record-again : (S : ℕ) (r : List ℕ) → length r ≡ widthFor S → S ≤ mostAllScreens → ((i : ℕ) → getD r i 0 < 65536) → recordSound S r ≡ true
     → encodeDesk S (decodeDesk r) ≡ r
 record-again S r hl hS sm h =
     let p = parts r (omega arith) in
     subst (λ (x : List ℕ). encodeDesk S (decodeDesk x) ≡ x) (sym p)
-    (record-encoded-again S (getD r 0 0) (getD r 1 0) (getD r 2 0) (getD r 3 0) (getD r 4 0) (getD r 5 0) (getD r 6 0) (getD r 7 0) (getD r 8 0) (getD r 9 0) (getD r 10 0) (getD r 11 0) (getD r 12 0) (drop 13 r) (omega (arith, length-drop 13 r)) hS (sm 5, (sm 6, (sm 7, (sm 8, (sm 9, (sm 10, (sm 11, (sm 12, tt)))))))) (subst (λ (x : List ℕ). recordSound S x ≡ true) p h))
+    (record-encoded-again S (getD r 0 0) (getD r 1 0) (getD r 2 0) (getD r 3 0) (getD r 4 0) (getD r 5 0) (getD r 6 0) (getD r 7 0) (getD r 8 0) (getD r 9 0) (getD r 10 0) (getD r 11 0) (getD r 12 0) (drop listPlace r) (omega (arith, length-drop listPlace r)) hS (sm 5, (sm 6, (sm 7, (sm 8, (sm 9, (sm 10, (sm 11, (sm 12, tt)))))))) (subst (λ (x : List ℕ). recordSound S x ≡ true) p h))
 
 pub small-drop : (n : ℕ) (r : List ℕ) → ((i : ℕ) → getD r i 0 < 65536) → (i : ℕ) → getD (drop n r) i 0 < 65536
 small-drop n r h i = rw (getD-drop n r i 0) (h (n + i))
@@ -171,15 +171,15 @@ small-take (suc n) [] h i = omega arith
 small-take (suc n) (x ∷ r) h zero = h 0
 small-take (suc n) (x ∷ r) h (suc i) = small-take n r (λ j. h (suc j)) i
 
-records-back : (S n : ℕ) (x : List ℕ) → S ≤ 64 → n * (13 + 2 * S) ≤ length x → ((i : ℕ) → getD x i 0 < 65536)
-    → everyRecord (recordSound S) (pieces n (13 + 2 * S) x) ≡ true
-    → joined (map (encodeDesk S) (map decodeDesk (pieces n (13 + 2 * S) x))) ≡ take (n * (13 + 2 * S)) x
-records-back S zero x hS hl sm h = ap (λ (m : ℕ). take m x) (nought (13 + 2 * S))
+records-back : (S n : ℕ) (x : List ℕ) → S ≤ mostAllScreens → n * widthFor S ≤ length x → ((i : ℕ) → getD x i 0 < 65536)
+    → everyRecord (recordSound S) (pieces n (widthFor S) x) ≡ true
+    → joined (map (encodeDesk S) (map decodeDesk (pieces n (widthFor S) x))) ≡ take (n * widthFor S) x
+records-back S zero x hS hl sm h = ap (λ (m : ℕ). take m x) (nought (widthFor S))
   where
     nought : (m : ℕ) → 0 ≡ 0 * m
     nought m = omega arith
 records-back S (suc n) x hS hl sm h =
-    let w : ℕ = 13 + 2 * S in
+    let w : ℕ = widthFor S in
     let a =
     record-again S (take w x) (length-take-le w x (omega arith)) hS (small-take w x sm)
     (and-left (recordSound S (take w x)) (everyRecord (recordSound S) (pieces n w (drop w x))) h) in
@@ -202,25 +202,25 @@ pub same-table : (t : List ℕ) → ((i : ℕ) → getD t i 0 < 65536) → sound
 unfolding sound
 same-table t sm h =
     let H : Hall = hallIn t in
-    let h1 = and-right (inRange (H .desks) 16) (s1 H) h in
-    let h2 = and-right (inRange (H .screens) 4) (s2 H) h1 in
-    let h3 = and-right (inRange (H .positions) 64) (s3 H) h2 in
-    let ra = in-range (H .desks) 16 (and-left (inRange (H .desks) 16) (s1 H) h) in
-    let rb = in-range (H .screens) 4 (and-left (inRange (H .screens) 4) (s2 H) h1) in
+    let h1 = and-right (inRange (H .desks) mostDesks) (s1 H) h in
+    let h2 = and-right (inRange (H .screens) mostScreens) (s2 H) h1 in
+    let h3 = and-right (inRange (H .positions) mostPositions) (s3 H) h2 in
+    let ra = in-range (H .desks) mostDesks (and-left (inRange (H .desks) mostDesks) (s1 H) h) in
+    let rb = in-range (H .screens) mostScreens (and-left (inRange (H .screens) mostScreens) (s2 H) h1) in
     let hn : need H ≤ length t = leb-true (need H) (length t) (and-left (leb (need H) (length t)) (s4 H) h3) in
-    let hS : allScreens H ≤ 64 = mul-le-mul (ra .1) (rb .1) in
-    let x : List ℕ = drop (allScreens H) (drop (H .positions) (drop 3 t)) in
-    let lx : length x ≡ length t - 3 - H .positions - allScreens H =
-    omega (arith, length-drop (allScreens H) (drop (H .positions) (drop 3 t)), length-drop (H .positions) (drop 3 t), length-drop 3 t) in
+    let hS : allScreens H ≤ mostAllScreens = mul-le-mul (ra .1) (rb .1) in
+    let x : List ℕ = drop (allScreens H) (drop (H .positions) (drop headerWords t)) in
+    let lx : length x ≡ length t - headerWords - H .positions - allScreens H =
+    omega (arith, length-drop (allScreens H) (drop (H .positions) (drop headerWords t)), length-drop (H .positions) (drop headerWords t), length-drop headerWords t) in
     let fb =
     records-back (allScreens H) (H .desks) x hS (omega arith)
-    (small-drop (allScreens H) (drop (H .positions) (drop 3 t)) (small-drop (H .positions) (drop 3 t) (small-drop 3 t sm)))
+    (small-drop (allScreens H) (drop (H .positions) (drop headerWords t)) (small-drop (H .positions) (drop headerWords t) (small-drop headerWords t sm)))
     (and-right (leb (need H) (length t)) (s4 H) h3) in
     let dn : drop (need H) t ≡ drop (H .desks * recordWidth H) x =
     sym
-    (drop-drop (H .desks * recordWidth H) (allScreens H) (drop (H .positions) (drop 3 t)) ∙ drop-drop (allScreens H + H .desks * recordWidth H) (H .positions) (drop 3 t) ∙ drop-drop (H .positions + (allScreens H + H .desks * recordWidth H)) 3 t) in
-    (λ i. H .desks ∷ H .screens ∷ H .positions ∷ ((take (H .positions) (drop 3 t) ++ (take (allScreens H) (drop (H .positions) (drop 3 t)) ++ fb i)) ++ dn i))
-    ∙ ap {B = List ℕ} (λ y. H .desks ∷ H .screens ∷ H .positions ∷ y) (glue (H .positions) (allScreens H) (H .desks * recordWidth H) (drop 3 t))
+    (drop-drop (H .desks * recordWidth H) (allScreens H) (drop (H .positions) (drop headerWords t)) ∙ drop-drop (allScreens H + H .desks * recordWidth H) (H .positions) (drop headerWords t) ∙ drop-drop (H .positions + (allScreens H + H .desks * recordWidth H)) headerWords t) in
+    (λ i. H .desks ∷ H .screens ∷ H .positions ∷ ((take (H .positions) (drop headerWords t) ++ (take (allScreens H) (drop (H .positions) (drop headerWords t)) ++ fb i)) ++ dn i))
+    ∙ ap {B = List ℕ} (λ y. H .desks ∷ H .screens ∷ H .positions ∷ y) (glue (H .positions) (allScreens H) (H .desks * recordWidth H) (drop headerWords t))
     ∙ sym
     (drop-cons t 0 0 (omega arith) ∙ ap {B = List ℕ} (λ y. getD t 0 0 ∷ y) (drop-cons t 1 0 (omega arith) ∙ ap {B = List ℕ} (λ y. getD t 1 0 ∷ y) (drop-cons t 2 0 (omega arith))))
   where
@@ -231,7 +231,7 @@ same-table t sm h =
     s3 H = leb (need H) (length t) && s4 H
 
     s2 : Hall → Bool
-    s2 H = inRange (H .positions) 64 && s3 H
+    s2 H = inRange (H .positions) mostPositions && s3 H
 
     s1 : Hall → Bool
-    s1 H = inRange (H .screens) 4 && s2 H
+    s1 H = inRange (H .screens) mostScreens && s2 H

@@ -14,8 +14,8 @@ use Rattle.rules.specs.Demands.{Demand1, OpeningDemand1, names, or}
 use Rattle.rules.specs.Hall.{Desk, Hall, State, allScreens, deskOf, usedPlaces}
 use Rattle.rules.specs.History.{copies, numberAt}
 use Rattle.rules.specs.Steps.{Call, Collect, Done, Drop, Retire, Swap, Take, collect, decide, firstNo, isSession, perform, questions, retire}
-use Rattle.rules.specs.Table.{TableDone, decode, decodeDesk, encodeDesk, endTable, hallIn, listOf, listPlace, markWords, marksOf, need}
-use Rattle.rules.specs.Table.{openQuestions, openedTable, positionWord, putRecord, recordOf, recordSound, recordStart, recordWidth, runTable}
+use Rattle.rules.specs.Table.{TableDone, decode, decodeDesk, encodeDesk, endTable, hallIn, headerWords, listOf, listPlace, markWords, marksOf, need}
+use Rattle.rules.specs.Table.{allMarks, openQuestions, openedTable, positionWord, putRecord, recordOf, recordSound, recordStart, recordWidth, runTable}
 use Rattle.rules.specs.Table.{screenWord, sessionsOf, sound, stepTable, usedIn, waitingPlace, wordsOfBits, written}
 use Rattle.rules.specs.laws.Decoding.{record-again, small-drop, small-take}
 use Rattle.rules.specs.laws.Fresh.{get-same}
@@ -58,12 +58,12 @@ retire-list D =
     sym
     (append-assoc (D .ready) (sessionsOf (D .tested) ++ D .waiting) (D .owed ∷ []) ∙ ap (λ (l : List ℕ). D .ready ++ l) (append-assoc (sessionsOf (D .tested)) (D .waiting) (D .owed ∷ [])))
 
-retire-keeps : (S : ℕ) (D : Desk) (j : ℕ) → (j ≡ 0 → ⊥) → (j ≡ 4 → ⊥) → (j ≡ 13 + usedPlaces D → ⊥)
+retire-keeps : (S : ℕ) (D : Desk) (j : ℕ) → (j ≡ 0 → ⊥) → (j ≡ 4 → ⊥) → (j ≡ listPlace + usedPlaces D → ⊥)
     → getD (encodeDesk S (retire D)) j 0 ≡ getD (encodeDesk S D) j 0
 unfolding encodeDesk
 retire-keeps S D j n0 n4 nl =
     words-kept 0 (D .owed) (D .scanned) (length (D .ready)) (length (D .tested)) (length (D .waiting ++ (D .owed ∷ []))) (length (D .waiting))
-    (wordsOfBits markWords (marksOf (D .tested) ++ replicate (128 - length (D .tested)) false))
+    (wordsOfBits markWords (marksOf (D .tested) ++ replicate (allMarks - length (D .tested)) false))
     (listOf (retire D) ++ replicate (2 * S - length (listOf (retire D))) 0) (listOf D ++ replicate (2 * S - length (listOf D)) 0) j n0 n4
     (λ i e. ap (λ (l : List ℕ). getD (l ++ replicate (2 * S - length (listOf (retire D))) 0) i 0) (retire-list D)
     ∙ list-longer (listOf D) (D .owed) (2 * S - length (listOf (retire D))) (2 * S - length (listOf D)) i (λ q. nl (omega (arith, length-list D))))
@@ -91,7 +91,7 @@ module _ (t : List ℕ) (small : Words16 t) (s : sound t ≡ true) where
     fits : recordStart (hallIn t) d + recordWidth (hallIn t) ≤ length t
     fits = omega (arith, record-within (hallIn t) d (r .0) (r .1), k .long)
 
-    wide : length (recordOf (hallIn t) t d) ≡ 13 + 2 * allScreens (hallIn t)
+    wide : length (recordOf (hallIn t) t d) ≡ recordWidth (hallIn t)
     wide = length-take-le (recordWidth (hallIn t)) (drop (recordStart (hallIn t) d) t) (omega (arith, fits, length-drop (recordStart (hallIn t) d) t))
 
     passes : recordSound (allScreens (hallIn t)) (recordOf (hallIn t) t d) ≡ true
@@ -242,8 +242,8 @@ never-five (c ∷ cs) t s (suc i) e = never-five cs (stepTable t c .after) (λ j
 -- ---- Every opening.
 opened-past : (H : Hall) (t : List ℕ) (i : ℕ) → need H ≤ i → getD (openedTable H t) i 0 ≡ getD t i 0
 opened-past H t i h =
-    let front : List ℕ = H .desks ∷ H .screens ∷ H .positions ∷ replicate (need H - 3) 0 in
-    let lf : length front ≡ need H = omega (arith, length-replicate {A = ℕ} (need H - 3) 0) in
+    let front : List ℕ = H .desks ∷ H .screens ∷ H .positions ∷ replicate (need H - headerWords) 0 in
+    let lf : length front ≡ need H = omega (arith, length-replicate {A = ℕ} (need H - headerWords) 0) in
     let e : need H + (i - length front) ≡ i = omega (arith, lf) in
     get-past front (drop (need H) t) i (omega (arith, lf)) ∙ getD-drop (need H) t (i - length front) 0 ∙ ap (λ (n : ℕ). getD t n 0) e
 

@@ -9,7 +9,7 @@ use lib.Seq.{take-at, drop-at, take-append-seam, drop-append-seam, length-take-l
 use lib.Dec.{T}
 use borrow.Author.Tests.{eq-eqb, ne-eqb}
 use Rattle.rules.specs.Hall.{Desk, TestedPlace, marked, unmarked}
-use Rattle.rules.specs.Table.{bitValue, bitsOfWord, bitsOfWords, decodeDesk, encodeDesk, listOf, marksOf, ones, placesOf, sessionsOf}
+use Rattle.rules.specs.Table.{allMarks, bitValue, bitsOfWord, bitsOfWords, decodeDesk, encodeDesk, listOf, markWords, marksOf, ones, placesOf, sessionsOf}
 use Rattle.rules.specs.Table.{wordOfBits, wordsOfBits}
 use Rattle.rules.specs.laws.Marks.{markCount}
 
@@ -72,13 +72,13 @@ module _ {A : Type 0} (a b c z : List A) where
       ∙ ap (take (length c)) (drop-append-add a ((b ++ c) ++ z) n) ∙ ap (λ (l : List A). take (length c) (drop n l)) (append-assoc b c z)
       ∙ ap (take (length c)) (drop-at b (c ++ z) n h) ∙ take-append-seam c z
 
-pub marks-read-back : (T : List TestedPlace) → length T ≤ 128
-    → bitsOfWords (wordsOfBits 8 (marksOf T ++ replicate (128 - length T) false)) ≡ marksOf T ++ replicate (128 - length T) false
+pub marks-read-back : (T : List TestedPlace) → length T ≤ allMarks
+    → bitsOfWords (wordsOfBits markWords (marksOf T ++ replicate (allMarks - length T) false)) ≡ marksOf T ++ replicate (allMarks - length T) false
 marks-read-back T h =
-    bits-of-words-of-bits 8 (marksOf T ++ replicate (128 - length T) false)
-    (omega (arith, length-append (marksOf T) (replicate (128 - length T) false), length-marks T, length-replicate {A = Bool} (128 - length T) false))
+    bits-of-words-of-bits markWords (marksOf T ++ replicate (allMarks - length T) false)
+    (omega (arith, length-append (marksOf T) (replicate (allMarks - length T) false), length-marks T, length-replicate {A = Bool} (allMarks - length T) false))
 
-pub desk-read-back : (S : ℕ) (D : Desk) → length (D .tested) ≤ 128 → decodeDesk (encodeDesk S D) ≡ D
+pub desk-read-back : (S : ℕ) (D : Desk) → length (D .tested) ≤ allMarks → decodeDesk (encodeDesk S D) ≡ D
 unfolding encodeDesk decodeDesk
 desk-read-back S D h = λ i. record { owed = D .owed; scanned = D .scanned; ready = rd i; tested = td i; waiting = wd i }
   where

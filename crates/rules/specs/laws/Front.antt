@@ -9,7 +9,7 @@ use lib.Seq.{drop-at, length-take-le, take-all, getD-take}
 use Rattle.rules.specs.Bytes.{IsBytes, bytesOfWords, laidOver, onBytes, openBytes, reply, stepBytes, wordsOfBytes}
 use Rattle.rules.specs.Hall.{Hall}
 use Rattle.rules.specs.Steps.{Call}
-use Rattle.rules.specs.Table.{TableDone, hallIn, need, openTable, stepTable}
+use Rattle.rules.specs.Table.{TableDone, hallIn, headerWords, need, openTable, stepTable}
 use Rattle.rules.specs.laws.Bytes.{bytes-length, laid-back}
 use Rattle.rules.specs.laws.Prefix.{open-append, step-append}
 use Rattle.rules.specs.laws.Tables.{Opens}
@@ -27,14 +27,14 @@ module _ (t : List ℕ) (m : ℕ) where
   whole : take m t ++ drop m t ≡ t
   whole = take-append-drop m t
 
-  hall-front : 3 ≤ m → hallIn (take m t) ≡ hallIn t
+  hall-front : headerWords ≤ m → hallIn (take m t) ≡ hallIn t
   hall-front three = λ i. record {
     desks = getD-take m t 0 0 (omega arith) i;
     screens = getD-take m t 1 0 (omega arith) i;
     positions = getD-take m t 2 0 (omega arith) i;
   }
 
-  pub step-front : 3 ≤ m → (Opens (hallIn t) → need (hallIn t) ≤ m) → (c : Call)
+  pub step-front : headerWords ≤ m → (Opens (hallIn t) → need (hallIn t) ≤ m) → (c : Call)
       → stepTable t c ≡ record { answer = stepTable (take m t) c .answer; after = stepTable (take m t) c .after ++ drop m t }
   step-front three enough c =
       ap (λ (x : List ℕ). stepTable x c) (sym whole)
@@ -97,7 +97,7 @@ on-front m bytes told done are same e =
     ∙ sym (ap (λ (r : TableDone). onBytes r bytes) e)
 
 module _ (m : ℕ) (bytes : List ℕ) (are : IsBytes bytes) (told : TableDone) (same : length (told .after) ≡ length (take m (wordsOfBytes bytes))) where
-  pub step-on-front : 3 ≤ m → (Opens (hallIn (wordsOfBytes bytes)) → need (hallIn (wordsOfBytes bytes)) ≤ m) → (c : Call)
+  pub step-on-front : headerWords ≤ m → (Opens (hallIn (wordsOfBytes bytes)) → need (hallIn (wordsOfBytes bytes)) ≤ m) → (c : Call)
       → told ≡ stepTable (take m (wordsOfBytes bytes)) c
       → record { reply = reply (told .answer); after = laidOver (told .after) bytes } ≡ stepBytes bytes c
   unfolding stepBytes

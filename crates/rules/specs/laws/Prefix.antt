@@ -9,10 +9,10 @@ use lib.ListN.{length, take, getD, drop, set, length-append, replicate, length-d
 use lib.Seq.{set-append-left, take-append-le}
 use lib.Dec.{leb}
 use borrow.Author.Tests.{le-leb}
-use Rattle.rules.specs.Hall.{Hall, State, allScreens, mostDesks, mostPositions, mostScreens}
+use Rattle.rules.specs.Hall.{Hall, State, allScreens, mostAllScreens, mostDesks, mostPositions, mostScreens}
 use Rattle.rules.specs.Steps.{Call, Collect, Drop, Retire, Swap, Take, collect, firstNo, inRange, perform, questions, retire}
-use Rattle.rules.specs.Table.{TableDone, decode, decodeDesk, encodeDesk, everyRecord, hallIn, mostWords, need, openQuestions, openTable}
-use Rattle.rules.specs.Table.{openedTable, pieces, positionWord, putRecord, recordOf, recordSound, recordStart, recordWidth, recordsIn}
+use Rattle.rules.specs.Table.{TableDone, decode, decodeDesk, encodeDesk, everyRecord, hallIn, headerWords, mostWords, need, openQuestions, openTable}
+use Rattle.rules.specs.Table.{openedTable, pieces, positionWord, putRecord, recordOf, recordSound, recordStart, recordWidth, recordsIn, widthFor}
 use Rattle.rules.specs.Table.{screenWord, sound, stepTable, written}
 use Rattle.rules.specs.laws.Effect.{Formed, in-range}
 use Rattle.rules.specs.laws.Links.{desk-fact, drop-facts, position-asked, swap-facts, swap-position-asked, take-facts}
@@ -23,9 +23,9 @@ use Rattle.rules.specs.laws.Tables.{Opens, hall-opens}
 
 pub need-at-most : (H : Hall) → Opens H → need H ≤ mostWords
 need-at-most H o =
-    let S≤ : allScreens H ≤ 64 = mul-le-mul (o .desks .1) (o .screens .1) in
-    let wide : recordWidth H ≤ 141 = omega arith in
-    let all : H .desks * recordWidth H ≤ 16 * 141 = mul-le-mul (o .desks .1) wide in
+    let S≤ : allScreens H ≤ mostAllScreens = mul-le-mul (o .desks .1) (o .screens .1) in
+    let wide : recordWidth H ≤ widthFor mostAllScreens = omega arith in
+    let all : H .desks * recordWidth H ≤ mostDesks * widthFor mostAllScreens = mul-le-mul (o .desks .1) wide in
     omega (arith, o .positions)
 
 drop-append-left : (n : ℕ) (x b : List ℕ) → n ≤ length x → drop n (x ++ b) ≡ drop n x ++ b
@@ -55,7 +55,7 @@ written-is-in t (Swap d p v) = refl
 written-is-in t (Retire d) = refl
 written-is-in t (Collect d) = refl
 
-module _ (a b : List ℕ) (three : 3 ≤ length a) where
+module _ (a b : List ℕ) (three : headerWords ≤ length a) where
   hall-same : hallIn (a ++ b) ≡ hallIn a
   hall-same = λ i. record {
     desks = List·getD-append a b 0 0 (omega arith) i;
@@ -64,28 +64,28 @@ module _ (a b : List ℕ) (three : 3 ≤ length a) where
   }
 
   module _ (H : Hall) (far : need H ≤ length a) where
-    past-header : drop (H .positions) (drop 3 (a ++ b)) ≡ drop (H .positions) (drop 3 a) ++ b
+    past-header : drop (H .positions) (drop headerWords (a ++ b)) ≡ drop (H .positions) (drop headerWords a) ++ b
     past-header =
-        ap (drop (H .positions)) (drop-append-left 3 a b (omega (arith, far)))
-        ∙ drop-append-left (H .positions) (drop 3 a) b (omega (arith, far, length-drop 3 a))
+        ap (drop (H .positions)) (drop-append-left headerWords a b (omega (arith, far)))
+        ∙ drop-append-left (H .positions) (drop headerWords a) b (omega (arith, far, length-drop headerWords a))
 
     records-same : recordsIn H (a ++ b) ≡ recordsIn H a
     records-same =
-        let l1 = length-drop 3 a in
-        let l2 = length-drop (H .positions) (drop 3 a) in
+        let l1 = length-drop headerWords a in
+        let l2 = length-drop (H .positions) (drop headerWords a) in
         ap (λ (x : List ℕ). pieces (H .desks) (recordWidth H) (drop (allScreens H) x)) past-header
-        ∙ ap (pieces (H .desks) (recordWidth H)) (drop-append-left (allScreens H) (drop (H .positions) (drop 3 a)) b (omega (arith, far)))
-        ∙ pieces-append (H .desks) (recordWidth H) (drop (allScreens H) (drop (H .positions) (drop 3 a))) b
-        (omega (arith, far, length-drop (allScreens H) (drop (H .positions) (drop 3 a))))
+        ∙ ap (pieces (H .desks) (recordWidth H)) (drop-append-left (allScreens H) (drop (H .positions) (drop headerWords a)) b (omega (arith, far)))
+        ∙ pieces-append (H .desks) (recordWidth H) (drop (allScreens H) (drop (H .positions) (drop headerWords a))) b
+        (omega (arith, far, length-drop (allScreens H) (drop (H .positions) (drop headerWords a))))
 
     decode-same : decode H (a ++ b) ≡ decode H a
     decode-same =
-        let l1 = length-drop 3 a in
-        let l2 = length-drop (H .positions) (drop 3 a) in
+        let l1 = length-drop headerWords a in
+        let l2 = length-drop (H .positions) (drop headerWords a) in
         λ i. record {
           held =
-              (ap (take (H .positions)) (drop-append-left 3 a b (omega (arith, far))) ∙ take-append-le (H .positions) (drop 3 a) b (omega (arith, far))) i;
-          shown = (ap (take (allScreens H)) past-header ∙ take-append-le (allScreens H) (drop (H .positions) (drop 3 a)) b (omega (arith, far))) i;
+              (ap (take (H .positions)) (drop-append-left headerWords a b (omega (arith, far))) ∙ take-append-le (H .positions) (drop headerWords a) b (omega (arith, far))) i;
+          shown = (ap (take (allScreens H)) past-header ∙ take-append-le (allScreens H) (drop (H .positions) (drop headerWords a)) b (omega (arith, far))) i;
           desks = map decodeDesk (records-same i);
         }
 
@@ -244,7 +244,7 @@ module _ (a b : List ℕ) where
 
       opened-append : need H ≤ length a → openedTable H (a ++ b) ≡ openedTable H a ++ b
       opened-append h =
-          let front : List ℕ = H .desks ∷ H .screens ∷ H .positions ∷ replicate (need H - 3) 0 in
+          let front : List ℕ = H .desks ∷ H .screens ∷ H .positions ∷ replicate (need H - headerWords) 0 in
           ap (λ (l : List ℕ). front ++ l) (drop-append-left (need H) a b h) ∙ sym (append-assoc front (drop (need H) a) b)
 
       by-number : (n : ℕ) → firstNo (openQuestions H a) ≡ n → openTable H (a ++ b) ≡ done (openTable H a)

@@ -8,10 +8,10 @@ use lib.ListN.{length, drop, replicate, length-append}
 use lib.Seq.{take-at, drop-at}
 use lib.Dec.{leb, ltb, eqb}
 use borrow.Author.Tests.{eq-eqb, ne-eqb, le-leb, lt-ltb}
-use Rattle.rules.specs.Hall.{Desk, TestedPlace, marked, unmarked, usedPlaces}
+use Rattle.rules.specs.Hall.{Desk, TestedPlace, marked, mostAllScreens, unmarked, usedPlaces}
 use Rattle.rules.specs.History.{copies}
 use Rattle.rules.specs.Steps.{begin, beginAt, collect, markEach, nextScreens, owe, retire, scan, settle}
-use Rattle.rules.specs.Table.{bitsOfWords, encodeDesk, every, listOf, marksOf, ones, recordSound, scanSound, sessionsOf, wordsOfBits}
+use Rattle.rules.specs.Table.{allMarks, bitsOfWords, encodeDesk, every, listOf, markWords, marksOf, ones, recordSound, scanSound, sessionsOf, wordsOfBits}
 use Rattle.rules.specs.laws.Bools.{and-true}
 use Rattle.rules.specs.laws.Collect.{Orderly, Scanning, by-scan, collect-orderly, copiesOn, retire-orderly}
 use Rattle.rules.specs.laws.Encoding.{length-marks, length-sessions, marks-read-back, ones-marks}
@@ -137,23 +137,23 @@ pass-marks : (S k : ℕ) (t : List TestedPlace) → ScanFits S k t → markCount
 pass-marks S k [] p = omega arith
 pass-marks S k (q ∷ qs) p = p .3
 
-pub encoded-sound : (S : ℕ) (D : Desk) → S ≤ 64 → Sound S D → recordSound S (encodeDesk S D) ≡ true
+pub encoded-sound : (S : ℕ) (D : Desk) → S ≤ mostAllScreens → Sound S D → recordSound S (encodeDesk S D) ≡ true
 unfolding encodeDesk recordSound
 encoded-sound S D h s =
     and-true _ _ (le-leb (usedPlaces D) (2 * S) (s .total))
     (and-true _ _ (ap (every (λ x. not (eqb x 0))) (take-at (listOf D) pad (usedPlaces D) (length-list D)) ∙ every-real (listOf D) (copies-list 0 D ∙ s .real))
     (and-true _ _ (ap (every (λ x. eqb x 0)) (drop-at (listOf D) pad (usedPlaces D) (length-list D)) ∙ every-zero (2 * S - length (listOf D)))
-    (and-true _ _ (eq-eqb _ 0 (ap (λ (b : List Bool). ones (drop (length (D .tested)) b)) mk ∙ ap ones (drop-at (marksOf (D .tested)) (replicate (128 - length (D .tested)) false) (length (D .tested)) (length-marks (D .tested))) ∙ ones-none (128 - length (D .tested))))
+    (and-true _ _ (eq-eqb _ 0 (ap (λ (b : List Bool). ones (drop (length (D .tested)) b)) mk ∙ ap ones (drop-at (marksOf (D .tested)) (replicate (allMarks - length (D .tested)) false) (length (D .tested)) (length-marks (D .tested))) ∙ ones-none (allMarks - length (D .tested))))
     (and-true _ _ (pass-true S (D .scanned) (D .tested) (s .pass))
     (le-leb _ (D .scanned) (rw (ap ones mk) few))))))
   where
     pad : List ℕ
     pad = replicate (2 * S - length (listOf D)) 0
 
-    mk : bitsOfWords (wordsOfBits 8 (marksOf (D .tested) ++ replicate (128 - length (D .tested)) false)) ≡ marksOf (D .tested) ++ replicate (128 - length (D .tested)) false
+    mk : bitsOfWords (wordsOfBits markWords (marksOf (D .tested) ++ replicate (allMarks - length (D .tested)) false)) ≡ marksOf (D .tested) ++ replicate (allMarks - length (D .tested)) false
     mk = marks-read-back (D .tested) (omega (arith, s .total))
 
-    few : ones (marksOf (D .tested) ++ replicate (128 - length (D .tested)) false) ≤ D .scanned
+    few : ones (marksOf (D .tested) ++ replicate (allMarks - length (D .tested)) false) ≤ D .scanned
     few =
         omega
-        (arith, ones-append (marksOf (D .tested)) (replicate (128 - length (D .tested)) false), ones-none (128 - length (D .tested)), ones-marks (D .tested), pass-marks S (D .scanned) (D .tested) (s .pass))
+        (arith, ones-append (marksOf (D .tested)) (replicate (allMarks - length (D .tested)) false), ones-none (allMarks - length (D .tested)), ones-marks (D .tested), pass-marks S (D .scanned) (D .tested) (s .pass))

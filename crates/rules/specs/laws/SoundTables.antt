@@ -8,11 +8,11 @@ use lib.ListN.{length, getD, take, drop, length-drop, length-map, take-append-dr
 use lib.Seq.{length-take-le}
 use lib.Dec.{leb, ltb, eqb, T}
 use borrow.Author.Tests.{leb-true, eqb-true, eqb-false, ltb-true}
-use Rattle.rules.specs.Hall.{Hall, TestedPlace, allScreens}
+use Rattle.rules.specs.Hall.{Hall, TestedPlace, allScreens, mostAllScreens}
 use Rattle.rules.specs.History.{copies}
 use Rattle.rules.specs.Steps.{Call, perform}
-use Rattle.rules.specs.Table.{bitsOfWords, decode, decodeDesk, encode, every, everyRecord, hallIn, need, ones, pieces, placesOf, recordSound}
-use Rattle.rules.specs.Table.{recordWidth, recordsIn, scanSound, sound, written}
+use Rattle.rules.specs.Table.{allMarks, bitsOfWords, decode, decodeDesk, encode, every, everyRecord, hallIn, need, ones, pieces, placesOf, recordSound}
+use Rattle.rules.specs.Table.{headerWords, listPlace, markWords, marksPlace, recordWidth, recordsIn, scanSound, sound, widthFor, written}
 use Rattle.rules.specs.laws.Bools.{and-left, and-right}
 use Rattle.rules.specs.laws.Decoding.{length-bits-of-words, list-parts, marks-of-places, ready-length, same-table, tested-length}
 use Rattle.rules.specs.laws.Decoding.{waiting-length}
@@ -41,15 +41,15 @@ pass-of S (suc b) k (p ∷ T) l h m =
     (eqb-true (k % 2) 0 (and-left (eqb (k % 2) 0) (leb 2 k && ltb k S) h), leb-true 2 k (and-left (leb 2 k) (ltb k S) h1), ltb-true k S (and-right (leb 2 k) (ltb k S) h1), m)
 
 -- a record that passes the test is of a sound desk
-pub desk-sound : (S : ℕ) (r : List ℕ) → length r ≡ 13 + 2 * S → S ≤ 64 → recordSound S r ≡ true → Sound S (decodeDesk r)
+pub desk-sound : (S : ℕ) (r : List ℕ) → length r ≡ widthFor S → S ≤ mostAllScreens → recordSound S r ≡ true → Sound S (decodeDesk r)
 unfolding decodeDesk recordSound
 desk-sound S r lr hS e =
     let a = getD r 2 0 in
     let b = getD r 3 0 in
     let c = getD r 4 0 in
     let k = getD r 1 0 in
-    let l : List ℕ = drop 13 r in
-    let u : List Bool = bitsOfWords (take 8 (drop 5 r)) in
+    let l : List ℕ = drop listPlace r in
+    let u : List Bool = bitsOfWords (take markWords (drop marksPlace r)) in
     let q1 = leb (a + b + c) (2 * S) in
     let q2 = every (λ x. not (eqb x 0)) (take (a + b + c) l) in
     let q3 = every (λ x. eqb x 0) (drop (a + b + c) l) in
@@ -61,8 +61,8 @@ desk-sound S r lr hS e =
     let e3 = and-right q3 (q4 && (q5 && q6)) e2 in
     let e4 = and-right q4 (q5 && q6) e3 in
     let h0 : a + b + c ≤ 2 * S = leb-true (a + b + c) (2 * S) (and-left q1 (q2 && (q3 && (q4 && (q5 && q6)))) e) in
-    let hl : length l ≡ 2 * S = omega (arith, length-drop 13 r) in
-    let hu : length u ≡ 128 = omega (arith, length-bits-of-words (take 8 (drop 5 r)), length-take-le 8 (drop 5 r) (omega (arith, length-drop 5 r))) in
+    let hl : length l ≡ 2 * S = omega (arith, length-drop listPlace r) in
+    let hu : length u ≡ allMarks = omega (arith, length-bits-of-words (take markWords (drop marksPlace r)), length-take-le markWords (drop marksPlace r) (omega (arith, length-drop marksPlace r))) in
     let T : List TestedPlace = placesOf (take b (drop a l)) (take b u) in
     let f =
     marks-of-places (take b (drop a l)) (take b u)
@@ -77,12 +77,12 @@ desk-sound S r lr hS e =
       pass = pass-of S b k T (tested-length S a b c l u hl hu hS h0) (and-left q5 q6 e4) m;
     }
 
-module _ (S : ℕ) (hS : S ≤ 64) where
-  records-sound : (n : ℕ) (x : List ℕ) → n * (13 + 2 * S) ≤ length x → everyRecord (recordSound S) (pieces n (13 + 2 * S) x) ≡ true
-      → All (Sound S) (map decodeDesk (pieces n (13 + 2 * S) x))
+module _ (S : ℕ) (hS : S ≤ mostAllScreens) where
+  records-sound : (n : ℕ) (x : List ℕ) → n * widthFor S ≤ length x → everyRecord (recordSound S) (pieces n (widthFor S) x) ≡ true
+      → All (Sound S) (map decodeDesk (pieces n (widthFor S) x))
   records-sound zero x h e = tt
   records-sound (suc n) x h e =
-      let w : ℕ = 13 + 2 * S in
+      let w : ℕ = widthFor S in
       (desk-sound S (take w x) (length-take-le w x (omega arith)) hS (and-left (recordSound S (take w x)) (everyRecord (recordSound S) (pieces n w (drop w x))) e), records-sound n (drop w x) (omega (arith, length-drop w x)) (and-right (recordSound S (take w x)) (everyRecord (recordSound S) (pieces n w (drop w x))) e))
 
 length-records : (n w : ℕ) (x : List ℕ) → length (pieces n w x) ≡ n
@@ -96,14 +96,14 @@ pub valid : (t : List ℕ) → Known t → Valid (hallIn t) (decode (hallIn t) t
 valid t k =
     let H : Hall = hallIn t in
     let g = k .long in
-    let l1 = length-drop 3 t in
-    let l2 = length-drop (H .positions) (drop 3 t) in
-    let l3 = length-drop (allScreens H) (drop (H .positions) (drop 3 t)) in
+    let l1 = length-drop headerWords t in
+    let l2 = length-drop (H .positions) (drop headerWords t) in
+    let l3 = length-drop (allScreens H) (drop (H .positions) (drop headerWords t)) in
     record {
       formed =
-          record { desks = length-map (recordsIn H t) decodeDesk ∙ length-records (H .desks) (recordWidth H) (drop (allScreens H) (drop (H .positions) (drop 3 t))); screens = length-take-le (allScreens H) (drop (H .positions) (drop 3 t)) (omega arith) };
-      held = length-take-le (H .positions) (drop 3 t) (omega arith);
-      desks = records-sound (allScreens H) (k .most) (H .desks) (drop (allScreens H) (drop (H .positions) (drop 3 t))) (omega arith) (k .records);
+          record { desks = length-map (recordsIn H t) decodeDesk ∙ length-records (H .desks) (recordWidth H) (drop (allScreens H) (drop (H .positions) (drop headerWords t))); screens = length-take-le (allScreens H) (drop (H .positions) (drop headerWords t)) (omega arith) };
+      held = length-take-le (H .positions) (drop headerWords t) (omega arith);
+      desks = records-sound (allScreens H) (k .most) (H .desks) (drop (allScreens H) (drop (H .positions) (drop headerWords t))) (omega arith) (k .records);
     }
 
 -- what an accepted call writes is the table of the state after it

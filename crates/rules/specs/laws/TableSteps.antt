@@ -9,10 +9,10 @@ use lib.ListN.{length, getD, take, drop}
 use lib.Seq.{getD-take, getD-drop, drop-drop}
 use lib.Dec.{leb, eqb, eqb·suc-zero, T}
 use borrow.Author.Tests.{leb-true}
-use Rattle.rules.specs.Hall.{Desk, Hall, TestedPlace, allScreens, deskOf, emptyDesk, screenIndex}
+use Rattle.rules.specs.Hall.{Desk, Hall, TestedPlace, allScreens, deskOf, emptyDesk, mostAllScreens, mostDesks, mostPositions, mostScreens, screenIndex}
 use Rattle.rules.specs.Steps.{Call, beginAt, collect, collectSeeing, decide, firstNo, inRange, perform, questions}
 use Rattle.rules.specs.Table.{TableDone, decode, decodeDesk, everyRecord, hallIn, need, openIf, openQuestions, openTable, openedTable, pieces}
-use Rattle.rules.specs.Table.{positionWord, recordOf, recordSound, recordStart, recordWidth, recordsIn, screenWord, sound, stepIf, stepTable}
+use Rattle.rules.specs.Table.{headerWords, positionWord, recordOf, recordSound, recordStart, recordWidth, recordsIn, screenWord, sound, stepIf, stepTable}
 use Rattle.rules.specs.Table.{written}
 use Rattle.rules.specs.laws.Bools.{and-left, and-right}
 use Rattle.rules.specs.laws.Effect.{in-range}
@@ -56,10 +56,10 @@ accepted-step t c e q = sound-step t c e ∙ ap (told-by t c) q
 
 -- ---- a sound table
 pub record Known (t : List ℕ) : Type 0 where
-  pub desks : (1 ≤ hallIn t .desks) × (hallIn t .desks ≤ 16)
-  pub screens : (1 ≤ hallIn t .screens) × (hallIn t .screens ≤ 4)
-  pub positions : (1 ≤ hallIn t .positions) × (hallIn t .positions ≤ 64)
-  pub most : allScreens (hallIn t) ≤ 64
+  pub desks : (1 ≤ hallIn t .desks) × (hallIn t .desks ≤ mostDesks)
+  pub screens : (1 ≤ hallIn t .screens) × (hallIn t .screens ≤ mostScreens)
+  pub positions : (1 ≤ hallIn t .positions) × (hallIn t .positions ≤ mostPositions)
+  pub most : allScreens (hallIn t) ≤ mostAllScreens
   pub long : need (hallIn t) ≤ length t
   pub records : everyRecord (recordSound (allScreens (hallIn t))) (recordsIn (hallIn t) t) ≡ true
 
@@ -67,15 +67,15 @@ pub known : (t : List ℕ) → sound t ≡ true → Known t
 unfolding sound
 known t h =
     let H : Hall = hallIn t in
-    let h1 = and-right (inRange (H .desks) 16) (s1 H) h in
-    let h2 = and-right (inRange (H .screens) 4) (s2 H) h1 in
-    let h3 = and-right (inRange (H .positions) 64) (s3 H) h2 in
-    let ra = in-range (H .desks) 16 (and-left (inRange (H .desks) 16) (s1 H) h) in
-    let rb = in-range (H .screens) 4 (and-left (inRange (H .screens) 4) (s2 H) h1) in
+    let h1 = and-right (inRange (H .desks) mostDesks) (s1 H) h in
+    let h2 = and-right (inRange (H .screens) mostScreens) (s2 H) h1 in
+    let h3 = and-right (inRange (H .positions) mostPositions) (s3 H) h2 in
+    let ra = in-range (H .desks) mostDesks (and-left (inRange (H .desks) mostDesks) (s1 H) h) in
+    let rb = in-range (H .screens) mostScreens (and-left (inRange (H .screens) mostScreens) (s2 H) h1) in
     record {
       desks = ra;
       screens = rb;
-      positions = in-range (H .positions) 64 (and-left (inRange (H .positions) 64) (s3 H) h2);
+      positions = in-range (H .positions) mostPositions (and-left (inRange (H .positions) mostPositions) (s3 H) h2);
       most = mul-le-mul (ra .1) (rb .1);
       long = leb-true (need H) (length t) (and-left (leb (need H) (length t)) (s4 H) h3);
       records = and-right (leb (need H) (length t)) (s4 H) h3;
@@ -88,10 +88,10 @@ known t h =
     s3 H = leb (need H) (length t) && s4 H
 
     s2 : Hall → Bool
-    s2 H = inRange (H .positions) 64 && s3 H
+    s2 H = inRange (H .positions) mostPositions && s3 H
 
     s1 : Hall → Bool
-    s1 H = inRange (H .screens) 4 && s2 H
+    s1 H = inRange (H .screens) mostScreens && s2 H
 
 -- ---- record i, from 0
 row-at : (n w i : ℕ) (x : List ℕ) → drop (i * w) (drop w x) ≡ drop (suc i * w) x
@@ -112,19 +112,19 @@ every-record-at f (suc n) w x (suc i) h q =
 
 -- record d, from 1, as it stands in the table
 record-part : (t : List ℕ) (d : ℕ)
-    → drop ((d - 1) * recordWidth (hallIn t)) (drop (allScreens (hallIn t)) (drop (hallIn t .positions) (drop 3 t))) ≡ drop (recordStart (hallIn t) d) t
+    → drop ((d - 1) * recordWidth (hallIn t)) (drop (allScreens (hallIn t)) (drop (hallIn t .positions) (drop headerWords t))) ≡ drop (recordStart (hallIn t) d) t
 record-part t d =
     let H : Hall = hallIn t in
     let k : ℕ = (d - 1) * recordWidth H in
-    let e : 3 + (H .positions + (allScreens H + k)) ≡ recordStart H d = omega arith in
-    drop-drop k (allScreens H) (drop (H .positions) (drop 3 t)) ∙ drop-drop (allScreens H + k) (H .positions) (drop 3 t)
-    ∙ drop-drop (H .positions + (allScreens H + k)) 3 t ∙ ap (λ (j : ℕ). drop j t) e
+    let e : headerWords + (H .positions + (allScreens H + k)) ≡ recordStart H d = omega arith in
+    drop-drop k (allScreens H) (drop (H .positions) (drop headerWords t)) ∙ drop-drop (allScreens H + k) (H .positions) (drop headerWords t)
+    ∙ drop-drop (H .positions + (allScreens H + k)) headerWords t ∙ ap (λ (j : ℕ). drop j t) e
 
 pub record-sound : (t : List ℕ) (d : ℕ) → Known t → 1 ≤ d → d ≤ hallIn t .desks → recordSound (allScreens (hallIn t)) (recordOf (hallIn t) t d) ≡ true
 record-sound t d k h g =
     ap (λ (y : List ℕ). recordSound (allScreens (hallIn t)) (take (recordWidth (hallIn t)) y)) (sym (record-part t d))
     ∙ every-record-at (recordSound (allScreens (hallIn t))) (hallIn t .desks) (recordWidth (hallIn t))
-    (drop (allScreens (hallIn t)) (drop (hallIn t .positions) (drop 3 t))) (d - 1) (omega arith) (k .records)
+    (drop (allScreens (hallIn t)) (drop (hallIn t .positions) (drop headerWords t))) (d - 1) (omega arith) (k .records)
 
 -- it stands before the end of the need
 pub record-within : (H : Hall) (d : ℕ) → 1 ≤ d → d ≤ H .desks → recordStart H d + recordWidth H ≤ need H
@@ -133,13 +133,13 @@ record-within H d h g =
 
 -- ---- what the words say of the state
 pub held-word : (t : List ℕ) (p : ℕ) → 1 ≤ p → p ≤ hallIn t .positions → getD (decode (hallIn t) t .held) (p - 1) 0 ≡ getD t (positionWord p) 0
-held-word t p h g = getD-take (hallIn t .positions) (drop 3 t) (p - 1) 0 (omega arith) ∙ getD-drop 3 t (p - 1) 0
+held-word t p h g = getD-take (hallIn t .positions) (drop headerWords t) (p - 1) 0 (omega arith) ∙ getD-drop headerWords t (p - 1) 0
 
-pub shown-at : (t : List ℕ) (i : ℕ) → i < allScreens (hallIn t) → getD (decode (hallIn t) t .shown) i 0 ≡ getD t (3 + hallIn t .positions + i) 0
+pub shown-at : (t : List ℕ) (i : ℕ) → i < allScreens (hallIn t) → getD (decode (hallIn t) t .shown) i 0 ≡ getD t (headerWords + hallIn t .positions + i) 0
 shown-at t i h =
     let H : Hall = hallIn t in
-    let e : 3 + (H .positions + i) ≡ 3 + H .positions + i = omega arith in
-    getD-take (allScreens H) (drop (H .positions) (drop 3 t)) i 0 h ∙ getD-drop (H .positions) (drop 3 t) i 0 ∙ getD-drop 3 t (H .positions + i) 0
+    let e : headerWords + (H .positions + i) ≡ headerWords + H .positions + i = omega arith in
+    getD-take (allScreens H) (drop (H .positions) (drop headerWords t)) i 0 h ∙ getD-drop (H .positions) (drop headerWords t) i 0 ∙ getD-drop headerWords t (H .positions + i) 0
     ∙ ap (λ (k : ℕ). getD t k 0) e
 
 pub shown-word : (t : List ℕ) (d c : ℕ) → 1 ≤ d → d ≤ hallIn t .desks → 1 ≤ c → c ≤ hallIn t .screens
@@ -148,7 +148,7 @@ shown-word t d c h1 h2 h3 h4 = shown-at t (screenIndex (hallIn t) d c) (screen-i
 
 pub desk-word : (t : List ℕ) (d : ℕ) → 1 ≤ d → d ≤ hallIn t .desks → deskOf (decode (hallIn t) t) d ≡ decodeDesk (recordOf (hallIn t) t d)
 desk-word t d h g =
-    records-at (hallIn t .desks) (recordWidth (hallIn t)) (drop (allScreens (hallIn t)) (drop (hallIn t .positions) (drop 3 t))) (d - 1) (omega arith)
+    records-at (hallIn t .desks) (recordWidth (hallIn t)) (drop (allScreens (hallIn t)) (drop (hallIn t .positions) (drop headerWords t))) (d - 1) (omega arith)
     ∙ ap (λ (y : List ℕ). decodeDesk (take (recordWidth (hallIn t)) y)) (record-part t d)
 
 pub owed-word : (t : List ℕ) (d : ℕ) → 1 ≤ d → d ≤ hallIn t .desks → deskOf (decode (hallIn t) t) d .owed ≡ getD t (recordStart (hallIn t) d) 0

@@ -9,12 +9,12 @@ use lib.ListN.{length, getD, take, drop, set, replicate, length-append, length-r
 use lib.Seq.{take-at, drop-at}
 use lib.Dec.{leb, ltb, eqb, eqb·suc-zero}
 use borrow.Author.Tests.{le-leb, eqb-false, ltb-true, not-true, leb-true}
-use Rattle.rules.specs.Hall.{Desk, Hall, State, allScreens, deskOf, emptyDesk, fresh, mostDesks, mostPositions, mostScreens, screenIndex}
+use Rattle.rules.specs.Hall.{Desk, Hall, State, allScreens, deskOf, emptyDesk, fresh, mostAllScreens, mostDesks, mostPositions, mostScreens, screenIndex}
 use Rattle.rules.specs.Hall.{usedPlaces, withDesk, withHeld, withShown}
 use Rattle.rules.specs.Steps.{Call, Collect, Drop, Event, Retire, Swap, Take, collect, decide, end, firstNo, inRange, owe, perform, questions}
 use Rattle.rules.specs.Steps.{retire, run, step}
-use Rattle.rules.specs.Table.{TableDone, decode, decodeDesk, encode, encodeDesk, endTable, everyRecord, joined, listOf, need, openQuestions}
-use Rattle.rules.specs.Table.{openedTable, pieces, positionWord, putRecord, recordOf, recordSound, recordStart, recordWidth, recordsIn}
+use Rattle.rules.specs.Table.{TableDone, decode, decodeDesk, encode, encodeDesk, endTable, everyRecord, headerWords, joined, listOf, need, openQuestions}
+use Rattle.rules.specs.Table.{listPlace, openedTable, pieces, positionWord, putRecord, recordOf, recordSound, recordStart, recordWidth, recordsIn}
 use Rattle.rules.specs.Table.{runTable, screenWord, sound, stepIf, stepTable, written}
 use Rattle.rules.specs.laws.Bools.{and-true}
 use Rattle.rules.specs.laws.Effect.{Formed, formed-step, in-range, retire-questions}
@@ -60,7 +60,7 @@ module _ (H : Hall) (opens : Opens H) where
   pub some-screens : 1 ≤ allScreens H
   some-screens = mul-pos (opens .desks .0) (opens .screens .0)
 
-  most : allScreens H ≤ 64
+  most : allScreens H ≤ mostAllScreens
   most = mul-le-mul (opens .desks .1) (opens .screens .1)
 
   pub valid-step : (st : State) (c : Call) → Valid H st → Valid H (step H st c .after)
@@ -202,9 +202,9 @@ module _ (H : Hall) (opens : Opens H) where
     pub encode-is-sound : sound (encode H st ++ rest) ≡ true
     unfolding sound
     encode-is-sound =
-        and-true _ _ (range-true (H .desks) 16 (opens .desks .0) (opens .desks .1))
-        (and-true _ _ (range-true (H .screens) 4 (opens .screens .0) (opens .screens .1))
-        (and-true _ _ (range-true (H .positions) 64 (opens .positions .0) (opens .positions .1))
+        and-true _ _ (range-true (H .desks) mostDesks (opens .desks .0) (opens .desks .1))
+        (and-true _ _ (range-true (H .screens) mostScreens (opens .screens .0) (opens .screens .1))
+        (and-true _ _ (range-true (H .positions) mostPositions (opens .positions .0) (opens .positions .1))
         (and-true _ _ (le-leb (need H) (length (encode H st ++ rest)) (omega (arith, length-table, length-append (encode H st) rest)))
         (ap (everyRecord (recordSound (allScreens H))) records-of-encode ∙ all-sound (st .desks) (v .desks)))))
 
@@ -267,24 +267,24 @@ module _ (H : Hall) (opens : Opens H) where
     -- a position read, and written; a screen written
     position-word-is : (p : ℕ) → 1 ≤ p → p ≤ H .positions → getD (encode H st ++ rest) (positionWord p) 0 ≡ getD (st .held) (p - 1) 0
     position-word-is p l m =
-        ap (λ (t : List ℕ). getD t (3 + (p - 1)) 0) (as-held (st .held) (st .shown) (joined (map (encodeDesk (allScreens H)) (st .desks))))
+        ap (λ (t : List ℕ). getD t (headerWords + (p - 1)) 0) (as-held (st .held) (st .shown) (joined (map (encodeDesk (allScreens H)) (st .desks))))
         ∙ get-mid (H .desks ∷ H .screens ∷ H .positions ∷ []) (st .held)
-        ((st .shown ++ joined (map (encodeDesk (allScreens H)) (st .desks))) ++ rest) 3 refl (p - 1) (omega (arith, v .held))
+        ((st .shown ++ joined (map (encodeDesk (allScreens H)) (st .desks))) ++ rest) headerWords refl (p - 1) (omega (arith, v .held))
 
     position-written : (p w : ℕ) → 1 ≤ p → p ≤ H .positions → set (encode H st ++ rest) (positionWord p) w ≡ encode H (withHeld st (p - 1) w) ++ rest
     position-written p w l m =
         let f = joined (map (encodeDesk (allScreens H)) (st .desks)) in
-        ap (λ (t : List ℕ). set t (3 + (p - 1)) w) (as-held (st .held) (st .shown) f)
-        ∙ set-mid (H .desks ∷ H .screens ∷ H .positions ∷ []) (st .held) ((st .shown ++ f) ++ rest) 3 refl (p - 1) w (omega (arith, v .held))
+        ap (λ (t : List ℕ). set t (headerWords + (p - 1)) w) (as-held (st .held) (st .shown) f)
+        ∙ set-mid (H .desks ∷ H .screens ∷ H .positions ∷ []) (st .held) ((st .shown ++ f) ++ rest) headerWords refl (p - 1) w (omega (arith, v .held))
         ∙ sym (as-held (set (st .held) (p - 1) w) (st .shown) f)
 
     screen-written : (d c w : ℕ) → (1 ≤ d) × (d ≤ H .desks) → (1 ≤ c) × (c ≤ H .screens)
         → set (encode H st ++ rest) (screenWord H d c) w ≡ encode H (withShown st (screenIndex H d c) w) ++ rest
     screen-written d c w i j =
         let f = joined (map (encodeDesk (allScreens H)) (st .desks)) in
-        let n : length (H .desks ∷ H .screens ∷ H .positions ∷ st .held) ≡ 3 + H .positions = omega (arith, v .held) in
+        let n : length (H .desks ∷ H .screens ∷ H .positions ∷ st .held) ≡ headerWords + H .positions = omega (arith, v .held) in
         ap (λ (t : List ℕ). set t (screenWord H d c) w) (as-shown (st .held) (st .shown) f)
-        ∙ set-mid (H .desks ∷ H .screens ∷ H .positions ∷ st .held) (st .shown) (f ++ rest) (3 + H .positions) n (screenIndex H d c) w
+        ∙ set-mid (H .desks ∷ H .screens ∷ H .positions ∷ st .held) (st .shown) (f ++ rest) (headerWords + H .positions) n (screenIndex H d c) w
         (omega (arith, v .formed .screens, screen-in H d c (i .0) (i .1) (j .0) (j .1)))
         ∙ sym (as-shown (st .held) (set (st .shown) (screenIndex H d c) w) f)
 
@@ -364,7 +364,7 @@ module _ (H : Hall) (opens : Opens H) where
 
   empty-encoded : encodeDesk (allScreens H) emptyDesk ≡ replicate (recordWidth H) 0
   unfolding encodeDesk
-  empty-encoded = replicate-append-replicate 13 (2 * allScreens H - 0) 0 ∙ alike (13 + (2 * allScreens H - 0)) (recordWidth H) (omega arith)
+  empty-encoded = replicate-append-replicate listPlace (2 * allScreens H - 0) 0 ∙ alike (listPlace + (2 * allScreens H - 0)) (recordWidth H) (omega arith)
 
   joined-empty : (n : ℕ) → joined (map (encodeDesk (allScreens H)) (replicate n emptyDesk)) ≡ replicate (n * recordWidth H) 0
   joined-empty zero = alike 0 (0 * recordWidth H) (omega arith)
@@ -376,10 +376,10 @@ module _ (H : Hall) (opens : Opens H) where
   pub opened-is-fresh : (t : List ℕ) → openedTable H t ≡ encode H (fresh H) ++ drop (need H) t
   opened-is-fresh t = ap {B = List ℕ} (λ l. H .desks ∷ H .screens ∷ H .positions ∷ (l ++ drop (need H) t)) zeros
     where
-      zeros : replicate {A = ℕ} (need H - 3) 0 ≡ replicate (H .positions) 0 ++ (replicate (allScreens H) 0 ++ joined (map (encodeDesk (allScreens H)) (replicate (H .desks) emptyDesk)))
+      zeros : replicate {A = ℕ} (need H - headerWords) 0 ≡ replicate (H .positions) 0 ++ (replicate (allScreens H) 0 ++ joined (map (encodeDesk (allScreens H)) (replicate (H .desks) emptyDesk)))
       zeros =
           sym
-          (ap (λ (l : List ℕ). replicate (H .positions) 0 ++ (replicate (allScreens H) 0 ++ l)) (joined-empty (H .desks)) ∙ ap (λ (l : List ℕ). replicate (H .positions) 0 ++ l) (replicate-append-replicate (allScreens H) (H .desks * recordWidth H) 0) ∙ replicate-append-replicate (H .positions) (allScreens H + H .desks * recordWidth H) 0 ∙ alike (H .positions + (allScreens H + H .desks * recordWidth H)) (need H - 3) (omega arith))
+          (ap (λ (l : List ℕ). replicate (H .positions) 0 ++ (replicate (allScreens H) 0 ++ l)) (joined-empty (H .desks)) ∙ ap (λ (l : List ℕ). replicate (H .positions) 0 ++ l) (replicate-append-replicate (allScreens H) (H .desks * recordWidth H) 0) ∙ replicate-append-replicate (H .positions) (allScreens H + H .desks * recordWidth H) 0 ∙ alike (H .positions + (allScreens H + H .desks * recordWidth H)) (need H - headerWords) (omega arith))
 
   pub table-end : (cs : List Call) (st : State) → Valid H st → (rest : List ℕ) → endTable (encode H st ++ rest) cs ≡ encode H (end H st cs) ++ rest
   table-end [] st v rest = refl

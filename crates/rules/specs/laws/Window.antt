@@ -11,7 +11,7 @@ use Rattle.rules.specs.Bytes.{IsBytes, Words16, bytesOfWords, laidOver, 
 use Rattle.rules.specs.Hall.{Hall, allScreens}
 use Rattle.rules.specs.Steps.{Call, Collect, Drop, Retire, Swap, Take, collect, inRange, retire}
 use Rattle.rules.specs.Table.{decode, decodeDesk, encodeDesk, hallIn, need, positionWord, putRecord, recordOf, recordStart, recordWidth, screenWord}
-use Rattle.rules.specs.Table.{sound, stepTable, written}
+use Rattle.rules.specs.Table.{headerWords, sound, stepTable, written}
 use Rattle.rules.specs.laws.Bytes.{words-length}
 use Rattle.rules.specs.laws.Effect.{in-range}
 use Rattle.rules.specs.laws.Front.{bytes-append, front-laid-back}
@@ -34,11 +34,11 @@ deskIn (Collect d) = d
 
 -- where the positions and the screens end, and the records begin
 abbrev pub recordsStart : Hall → ℕ
-recordsStart hall = 3 + hall .positions + allScreens hall
+recordsStart hall = headerWords + hall .positions + allScreens hall
 
 -- place i is neither of a position or a screen nor in the record of desk d
 pub record Outside (hall : Hall) (d i : ℕ) : Type 0 where
-  pub shared : 3 ≤ i → recordsStart hall ≤ i
+  pub shared : headerWords ≤ i → recordsStart hall ≤ i
   pub own : recordStart hall d ≤ i → recordStart hall d + recordWidth hall ≤ i
 
 -- the words after a step of desk d: they tell a hall that has it, and outside the two parts they are the old ones
@@ -90,7 +90,7 @@ module _ (t : List ℕ) (small : Words16 t) (s : sound t ≡ true) where
 
   written-again : (c : Call) → asked t c ≡ 0 → Rewritten (deskIn c) t (written t c)
   written-again c e =
-      let header : (i : ℕ) → i < 3 → getD t i 0 ≡ getD (written t c) i 0 =
+      let header : (i : ℕ) → i < headerWords → getD t i 0 ≡ getD (written t c) i 0 =
       λ i h. sym (written-outside c e i (record { shared = λ g. absurd (omega arith); own = λ g. absurd (omega arith) })) in
       let hall : hallIn t ≡ hallIn (written t c) =
       λ j. record { desks = header 0 (omega arith) j; screens = header 1 (omega arith) j; positions = header 2 (omega arith) j } in
@@ -212,9 +212,9 @@ module _ (a e b f : ℕ) (words bytes : List ℕ) (first-order : a ≤ e) (first
 -- So the words after a step of desk d are laid over their bytes when its two parts are.
 pub rewritten-laid : (d : ℕ) (words bytes : List ℕ) → IsBytes bytes → 2 * length words ≤ length bytes
     → Rewritten d (take (length words) (wordsOfBytes bytes)) words
-    → partLaid (recordStart (hallIn words) d) (recordStart (hallIn words) d + recordWidth (hallIn words)) words (partLaid 3 (recordsStart (hallIn words)) words bytes) ≡ laidOver words bytes
+    → partLaid (recordStart (hallIn words) d) (recordStart (hallIn words) d + recordWidth (hallIn words)) words (partLaid headerWords (recordsStart (hallIn words)) words bytes) ≡ laidOver words bytes
 rewritten-laid d words bytes are room done =
     let H : Hall = hallIn words in
     let within : recordStart H d + recordWidth H ≤ length words = omega (arith, record-within H d (done .desk .0) (done .desk .1), done .long) in
-    laid-in-parts 3 (recordsStart H) (recordStart H d) (recordStart H d + recordWidth H) words bytes (omega arith) (omega (arith, within)) (omega arith)
+    laid-in-parts headerWords (recordsStart H) (recordStart H d) (recordStart H d + recordWidth H) words bytes (omega arith) (omega (arith, within)) (omega arith)
     within room (λ i out-shared out-own. done .kept i (record { shared = out-shared; own = out-own })) are

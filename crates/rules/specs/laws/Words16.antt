@@ -9,12 +9,12 @@ use lib.Dec.{ltb, eqb}
 use borrow.Author.Tests.{ltb-true, ltb-false, eqb-false, not-true}
 use Rattle.rules.specs.Bytes.{Call16, Words16}
 use Rattle.rules.specs.Demands.{refusals}
-use Rattle.rules.specs.Hall.{Desk, Hall, State, TestedPlace, allScreens, deskOf, emptyDesk, screenIndex, usedPlaces}
+use Rattle.rules.specs.Hall.{Desk, Hall, State, TestedPlace, allScreens, deskOf, emptyDesk, mostAllScreens, screenIndex, usedPlaces}
 use Rattle.rules.specs.History.{copies}
 use Rattle.rules.specs.Steps.{Call, Collect, Drop, Question, Retire, Swap, Take, collect, decide, firstNo, inRange, perform, questions, retire}
-use Rattle.rules.specs.Table.{TableDone, decode, decodeDesk, encode, encodeDesk, hallIn, listOf, marksIn, marksOf, need, openQuestions}
+use Rattle.rules.specs.Table.{TableDone, allMarks, decode, decodeDesk, encode, encodeDesk, hallIn, listOf, marksIn, marksOf, need, openQuestions}
 use Rattle.rules.specs.Table.{openTable, openedTable, placesOf, positionWord, putRecord, recordOf, recordStart, recordWidth, screenWord, sound}
-use Rattle.rules.specs.Table.{stepTable, wordOfBits, wordsOfBits, written}
+use Rattle.rules.specs.Table.{headerWords, listPlace, markWords, stepTable, wordOfBits, wordsOfBits, written}
 use Rattle.rules.specs.laws.Collect.{collect-copies, copiesOn, retire-copies}
 use Rattle.rules.specs.laws.Decoding.{small-drop, small-take}
 use Rattle.rules.specs.laws.Effect.{in-range, retire-questions}
@@ -85,26 +85,26 @@ scanned-small : (S k : ℕ) (t : List TestedPlace) → ScanFits S k t → k ≤ 
 scanned-small S k [] p = omega arith
 scanned-small S k (q ∷ qs) p = omega arith
 
-record-words : (S : ℕ) (D : Desk) → S ≤ 64 → Desk16 S D → Words16 (encodeDesk S D)
+record-words : (S : ℕ) (D : Desk) → S ≤ mostAllScreens → Desk16 S D → Words16 (encodeDesk S D)
 unfolding encodeDesk
 record-words S D h k = at
   where
     bits : List Bool
-    bits = marksOf (D .tested) ++ replicate (128 - length (D .tested)) false
+    bits = marksOf (D .tested) ++ replicate (allMarks - length (D .tested)) false
 
     rest : Words16 (listOf D ++ replicate (2 * S - length (listOf D)) 0)
     rest =
         below-append 65536 (listOf D) (replicate (2 * S - length (listOf D)) 0)
         (words-if-no-large-copies (listOf D) (λ s l. copies-list s D ∙ k .sessions s l)) (words-zeros (2 * S - length (listOf D)))
 
-    at : Words16 (D .owed ∷ D .scanned ∷ length (D .ready) ∷ length (D .tested) ∷ length (D .waiting) ∷ (wordsOfBits 8 (marksOf (D .tested) ++ replicate (128 - length (D .tested)) false) ++ (listOf D ++ replicate (2 * S - length (listOf D)) 0)))
+    at : Words16 (D .owed ∷ D .scanned ∷ length (D .ready) ∷ length (D .tested) ∷ length (D .waiting) ∷ (wordsOfBits markWords (marksOf (D .tested) ++ replicate (allMarks - length (D .tested)) false) ++ (listOf D ++ replicate (2 * S - length (listOf D)) 0)))
     at zero = k .owed
     at (suc zero) = omega (arith, scanned-small S (D .scanned) (D .tested) (k .sound .pass))
     at (suc (suc zero)) = omega (arith, k .sound .total)
     at (suc (suc (suc zero))) = omega (arith, k .sound .total)
     at (suc (suc (suc (suc zero)))) = omega (arith, k .sound .total)
     at (suc (suc (suc (suc (suc i))))) =
-        below-append 65536 (wordsOfBits 8 bits) (listOf D ++ replicate (2 * S - length (listOf D)) 0) (mark-words 8 bits) rest i
+        below-append 65536 (wordsOfBits markWords bits) (listOf D ++ replicate (2 * S - length (listOf D)) 0) (mark-words markWords bits) rest i
 
 -- as it is read
 copies-on-places : (s : ℕ) (xs : List ℕ) (bits : List Bool) → testedCopies s (placesOf xs bits) ≡ copies s xs
@@ -119,8 +119,8 @@ no-large-sessions r h s l =
     let a = getD r 2 0 in
     let b = getD r 3 0 in
     let c = getD r 4 0 in
-    let list : List ℕ = drop 13 r in
-    let g = small-drop 13 r h in
+    let list : List ℕ = drop listPlace r in
+    let g = small-drop listPlace r h in
     omega
     (arith, no-large-copies s (take a list) l (small-take a list g), copies-on-places s (take b (drop a list)) (take b (marksIn r)), no-large-copies s (take b (drop a list)) l (small-take b (drop a list) (small-drop a list g)), no-large-copies s (take c (drop (a + b) list)) l (small-take c (drop (a + b) list) (small-drop (a + b) list g)))
 
@@ -229,11 +229,11 @@ desk-asked : (b : Bool) (m : ℕ) → cond {A = ℕ} b m 6 ≡ 0 → b ≡ true
 desk-asked b m e = holds b m 5 e .0
 
 performed-small : (t : List ℕ) (c : Call) → Words16 t → Known t → asked t c ≡ 0 → perform (hallIn t) (decode (hallIn t) t) c .session < 65536
-performed-small t (Take d c p) h k q = small-take (hallIn t .positions) (drop 3 t) (small-drop 3 t h) (p - 1)
+performed-small t (Take d c p) h k q = small-take (hallIn t .positions) (drop headerWords t) (small-drop headerWords t h) (p - 1)
 performed-small t (Drop d c) h k q =
-    small-take (allScreens (hallIn t)) (drop (hallIn t .positions) (drop 3 t)) (small-drop (hallIn t .positions) (drop 3 t) (small-drop 3 t h))
+    small-take (allScreens (hallIn t)) (drop (hallIn t .positions) (drop headerWords t)) (small-drop (hallIn t .positions) (drop headerWords t) (small-drop headerWords t h))
     (screenIndex (hallIn t) d c)
-performed-small t (Swap d p w) h k q = small-take (hallIn t .positions) (drop 3 t) (small-drop 3 t h) (p - 1)
+performed-small t (Swap d p w) h k q = small-take (hallIn t .positions) (drop headerWords t) (small-drop headerWords t h) (p - 1)
 performed-small t (Retire d) h k q = desk-read t d h k (in-range d (hallIn t .desks) (desk-asked (inRange d (hallIn t .desks)) _ q)) .owed
 performed-small t (Collect d) h k q =
     collected-small (allScreens (hallIn t)) (decode (hallIn t) t .shown) (deskOf (decode (hallIn t) t) d) (some-screens (hallIn t) (known-opens t k))
@@ -287,7 +287,7 @@ opened-words H t h o zero = omega (arith, o .desks)
 opened-words H t h o (suc zero) = omega (arith, o .screens)
 opened-words H t h o (suc (suc zero)) = omega (arith, o .positions)
 opened-words H t h o (suc (suc (suc i))) =
-    below-append 65536 (replicate (need H - 3) 0) (drop (need H) t) (words-zeros (need H - 3)) (small-drop (need H) t h) i
+    below-append 65536 (replicate (need H - headerWords) 0) (drop (need H) t) (words-zeros (need H - headerWords)) (small-drop (need H) t h) i
 
 pub open-words : (H : Hall) (t : List ℕ) → Words16 t → Words16 (openTable H t .after)
 open-words H t h = by-open (λ r. Words16 (r .after)) H t (λ n q. h) (λ q. opened-words H t h (hall-opens H t q .0))
@@ -310,4 +310,4 @@ step-length t c h = by-step (λ r. length (r .after) ≡ length t) t c refl (λ 
 pub open-length : (H : Hall) (t : List ℕ) → length (openTable H t .after) ≡ length t
 open-length H t =
     by-open (λ r. length (r .after) ≡ length t) H t (λ n q. refl)
-    (λ q. omega (arith, hall-opens H t q .1, length-append (H .desks ∷ H .screens ∷ H .positions ∷ replicate (need H - 3) 0) (drop (need H) t), length-replicate {A = ℕ} (need H - 3) 0, length-drop (need H) t))
+    (λ q. omega (arith, hall-opens H t q .1, length-append (H .desks ∷ H .screens ∷ H .positions ∷ replicate (need H - headerWords) 0) (drop (need H) t), length-replicate {A = ℕ} (need H - headerWords) 0, length-drop (need H) t))

@@ -10,9 +10,9 @@ use lib.ListN.{length, drop, length-append, length-drop}
 use lib.Seq.{drop-length, drop-drop, drop-append-seam}
 use lib.Dec.{leb, ltb}
 use borrow.Author.Tests.{ltb-false, leb-true, lt-ltb, le-ltb, le-leb, lt-leb}
-use Rattle.rules.specs.Hall.{Hall}
+use Rattle.rules.specs.Hall.{Hall, mostDesks, mostPositions, mostScreens}
 use Rattle.rules.specs.Steps.{firstNo, inRange}
-use Rattle.rules.specs.Table.{need, openQuestions, openIf, openTable}
+use Rattle.rules.specs.Table.{mostWords, need, openQuestions, openIf, openTable}
 use Rattle.rules.specs.Numbers.{Refusal, Got, got, refused, andThen, Groups, ended, stopped, endless, before, groupsIn}
 use Rattle.rules.specs.Numbers.{valueOf, numberOf, number, mostNumber}
 use Rattle.sheet_rules.specs.Sheet.{Record, recordFor, deskField, screenField}
@@ -390,15 +390,15 @@ records-read-back (entry ∷ entries) sheet at good stands =
 
 -- A header that opens has numbers in their ranges.
 record Ranges (hall : Hall) : Type 0 where
-  desks : hall .desks ≤ 16
-  screens : hall .screens ≤ 4
-  positions : hall .positions ≤ 64
+  desks : hall .desks ≤ mostDesks
+  screens : hall .screens ≤ mostScreens
+  positions : hall .positions ≤ mostPositions
 
-ranges-from : (hall : Hall) → inRange (hall .desks) 16 ≡ true → inRange (hall .screens) 4 ≡ true
-    → inRange (hall .positions) 64 ≡ true
+ranges-from : (hall : Hall) → inRange (hall .desks) mostDesks ≡ true → inRange (hall .screens) mostScreens ≡ true
+    → inRange (hall .positions) mostPositions ≡ true
     → Ranges hall
 ranges-from hall d c p =
-    record { desks = in-range (hall .desks) 16 d; screens = in-range (hall .screens) 4 c; positions = in-range (hall .positions) 64 p }
+    record { desks = in-range (hall .desks) mostDesks d; screens = in-range (hall .screens) mostScreens c; positions = in-range (hall .positions) mostPositions p }
 
 -- the opening's number, from the answers to its four questions
 abbrev fourAnswers : Bool → Bool → Bool → Bool → ℕ
@@ -407,30 +407,30 @@ fourAnswers desks screens positions long = cond desks (cond screens (cond positi
 opening-ranges : (hall : Hall) → openingNumber hall ≡ 0 → Ranges hall
 unfolding openingNumber
 opening-ranges hall e =
-    by-answers (inRange (hall .desks) 16) (inRange (hall .screens) 4) (inRange (hall .positions) 64) (leb (need hall) (length lentTable))
+    by-answers (inRange (hall .desks) mostDesks) (inRange (hall .screens) mostScreens) (inRange (hall .positions) mostPositions) (leb (need hall) (length lentTable))
     refl refl refl e
   where
-    by-answers : (desks screens positions long : Bool) → inRange (hall .desks) 16 ≡ desks
-        → inRange (hall .screens) 4 ≡ screens
-        → inRange (hall .positions) 64 ≡ positions → fourAnswers desks screens positions long ≡ 0 → Ranges hall
+    by-answers : (desks screens positions long : Bool) → inRange (hall .desks) mostDesks ≡ desks
+        → inRange (hall .screens) mostScreens ≡ screens
+        → inRange (hall .positions) mostPositions ≡ positions → fourAnswers desks screens positions long ≡ 0 → Ranges hall
     by-answers true true true long d c p q = ranges-from hall d c p
     by-answers true true false long d c p q = absurd (omega arith)
     by-answers true false positions long d c p q = absurd (omega arith)
     by-answers false screens positions long d c p q = absurd (omega arith)
 
 -- "Is the table at least the need? 4": the table that the program lends is, so its opening gives 1, 2, 3 or 0.
-need-at-most : (hall : Hall) → Ranges hall → need hall ≤ 2387
+need-at-most : (hall : Hall) → Ranges hall → need hall ≤ mostWords
 unfolding IsLe
 need-at-most hall ranges =
     grw (bound, ranges .positions, ranges .desks, ranges .screens, ranges .desks, ranges .desks, ranges .screens) (le-by-compare _ _ tt)
 
 pub opening-never-four : (hall : Hall) → openingNumber hall ≤ 3
 unfolding openingNumber lentTable
-opening-never-four hall = by-answers (inRange (hall .desks) 16) (inRange (hall .screens) 4) (inRange (hall .positions) 64) refl refl refl
+opening-never-four hall = by-answers (inRange (hall .desks) mostDesks) (inRange (hall .screens) mostScreens) (inRange (hall .positions) mostPositions) refl refl refl
   where
-    by-answers : (desks screens positions : Bool) → inRange (hall .desks) 16 ≡ desks → inRange (hall .screens) 4 ≡ screens
-        → inRange (hall .positions) 64 ≡ positions → fourAnswers desks screens positions (leb (need hall) 2387) ≤ 3
-    by-answers true true true d c p = rw (le-leb (need hall) 2387 (need-at-most hall (ranges-from hall d c p))) (omega arith)
+    by-answers : (desks screens positions : Bool) → inRange (hall .desks) mostDesks ≡ desks → inRange (hall .screens) mostScreens ≡ screens
+        → inRange (hall .positions) mostPositions ≡ positions → fourAnswers desks screens positions (leb (need hall) mostWords) ≤ 3
+    by-answers true true true d c p = rw (le-leb (need hall) mostWords (need-at-most hall (ranges-from hall d c p))) (omega arith)
     by-answers true true false d c p = omega arith
     by-answers true false positions d c p = omega arith
     by-answers false screens positions d c p = omega arith

@@ -1,17 +1,18 @@
 -- `board::Board::need` meets its contract.
-use Prim.Native.Nat.{ℕ, _+_, _*_, _≤_}
+use Prim.Native.Nat.{ℕ, _*_, _≤_}
 use native.Mathlib.Nat.{mul-le-mul}
 use native.Mathlib.Omega.{arith}
 use mathlib.Core.Path.{refl}
+use Rattle.rules.specs.Table.{widthFor}
 use Rattle.board.proofs.Board.need.Statement.{statement}
 use Rattle.board.proofs.Board.need.Tie as tie
 
 -- 16-bit numbers: the screens and the records of any hall fit
-screens-fit : (p c : ℕ) → p ≤ 65535 → c ≤ 65535 → p * c ≤ 4294836225
+screens-fit : (p c : ℕ) → p ≤ 65535 → c ≤ 65535 → p * c ≤ 65535 * 65535
 screens-fit p c hp hc = mul-le-mul hp hc
 
-records-fit : (p c : ℕ) → p ≤ 65535 → c ≤ 65535 → p * (13 + 2 * (p * c)) ≤ 562924184862705
-records-fit p c hp hc = let s = screens-fit p c hp hc in let h : 13 + 2 * (p * c) ≤ 8589672463 = omega arith in mul-le-mul hp h
+records-fit : (p c : ℕ) → p ≤ 65535 → c ≤ 65535 → p * widthFor (p * c) ≤ 65535 * widthFor (65535 * 65535)
+records-fit p c hp hc = let s = screens-fit p c hp hc in let h : widthFor (p * c) ≤ widthFor (65535 * 65535) = omega arith in mul-le-mul hp h
 
 mul-s : tie.Need-mul-s
 mul-s c = let s = screens-fit (c .args .desks) (c .args .screens) (omega arith) (omega arith) in let r = records-fit (c .args .desks) (c .args .screens) (omega arith) (omega arith) in omega arith
