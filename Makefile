@@ -9,7 +9,8 @@
 #   make gallery draws the example sheets anew, in docs/gallery/
 #   make selftest  shows that the comparisons catch 31 wrong boards and 34 wrong sheet programs (minutes)
 #   make soak      compares with new seeds for a time: MINUTES=10, or 1
-.PHONY: run host test lib bench proved edits gallery selftest soak target/bin/day_sheet
+#   make fuzz      fuzzes the six calls, then the sheet program, each for half of MINUTES; installs clang if it is missing
+.PHONY: run host test lib bench proved edits gallery selftest soak fuzz target/bin/day_sheet
 
 CARGO = cargo run --quiet --offline --release --manifest-path
 export CARGO_TARGET_DIR = $(CURDIR)/target/outside
@@ -65,3 +66,6 @@ selftest:
 
 soak: lib target/bin/day_sheet
 	@tests/soak.sh build target/bin/day_sheet $(MINUTES)
+
+fuzz: lib target/bin/day_sheet
+	@tests/fuzz/run.sh build target/bin/day_sheet $(MINUTES)
