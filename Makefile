@@ -8,9 +8,10 @@
 #   make edits   the wrong programs and rules in edits/, each refused at its place
 #   make gallery draws the example sheets anew, in docs/gallery/
 #   make selftest  shows that the comparisons catch 31 wrong boards and 34 wrong sheet programs (minutes)
-#   make soak      compares with new seeds for a time: MINUTES=10, or 1
+#   make soak      the comparisons with new seeds, for MINUTES=10 (or 1)
 #   make fuzz      fuzzes the six calls, then the sheet program, each for half of MINUTES; installs clang if it is missing
-.PHONY: run host test lib bench proved edits gallery selftest soak fuzz target/bin/day_sheet
+#   make fuzz-selftest  shows that the fuzzing catches wrong boards, stray accesses and wrong programs (minutes)
+.PHONY: run host test lib bench proved edits gallery selftest soak fuzz fuzz-selftest target/bin/day_sheet
 
 CARGO = cargo run --quiet --offline --release --manifest-path
 export CARGO_TARGET_DIR = $(CURDIR)/target/outside
@@ -69,3 +70,6 @@ soak: lib target/bin/day_sheet
 
 fuzz: lib target/bin/day_sheet
 	@tests/fuzz/run.sh build target/bin/day_sheet $(MINUTES)
+
+fuzz-selftest:
+	@tests/fuzz/selftest.sh
