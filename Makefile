@@ -8,12 +8,16 @@
 #   make edits   the wrong programs and rules in edits/, each refused at its place
 #   make gallery draws the example sheets anew, in docs/gallery/
 #   make selftest  shows that the comparisons catch 31 wrong boards and 34 wrong sheet programs (minutes)
-.PHONY: run host test lib bench proved edits gallery selftest target/bin/day_sheet
+#   make soak      the comparisons with new seeds, for MINUTES=10 (or 1)
+#   make fuzz      fuzzes the six calls, then the sheet program, each for half of MINUTES; installs clang if it is missing
+#   make fuzz-selftest  shows that the fuzzing catches wrong boards, stray accesses and wrong programs (minutes)
+.PHONY: run host test lib bench proved edits gallery selftest soak fuzz fuzz-selftest target/bin/day_sheet
 
 CARGO = cargo run --quiet --offline --release --manifest-path
 export CARGO_TARGET_DIR = $(CURDIR)/target/outside
 export SESSION_BOARD_LIB = $(CURDIR)/build
 SHEET = quiet_shift
+MINUTES = 1
 
 run: target/bin/day_sheet
 	@mkdir -p build
@@ -60,3 +64,12 @@ gallery: target/bin/day_sheet
 selftest:
 	@tests/compare/selftest.sh
 	@tests/sheets/selftest.sh
+
+soak: lib target/bin/day_sheet
+	@tests/soak.sh build target/bin/day_sheet $(MINUTES)
+
+fuzz: lib target/bin/day_sheet
+	@tests/fuzz/run.sh build target/bin/day_sheet $(MINUTES)
+
+fuzz-selftest:
+	@tests/fuzz/selftest.sh

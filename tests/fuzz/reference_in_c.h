@@ -1,0 +1,15 @@
+/* The reference, as the harnesses call it: reference_in_c/src/lib.rs. */
+#ifndef REFERENCE_IN_C_H
+#define REFERENCE_IN_C_H
+
+#include <stddef.h>
+#include <stdint.h>
+
+/* Functions 0 to 5: open, take, drop, swap, retire, collect. */
+uint32_t reference_call(uint8_t function, const uint16_t numbers[3],
+                        uint8_t *table, size_t bytes);
+
+/* The lines stay until the next sheet. */
+const uint8_t *reference_lines(const uint8_t *sheet, size_t bytes, size_t *length);
+
+#endif

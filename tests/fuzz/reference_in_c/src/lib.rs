@@ -1,0 +1,49 @@
+//! The reference under C names of its own, so that a harness in C can send the
+//! same call to it and to the archive. The header is ../reference_in_c.h.
+
+use reference::{answer, sheet};
+use std::slice;
+
+/// A call: 0 to 5 are open, take, drop, swap, retire and collect, with the
+/// numbers that they have, in the order of the header.
+///
+/// # Safety
+/// `table` points to `bytes` bytes, or `bytes` is 0.
+#[no_mangle]
+pub unsafe extern "C" fn reference_call(
+    function: u8,
+    numbers: *const [u16; 3],
+    table: *mut u8,
+    bytes: usize,
+) -> u32 {
+    let [a, b, c] = *numbers;
+    let table = if bytes == 0 { &mut [] } else { slice::from_raw_parts_mut(table, bytes) };
+    answer(match function {
+        0 => reference::open(a, b, c, table),
+        1 => reference::take(a, b, c, table),
+        2 => reference::drop(a, b, table),
+        3 => reference::swap(a, b, c, table),
+        4 => reference::retire(a, table),
+        5 => reference::collect(a, table),
+        _ => unreachable!("six functions"),
+    })
+}
+
+/// The lines of a sheet, in memory of this library that the next sheet takes
+/// again; their length goes to `length`.
+///
+/// # Safety
+/// `sheet` points to `bytes` bytes; one thread calls this.
+#[no_mangle]
+pub unsafe extern "C" fn reference_lines(
+    sheet: *const u8,
+    bytes: usize,
+    length: *mut usize,
+) -> *const u8 {
+    static mut LINES: Vec<u8> = Vec::new();
+    let sheet = if bytes == 0 { &[] } else { slice::from_raw_parts(sheet, bytes) };
+    let lines = &mut *(&raw mut LINES);
+    *lines = sheet::printed(sheet);
+    *length = lines.len();
+    lines.as_ptr()
+}

@@ -1,0 +1,53 @@
+#!/bin/sh
+# Fuzzes the six calls, then the sheet program, each for half of the time:
+#
+#     tests/fuzz/run.sh LIBDIR PROGRAM MINUTES
+#
+# LIBDIR holds the archive libhost.a; PROGRAM reads a day sheet and prints it.
+# All goes to target/fuzz beside include/, or to $FUZZ: the inputs worth keeping
+# (the next run begins with them), the logs, and in found/ an input that failed.
+set -eu
+
+usage() {
+    echo "fuzz: $1"
+    echo "usage: $0 LIBDIR PROGRAM MINUTES"
+    exit 2
+}
+
+[ $# -eq 3 ] || usage "three arguments are needed"
+[ -f "$1/libhost.a" ] || usage "there is no $1/libhost.a"
+[ -f "$2" ] && [ -x "$2" ] || usage "$2 is no program"
+SESSION_BOARD_LIB=$(cd "$1" && pwd)
+DAY_SHEET=$(cd "$(dirname "$2")" && pwd)/$(basename "$2")
+seconds=$(($3 * 30))
+fuzz=$(cd "$(dirname "$0")" && pwd)
+out=${FUZZ:-$fuzz/../../target/fuzz}
+mkdir -p "$out"
+out=$(cd "$out" && pwd)
+export SESSION_BOARD_LIB DAY_SHEET
+
+"$fuzz/build.sh" "$SESSION_BOARD_LIB" "$out"
+CARGO_TARGET_DIR=$out/seeds cargo build --quiet --offline --release \
+    --manifest-path "$fuzz/seeds/Cargo.toml"
+
+# fuzz NAME MOST_BYTES: the harness fuzz_NAME, begun with the seeds of its own.
+fuzz() {
+    mkdir -p "$out/found" "$out/$1" "$out/$1_seeds"
+    "$out/seeds/release/$1_seeds" "$out/$1_seeds" 2000
+    log=$out/$1.log
+    if ! "$out/fuzz_$1" -max_total_time="$seconds" -max_len="$2" -timeout=60 -print_final_stats=1 \
+        -artifact_prefix="$out/found/$1-" "$out/$1" "$out/$1_seeds" >"$log" 2>&1; then
+        grep -a -v '^#' "$log" # all but the fuzzer's own progress
+        input=$(sed -n 's/.*Test unit written to //p' "$log")
+        echo "fuzz: failed; again: DAY_SHEET=$DAY_SHEET $out/fuzz_$1 $input"
+        exit 1
+    fi
+    sed -n -e 's/^stat::number_of_executed_units: */executions: /p' \
+        -e 's/^stat::average_exec_per_sec: */executions a second: /p' \
+        -e '/^reply/,$p' "$log"
+    echo
+}
+
+# A large table and some hundred calls; somewhat more than the longest sheet.
+fuzz calls 8192
+fuzz sheets 70000

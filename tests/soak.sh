@@ -1,0 +1,66 @@
+#!/bin/sh
+# Compares the board and the sheet program with those in Rust for a given time,
+# in rounds, each with a seed that no round had before; stops at the first
+# difference with the line that runs it again:
+#
+#     tests/soak.sh LIBDIR PROGRAM MINUTES [FIRST_SEED]
+#
+# LIBDIR holds the archive libhost.a; PROGRAM reads a day sheet and prints it.
+# No round begins after the time is over. What is built goes to target/ beside
+# include/, or to $TARGET.
+set -eu
+
+# About ten seconds each, and far more than it takes to see every reply.
+calls=20000000
+sheets=8000
+
+usage() {
+    echo "soak: $1"
+    echo "usage: $0 LIBDIR PROGRAM MINUTES [FIRST_SEED]"
+    exit 2
+}
+
+[ $# -ge 3 ] || usage "three arguments are needed"
+[ -f "$1/libhost.a" ] || usage "there is no $1/libhost.a"
+[ -f "$2" ] && [ -x "$2" ] || usage "$2 is no program"
+SESSION_BOARD_LIB=$(cd "$1" && pwd)
+program=$(cd "$(dirname "$2")" && pwd)/$(basename "$2")
+end=$(($(date +%s) + $3 * 60))
+first=${4:-$(date +%s)} # the time of day: another one whenever it is run
+root=$(cd "$(dirname "$0")/.." && pwd)
+CARGO_TARGET_DIR=${TARGET:-$root/target/outside}
+export SESSION_BOARD_LIB CARGO_TARGET_DIR
+built=$CARGO_TARGET_DIR/release
+log=$CARGO_TARGET_DIR/soak.log
+
+for crate in compare sheets reference; do
+    cargo build --quiet --offline --release --manifest-path "$root/tests/$crate/Cargo.toml"
+done
+
+# round COMMAND...: its last line, or, on failure, all lines, with the one that
+# runs it again among them.
+round() {
+    if ! "$@" >"$log" 2>&1; then
+        cat "$log"
+        echo "soak: stopped at seed $seed; $all_calls calls and $all_sheets sheets before it had 0 differences"
+        echo "soak: compare and sheets, to run it again, are in $built"
+        exit 1
+    fi
+    tail -n 1 "$log"
+}
+
+# compared NAME: how many the last round compared.
+compared() {
+    sed -n "s/^$1: \([0-9]*\) .*/\1/p" "$log" | tail -n 1
+}
+
+seed=$first all_calls=0 all_sheets=0
+while [ "$(date +%s)" -lt "$end" ]; do
+    echo "seed $seed"
+    round "$built/compare" --seed "$seed" --calls "$calls"
+    all_calls=$((all_calls + $(compared compare)))
+    round "$built/sheets" "$program" "$built/day_sheet_reference" --seed "$seed" --count "$sheets"
+    all_sheets=$((all_sheets + $(compared sheets)))
+    seed=$((seed + 1))
+done
+echo "soak: seeds $first to $((seed - 1)), $all_calls calls, $all_sheets sheets, 0 differences"
