@@ -8,20 +8,13 @@
 # What is built goes to target/ beside include/, or to $TARGET.
 set -eu
 
-usage() {
-    echo "run: $1"
-    echo "usage: $0 LIBDIR PROGRAM (LIBDIR with libhost.a, PROGRAM a day sheet program)"
-    exit 2
-}
-
-[ $# -eq 2 ] || usage "two arguments are needed"
-[ -f "$1/libhost.a" ] || usage "there is no $1/libhost.a"
-[ -f "$2" ] && [ -x "$2" ] || usage "$2 is no program"
-SESSION_BOARD_LIB=$(cd "$1" && pwd)
-program=$(cd "$(dirname "$2")" && pwd)/$(basename "$2")
 root=$(cd "$(dirname "$0")/.." && pwd)
+name=run words="LIBDIR PROGRAM (LIBDIR with libhost.a, PROGRAM a day sheet program)"
+. "$root/tests/arguments.sh"
+[ $# -eq 2 ] || usage "two arguments are needed"
+places "$1" "$2"
 CARGO_TARGET_DIR=${TARGET:-$root/target/outside}
-export SESSION_BOARD_LIB CARGO_TARGET_DIR
+export CARGO_TARGET_DIR
 mkdir -p "$CARGO_TARGET_DIR"
 log=$CARGO_TARGET_DIR/run.log
 warnings="-std=c11 -Wall -Wextra -Wpedantic -Werror -O2"

@@ -14,22 +14,15 @@ set -eu
 calls=20000000
 sheets=8000
 
-usage() {
-    echo "soak: $1"
-    echo "usage: $0 LIBDIR PROGRAM MINUTES [FIRST_SEED]"
-    exit 2
-}
-
+root=$(cd "$(dirname "$0")/.." && pwd)
+name=soak words="LIBDIR PROGRAM MINUTES [FIRST_SEED]"
+. "$root/tests/arguments.sh"
 [ $# -ge 3 ] || usage "three arguments are needed"
-[ -f "$1/libhost.a" ] || usage "there is no $1/libhost.a"
-[ -f "$2" ] && [ -x "$2" ] || usage "$2 is no program"
-SESSION_BOARD_LIB=$(cd "$1" && pwd)
-program=$(cd "$(dirname "$2")" && pwd)/$(basename "$2")
+places "$1" "$2"
 end=$(($(date +%s) + $3 * 60))
 first=${4:-$(date +%s)} # the time of day: another one whenever it is run
-root=$(cd "$(dirname "$0")/.." && pwd)
 CARGO_TARGET_DIR=${TARGET:-$root/target/outside}
-export SESSION_BOARD_LIB CARGO_TARGET_DIR
+export CARGO_TARGET_DIR
 built=$CARGO_TARGET_DIR/release
 log=$CARGO_TARGET_DIR/soak.log
 

@@ -8,23 +8,17 @@
 # (the next run begins with them), the logs, and in found/ an input that failed.
 set -eu
 
-usage() {
-    echo "fuzz: $1"
-    echo "usage: $0 LIBDIR PROGRAM MINUTES"
-    exit 2
-}
-
-[ $# -eq 3 ] || usage "three arguments are needed"
-[ -f "$1/libhost.a" ] || usage "there is no $1/libhost.a"
-[ -f "$2" ] && [ -x "$2" ] || usage "$2 is no program"
-SESSION_BOARD_LIB=$(cd "$1" && pwd)
-DAY_SHEET=$(cd "$(dirname "$2")" && pwd)/$(basename "$2")
-seconds=$(($3 * 30))
 fuzz=$(cd "$(dirname "$0")" && pwd)
+name=fuzz words="LIBDIR PROGRAM MINUTES"
+. "$fuzz/../arguments.sh"
+[ $# -eq 3 ] || usage "three arguments are needed"
+places "$1" "$2"
+DAY_SHEET=$program
+seconds=$(($3 * 30))
 out=${FUZZ:-$fuzz/../../target/fuzz}
 mkdir -p "$out"
 out=$(cd "$out" && pwd)
-export SESSION_BOARD_LIB DAY_SHEET
+export DAY_SHEET
 
 "$fuzz/build.sh" "$SESSION_BOARD_LIB" "$out"
 CARGO_TARGET_DIR=$out/seeds cargo build --quiet --offline --release \

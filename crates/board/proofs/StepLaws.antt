@@ -5,19 +5,19 @@ use native.Mathlib.Omega.{arith}
 use mathlib.Core.Bool.{Bool, true, false, not, cond}
 use mathlib.Core.List.{List, [], _∷_, _++_}
 use mathlib.Core.Path.{_≡_, refl, sym, ap, ap₂, _∙_}
-use lib.Dec.{eqb, leb}
-use lib.ListN.{length, getD, take, drop, set, replicate, length-drop}
-use lib.Seq.{getD-take, getD-drop, length-take-le, drop-drop}
-use borrow.Author.Tests.{eq-eqb, ne-eqb, le-leb, lt-leb}
-use Rattle.rules.specs.Hall.{Desk, Hall, allScreens, deskOf, mostAllScreens, screenIndex}
+use lib.Dec.{eqb}
+use lib.ListN.{length, getD, take, drop, set, length-drop}
+use lib.Seq.{getD-take, getD-drop, length-take-le}
+use borrow.Author.Tests.{eq-eqb, ne-eqb}
+use Rattle.rules.specs.Hall.{Desk, allScreens, deskOf, mostAllScreens, screenIndex}
 use Rattle.rules.specs.Steps.{Collect, Collected, Drop, Retire, Swap, Take, collect, collectSeeing, firstNo, inRange, retire, retireQuestions}
-use Rattle.rules.specs.Table.{decode, decodeDesk, encodeDesk, hallIn, need, openTable, positionWord, recordOf, screenWord, sound, stepTable}
+use Rattle.rules.specs.Table.{decode, decodeDesk, encodeDesk, hallIn, positionWord, recordOf, screenWord, sound, stepTable}
 use Rattle.rules.specs.Table.{headerWords, widthFor}
 use Rattle.rules.specs.laws.Decoding.{small-drop, small-take}
 use Rattle.rules.specs.laws.Effect.{in-range}
-use Rattle.rules.specs.laws.TableSteps.{accepted-open, accepted-step, asked, asked-no, asked-yes, collect-seeing, desk-word, held-word, owed-word, refused-open, refused-step, shown-at, shown-word}
+use Rattle.rules.specs.laws.TableSteps.{accepted-step, asked, asked-no, asked-yes, collect-seeing, desk-word, held-word, owed-word, refused-step, shown-at, shown-word}
 use Rattle.reply.specs.declared.Reply.{Reply}
-use Rattle.reply.specs.declared.Reply.the-variants.{Accepted, BadDesks, BadScreens, BadPositions, TooShort, NoScreen, NoPosition, ScreenInUse, PositionEmpty, ScreenEmpty, DeskOwes}
+use Rattle.reply.specs.declared.Reply.the-variants.{Accepted, NoScreen, NoPosition, ScreenInUse, PositionEmpty, ScreenEmpty, DeskOwes}
 use Rattle.reply.specs.Answer.{answerOf, told}
 use Rattle.marks.proofs.Scan.{rest, ended}
 use Rattle.desk.specs.Record.{Encoded, Retired}

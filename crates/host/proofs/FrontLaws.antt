@@ -10,7 +10,7 @@ use Rattle.rules.specs.Bytes.{wordsOfBytes}
 use Rattle.rules.specs.laws.Tables.{Opens}
 use Rattle.rules.specs.laws.Prefix.{need-at-most}
 use Rattle.host.specs.Heard.{Front}
-use Rattle.host.proofs.WordLaws.{words-length}
+use Rattle.rules.specs.laws.Bytes.{words-length}
 
 header-alone : (H : Hall) → (Opens H → ⊥) → Front H headerWords
 header-alone H none = record { header = omega arith; most = omega arith; enough = λ o. absurd (none o) }

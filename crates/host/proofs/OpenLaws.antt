@@ -16,9 +16,8 @@ use Rattle.rules.specs.laws.TableSteps.{accepted-open}
 use Rattle.reply.specs.declared.Reply.{Reply}
 use Rattle.reply.specs.Answer.{answerOf}
 use Rattle.board.proofs.OpenLaws.{is-opened, not-opened}
-use Rattle.rules.specs.laws.Bytes.{laid-back}
+use Rattle.rules.specs.laws.Bytes.{laid-back, words-length}
 use Rattle.host.specs.Heard.{heard}
-use Rattle.host.proofs.WordLaws.{words-length}
 
 -- the header's three words
 abbrev pub header : Hall → List ℕ

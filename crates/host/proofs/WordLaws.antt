@@ -8,6 +8,8 @@ use native.Mathlib.Omega.{arith}
 use lib.ListN.{length, getD, set, take, drop, length-append}
 use lib.Seq.{take-suc, take-suc-set, length-take-le, drop-cons, set-at}
 use Rattle.rules.specs.Bytes.{wordsOfBytes, bytesOfWords, laidOver}
+use Rattle.rules.specs.laws.Bytes.{bytes-length, words-length}
+use Rattle.rules.specs.laws.Front.{bytes-append}
 
 -- the k-th word is made of the bytes 2k and 2k + 1
 pub word-at : (s : List ℕ) (k : ℕ) → k + k + 1 < length s → getD (wordsOfBytes s) k 0 ≡ getD s (k + k) 0 + 256 * getD s (k + k + 1) 0
@@ -19,20 +21,6 @@ word-at (a ∷ b ∷ s) (suc k) h =
     let e : suc k + suc k ≡ suc (suc (k + k)) = omega arith in
     let e′ : suc k + suc k + 1 ≡ suc (suc (k + k + 1)) = omega arith in
     rw (e′, e) (word-at s k h′)
-
-pub words-length : (s : List ℕ)
-    → (length (wordsOfBytes s) + length (wordsOfBytes s) ≤ length s) × (length s ≤ length (wordsOfBytes s) + length (wordsOfBytes s) + 1)
-words-length [] = (omega arith, omega arith)
-words-length (a ∷ []) = (omega arith, omega arith)
-words-length (a ∷ b ∷ s) = (omega (arith, words-length s), omega (arith, words-length s))
-
-pub bytes-length : (ws : List ℕ) → length (bytesOfWords ws) ≡ length ws + length ws
-bytes-length [] = refl
-bytes-length (w ∷ ws) = omega (arith, bytes-length ws)
-
-pub bytes-append : (xs ys : List ℕ) → bytesOfWords (xs ++ ys) ≡ bytesOfWords xs ++ bytesOfWords ys
-bytes-append [] ys = refl
-bytes-append (x ∷ xs) ys = ap (λ (l : List ℕ). (x % 256) ∷ (x / 256 % 256) ∷ l) (bytes-append xs ys)
 
 -- one more word is read
 pub read-more : (w ws : List ℕ) (i v : ℕ) → i < length w → i < length ws → v ≡ getD ws i 0 → take i w ≡ take i ws

@@ -2,11 +2,11 @@
 use Prim.Native.Nat.{ℕ, _-_, _≤_}
 use native.Mathlib.Omega.{arith}
 use mathlib.Core.List.{_++_}
-use mathlib.Core.Path.{_≡_, refl, sym, _∙_}
+use mathlib.Core.Path.{_≡_, refl, _∙_}
 use lib.ListN.{length, take, drop, length-set}
 use borrow.Author.Needs.{needs}
 use borrow.Rule.Slice.PartMut.{same-len-mid}
-use Rattle.rules.specs.Hall.{Hall, hallOf}
+use Rattle.rules.specs.Hall.{hallOf}
 use Rattle.rules.specs.Steps.{firstNo}
 use Rattle.rules.specs.Table.{headerWords, need, openQuestions}
 use Rattle.rules.specs.laws.Tables.{hall-opens}

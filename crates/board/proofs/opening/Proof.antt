@@ -1,7 +1,6 @@
 -- `board::opening` meets its contract.
 use mathlib.Core.Bool.{true}
 use mathlib.Core.Path.{_≡_, refl}
-use native.Mathlib.Omega.{arith}
 use borrow.Author.Needs.{needs}
 use Rattle.rules.specs.Hall.{hallOf, mostDesks, mostPositions, mostScreens}
 use Rattle.rules.specs.Steps.{inRange}

@@ -3,7 +3,6 @@ use Prim.Native.Nat.{ℕ}
 use borrow.Author.Needs.{needs}
 use mathlib.Core.Path.{_≡_, ap, sym, _∙_}
 use mathlib.Core.List.{List}
-use Rattle.rules.specs.Steps.{Call as Asked}
 use Rattle.rules.specs.Table.{TableDone, stepTable}
 use Rattle.board.specs.declared.Call.{Call}
 use Rattle.board.specs.Asked.{callOf}

@@ -4,7 +4,8 @@ use native.Mathlib.Omega.{arith}
 use borrow.Author.Needs.{needs}
 use lib.ListN.{length, take, length-set}
 use Rattle.rules.specs.Bytes.{wordsOfBytes}
-use Rattle.host.proofs.WordLaws.{word-at2, words-length, read-more}
+use Rattle.rules.specs.laws.Bytes.{words-length}
+use Rattle.host.proofs.WordLaws.{word-at2, read-more}
 use Rattle.host.proofs.decode.Statement.{statement}
 use Rattle.host.proofs.decode.Tie as tie
 

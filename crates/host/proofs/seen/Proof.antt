@@ -5,7 +5,7 @@ use mathlib.Core.Path.{refl, sym, _∙_}
 use lib.ListN.{length}
 use lib.Seq.{take-all}
 use Rattle.rules.specs.Bytes.{wordsOfBytes}
-use Rattle.host.proofs.WordLaws.{words-length}
+use Rattle.rules.specs.laws.Bytes.{words-length}
 use Rattle.host.proofs.seen.Statement.{statement}
 use Rattle.host.proofs.seen.Tie as tie
 

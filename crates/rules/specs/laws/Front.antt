@@ -6,12 +6,12 @@ use mathlib.Core.Path.{subst₂, _≡_, refl, sym, ap, _∙_, subst}
 use mathlib.Core.List.{append-nil, List, [], _∷_, _++_, append-assoc}
 use lib.ListN.{length, take, drop, length-append, drop-of-length-le, take-append-drop}
 use lib.Seq.{drop-at, length-take-le, take-all, getD-take}
-use Rattle.rules.specs.Bytes.{IsBytes, bytesOfWords, laidOver, onBytes, openBytes, reply, stepBytes, wordsOfBytes}
+use Rattle.rules.specs.Bytes.{IsBytes, bytesOfWords, laidOver, onBytes, reply, stepBytes, wordsOfBytes}
 use Rattle.rules.specs.Hall.{Hall}
 use Rattle.rules.specs.Steps.{Call}
-use Rattle.rules.specs.Table.{TableDone, hallIn, headerWords, need, openTable, stepTable}
+use Rattle.rules.specs.Table.{TableDone, hallIn, headerWords, need, stepTable}
 use Rattle.rules.specs.laws.Bytes.{bytes-length, laid-back}
-use Rattle.rules.specs.laws.Prefix.{open-append, step-append}
+use Rattle.rules.specs.laws.Prefix.{step-append}
 use Rattle.rules.specs.laws.Tables.{Opens}
 
 -- ---- On words.
@@ -44,14 +44,6 @@ module _ (t : List ℕ) (m : ℕ) where
     where
       room : length (take m t) ≡ m → need (hallIn t) ≤ m → need (hallIn (take m t)) ≤ length (take m t)
       room long h = subst (λ (H : Hall). need H ≤ length (take m t)) (sym (hall-front three)) (omega (arith, long))
-
-  pub open-front : (H : Hall) → (Opens H → need H ≤ m)
-      → openTable H t ≡ record { answer = openTable H (take m t) .answer; after = openTable H (take m t) .after ++ drop m t }
-  open-front H enough =
-      ap (openTable H) (sym whole)
-      ∙ front-or-all (λ a b. openTable H (a ++ b) ≡ record { answer = openTable H a .answer; after = openTable H a .after ++ b })
-      (ap (openTable H) (append-nil t) ∙ (λ i. record { answer = openTable H t .answer; after = sym (append-nil (openTable H t .after)) i }))
-      (λ long. open-append (take m t) (drop m t) H (λ o. omega (arith, long, enough o)))
 
 -- ---- On bytes.
 pub bytes-append : (xs ys : List ℕ) → bytesOfWords (xs ++ ys) ≡ bytesOfWords xs ++ bytesOfWords ys
@@ -104,10 +96,3 @@ module _ (m : ℕ) (bytes : List ℕ) (are : IsBytes bytes) (told : TableDone) (
   step-on-front three enough c e =
       on-front m bytes told (stepTable (wordsOfBytes bytes) c) are same
       (step-front (wordsOfBytes bytes) m three enough c ∙ ap (λ (r : TableDone). record { answer = r .answer; after = r .after ++ drop m (wordsOfBytes bytes) }) (sym e))
-
-  pub open-on-front : (H : Hall) → (Opens H → need H ≤ m) → told ≡ openTable H (take m (wordsOfBytes bytes))
-      → record { reply = reply (told .answer); after = laidOver (told .after) bytes } ≡ openBytes H bytes
-  unfolding openBytes
-  open-on-front H enough e =
-      on-front m bytes told (openTable H (wordsOfBytes bytes)) are same
-      (open-front (wordsOfBytes bytes) m H enough ∙ ap (λ (r : TableDone). record { answer = r .answer; after = r .after ++ drop m (wordsOfBytes bytes) }) (sym e))
