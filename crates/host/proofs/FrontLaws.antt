@@ -7,12 +7,12 @@ use lib.ListN.{length, getD}
 use Rattle.rules.specs.Hall.{Hall, hallOf, mostDesks, mostScreens, mostPositions}
 use Rattle.rules.specs.Table.{hallIn, headerWords, need}
 use Rattle.rules.specs.Bytes.{wordsOfBytes}
-use Rattle.rules.specs.laws.Tables.{Opens}
+use Rattle.rules.specs.laws.Tables.{Fits}
 use Rattle.rules.specs.laws.Prefix.{need-at-most}
 use Rattle.host.specs.Heard.{Front}
 use Rattle.rules.specs.laws.Bytes.{words-length}
 
-header-alone : (H : Hall) → (Opens H → ⊥) → Front H headerWords
+header-alone : (H : Hall) → (Fits H → ⊥) → Front H headerWords
 header-alone H none = record { header = omega arith; most = omega arith; enough = λ o. absurd (none o) }
 
 -- by the hall's numbers: one is out of range, or all are in it
@@ -29,7 +29,7 @@ module _ (P c L : ℕ) where
   pub all-in : (m : ℕ) → m ≡ need (hallOf P c L) → 1 ≤ P → P ≤ mostDesks → 1 ≤ c → c ≤ mostScreens → 1 ≤ L → L ≤ mostPositions
       → Front (hallOf P c L) m
   all-in m e p0 p1 c0 c1 l0 l1 =
-      let o : Opens (hallOf P c L) = record { desks = (p0, p1); screens = (c0, c1); positions = (l0, l1) } in
+      let o : Fits (hallOf P c L) = record { desks = (p0, p1); screens = (c0, c1); positions = (l0, l1) } in
       record { header = omega arith; most = omega (arith, need-at-most (hallOf P c L) o); enough = λ q. omega arith }
 
 -- a table of fewer than three words tells no hall

@@ -7,7 +7,7 @@ use Rattle.rules.specs.Hall.{Hall}
 use Rattle.rules.specs.Steps.{Call}
 use Rattle.rules.specs.Table.{headerWords, mostWords, need, stepTable}
 use Rattle.rules.specs.Bytes.{BytesDone, laidOver, reply, wordsOfBytes}
-use Rattle.rules.specs.laws.Tables.{Opens}
+use Rattle.rules.specs.laws.Tables.{Fits}
 
 -- the number that answers a call, and the bytes that it leaves
 abbrev pub heard : ℕ → List ℕ → BytesDone
@@ -17,7 +17,7 @@ heard reply bytes = record { reply = reply; after = bytes }
 pub record Front (hall : Hall) (m : ℕ) : Type 0 where
   pub header : headerWords ≤ m
   pub most : m ≤ mostWords
-  pub enough : Opens hall → need hall ≤ m
+  pub enough : Fits hall → need hall ≤ m
 
 -- of the first m words n are there: m, or all that the table has
 pub record Seen (bytes : List ℕ) (m n : ℕ) : Type 0 where

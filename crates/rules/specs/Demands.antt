@@ -6,12 +6,12 @@ use mathlib.Core.List.{List, [], _∷_}
 use lib.ListN.{length, getD, take}
 use lib.Dec.{ltb, eqb}
 use Rattle.rules.specs.Bytes.{stepBytes, wordsOfBytes}
-use Rattle.rules.specs.Hall.{Hall, allScreens}
-use Rattle.rules.specs.History.{Deed, Disciplined, DroppedBefore, Linked, Unshown, collectsOf, copies, deedAt, handBacks, handBacksOf}
-use Rattle.rules.specs.History.{handsBack, lacksRoom, retirements, retirementsOf, retires}
+use Rattle.rules.specs.Hall.{Hall, Limits, allScreens}
+use Rattle.rules.specs.History.{Deed, Disciplined, DroppedBefore, Linked, Unshown, collectsOf, copies, deedAt, handBacks, handBacksOf, handsBack}
+use Rattle.rules.specs.History.{lacksRoom, retirements, retirementsOf, retires}
 use Rattle.rules.specs.Steps.{Call, Collect, Drop, Event, Retire, Swap, Take, inRange, isSession}
-use Rattle.rules.specs.Table.{hallIn, listIn, listPlace, need, openTable, positionWord, recordOf, recordStart, recordWidth, screenWord, sound}
-use Rattle.rules.specs.Table.{stepTable, usedIn, waitingPlace}
+use Rattle.rules.specs.Table.{hallIn, listIn, listPlace, need, openTable, positionWord, recordOf, recordStart, recordWidth, screenWord, sound, stepTable}
+use Rattle.rules.specs.Table.{usedIn, waitingPlace}
 use Rattle.rules.specs.laws.Links.{link}
 
 -- ---- Demand 1. "an accepted call writes only the words its step names"
@@ -40,36 +40,36 @@ refusals (Retire d) = 5 ∷ 6 ∷ 13 ∷ 14 ∷ []
 refusals (Collect d) = 5 ∷ 6 ∷ []
 
 -- What a step may do to a table, of which it is only known that its words are 16 bits wide.
-pub record Demand1 (table : List ℕ) (call : Call) : Type 0 where
+pub record Demand1 (limits : Limits) (table : List ℕ) (call : Call) : Type 0 where
   -- "A refused call gives its number from document 01 and session 0, and every lent word .. keeps its content."
-  pub refused : (n : ℕ) → stepTable table call .answer .number ≡ suc n
-      → (1 ≤ copies (suc n) (refusals call)) × (stepTable table call .answer .session ≡ 0) × (stepTable table call .after ≡ table)
+  pub refused : (n : ℕ) → stepTable limits table call .answer .number ≡ suc n
+      → (1 ≤ copies (suc n) (refusals call)) × (stepTable limits table call .answer .session ≡ 0) × (stepTable limits table call .after ≡ table)
   -- "an accepted call writes only the words its step names"
-  pub accepted : stepTable table call .answer .number ≡ 0 → (i : ℕ) → names table call i ≡ false
-      → getD (stepTable table call .after) i 0 ≡ getD table i 0
-  pub sameLength : length (stepTable table call .after) ≡ length table
+  pub accepted : stepTable limits table call .answer .number ≡ 0 → (i : ℕ) → names table call i ≡ false
+      → getD (stepTable limits table call .after) i 0 ≡ getD table i 0
+  pub sameLength : length (stepTable limits table call .after) ≡ length table
   -- a sound table stays sound
-  pub staysSound : sound table ≡ true → sound (stepTable table call .after) ≡ true
+  pub staysSound : sound limits table ≡ true → sound limits (stepTable limits table call .after) ≡ true
 
 -- What an opening may do: "Words past the need are neither read nor written."
-pub record OpeningDemand1 (hall : Hall) (table : List ℕ) : Type 0 where
-  pub refused : (n : ℕ) → openTable hall table .answer .number ≡ suc n
-      → (1 ≤ copies (suc n) (1 ∷ 2 ∷ 3 ∷ 4 ∷ [])) × (openTable hall table .answer .session ≡ 0) × (openTable hall table .after ≡ table)
-  pub accepted : openTable hall table .answer .number ≡ 0 → (i : ℕ) → need hall ≤ i → getD (openTable hall table .after) i 0 ≡ getD table i 0
-  pub sameLength : length (openTable hall table .after) ≡ length table
-  pub staysSound : openTable hall table .answer .number ≡ 0 → sound (openTable hall table .after) ≡ true
+pub record OpeningDemand1 (limits : Limits) (hall : Hall) (table : List ℕ) : Type 0 where
+  pub refused : (n : ℕ) → openTable limits hall table .answer .number ≡ suc n
+      → (1 ≤ copies (suc n) (1 ∷ 2 ∷ 3 ∷ 4 ∷ [])) × (openTable limits hall table .answer .session ≡ 0) × (openTable limits hall table .after ≡ table)
+  pub accepted : openTable limits hall table .answer .number ≡ 0 → (i : ℕ) → need hall ≤ i → getD (openTable limits hall table .after) i 0 ≡ getD table i 0
+  pub sameLength : length (openTable limits hall table .after) ≡ length table
+  pub staysSound : openTable limits hall table .answer .number ≡ 0 → sound limits (openTable limits hall table .after) ≡ true
 
 -- What a step may do to a table that was sent as bytes; the reply number is its answer's high half.
-pub record BytesDemand1 (bytes : List ℕ) (call : Call) : Type 0 where
+pub record BytesDemand1 (limits : Limits) (bytes : List ℕ) (call : Call) : Type 0 where
   -- "A refused call gives its number from document 01 and session 0, and every lent word .. keeps its content."
-  pub refused : (n : ℕ) → stepBytes bytes call .reply / 65536 ≡ suc n
-      → (1 ≤ copies (suc n) (refusals call)) × (stepBytes bytes call .reply ≡ suc n * 65536) × (stepBytes bytes call .after ≡ bytes)
+  pub refused : (n : ℕ) → stepBytes limits bytes call .reply / 65536 ≡ suc n
+      → (1 ≤ copies (suc n) (refusals call)) × (stepBytes limits bytes call .reply ≡ suc n * 65536) × (stepBytes limits bytes call .after ≡ bytes)
   -- "an accepted call writes only the words its step names": byte j is of word j / 2
-  pub accepted : stepBytes bytes call .reply / 65536 ≡ 0 → (j : ℕ) → names (wordsOfBytes bytes) call (j / 2) ≡ false
-      → getD (stepBytes bytes call .after) j 0 ≡ getD bytes j 0
+  pub accepted : stepBytes limits bytes call .reply / 65536 ≡ 0 → (j : ℕ) → names (wordsOfBytes bytes) call (j / 2) ≡ false
+      → getD (stepBytes limits bytes call .after) j 0 ≡ getD bytes j 0
   -- "an odd last byte is not part of the table"
-  pub lastByte : (j : ℕ) → 2 * length (wordsOfBytes bytes) ≤ j → getD (stepBytes bytes call .after) j 0 ≡ getD bytes j 0
-  pub sameLength : length (stepBytes bytes call .after) ≡ length bytes
+  pub lastByte : (j : ℕ) → 2 * length (wordsOfBytes bytes) ≤ j → getD (stepBytes limits bytes call .after) j 0 ≡ getD bytes j 0
+  pub sameLength : length (stepBytes limits bytes call .after) ≡ length bytes
 
 -- ---- Demands 2 and 3 speak of a history, a list of calls with their answers, and of the words of the table after its first i calls.
 

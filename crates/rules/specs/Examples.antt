@@ -5,18 +5,19 @@ use mathlib.Core.Path.{_≡_, refl, sym, ap, _∙_, subst}
 use mathlib.Core.List.{List, [], _∷_, _++_}
 use lib.ListN.{take, replicate}
 use borrow.Author.Tests.{eq-eqb}
-use Rattle.rules.specs.Hall.{Hall, hallOf}
-use Rattle.rules.specs.Steps.{Call, Take, Drop, Swap, Retire, Collect, Event}
-use Rattle.rules.specs.Table.{openTable, runTable, stepTable, sound, recordSound, encodeDesk, decodeDesk}
-use Rattle.rules.specs.History.{Deed, takes, swaps, retires, handsBack, deedAt, Disciplined, Linked, DroppedBefore, isRetirementOf, retirements, handBacks, handBacksOf}
-use Rattle.rules.specs.Demands.{Guarantee, BackWithin, exactBound}
-use Rattle.rules.specs.Theorems.{demand-2, demand-3, back-sooner}
+use Rattle.rules.specs.Hall.{Hall, hallLimits, hallOf}
+use Rattle.rules.specs.Steps.{Call, Collect, Drop, Event, Retire, Swap, Take}
+use Rattle.rules.specs.Table.{decodeDesk, encodeDesk, openTable, recordSound, runTable, sound, stepTable}
+use Rattle.rules.specs.History.{Deed, Disciplined, DroppedBefore, Linked, deedAt, handBacks, handBacksOf, handsBack, isRetirementOf, retirements, retires}
+use Rattle.rules.specs.History.{swaps, takes}
+use Rattle.rules.specs.Demands.{BackWithin, Guarantee, exactBound}
+use Rattle.rules.specs.Theorems.{back-sooner, demand-2, demand-3}
 use Rattle.rules.specs.Cases.{_⇒_, ok}
-use Rattle.rules.specs.laws.Checks.{disciplined, placesWhere, nowhere, only-at, one-of-two, isDrop, never-shown}
+use Rattle.rules.specs.laws.Checks.{disciplined, isDrop, never-shown, nowhere, one-of-two, only-at, placesWhere}
 
 -- a history of a hall that is opened in a table of 9s
 abbrev historyOf : Hall → ℕ → List Call → List Event
-historyOf hall words calls = runTable (openTable hall (replicate words 9) .after) calls
+historyOf hall words calls = runTable hallLimits (openTable hallLimits hall (replicate words 9) .after) calls
 
 -- desk 1 puts a session at position 1, takes it off again and retires it
 abbrev retiring : ℕ → List Call
@@ -41,7 +42,7 @@ back = retiring 5 ++ (Collect 1 ∷ Collect 1 ∷ Collect 1 ∷ [])
 pub back-by-demand : 1 ≤ handBacksOf 1 5 (historyOf (hallOf 1 1 1) 20 back)
 unfolding openTable stepTable sound recordSound encodeDesk decodeDesk
 back-by-demand =
-    demand-3 (hallOf 1 1 1) (replicate 20 9) refl back .back 1 5 2 5 refl refl (never-shown 5 (historyOf (hallOf 1 1 1) 20 back) refl 2 5)
+    demand-3 hallLimits (hallOf 1 1 1) (replicate 20 9) refl back .back 1 5 2 5 refl refl (never-shown 5 (historyOf (hallOf 1 1 1) 20 back) refl 2 5)
 
 -- ---- The exact bound, 8 collects for S = 3, is reached: all three screens show what is tested, so nothing is ready when 5 is
 -- retired in mid-reading, and five sessions stand before it in the next reading. After 7 collects it is not back.
@@ -65,7 +66,7 @@ seven-are-too-few claim =
 pub eight-are-enough : 1 ≤ handBacksOf 1 5 (historyOf (hallOf 3 1 1) 70 slowest)
 unfolding openTable stepTable sound recordSound encodeDesk decodeDesk
 eight-are-enough =
-    back-sooner (hallOf 3 1 1) (replicate 70 9) refl slowest 1 5 21 32 refl refl (never-shown 5 (historyOf (hallOf 3 1 1) 70 slowest) refl 21 32)
+    back-sooner hallLimits (hallOf 3 1 1) (replicate 70 9) refl slowest 1 5 21 32 refl refl (never-shown 5 (historyOf (hallOf 3 1 1) 70 slowest) refl 21 32)
 
 -- ---- Demand 2. Case D: the take at place 1 is linked to the retirement at place 3, and the hand-back at place 6 is paired with it.
 abbrev caseD : List Call
@@ -105,7 +106,7 @@ paired-in-D g = paired-with (historyOf (hallOf 1 1 1) 20 caseD) 3 6 1 300 refl r
 pub dropped-in-D : DroppedBefore (deedAt (historyOf (hallOf 1 1 1) 20 caseD)) 1 6
 unfolding openTable stepTable sound recordSound encodeDesk decodeDesk
 dropped-in-D =
-    let g = demand-2 (hallOf 1 1 1) (replicate 20 9) refl caseD .guarantee in
+    let g = demand-2 hallLimits (hallOf 1 1 1) (replicate 20 9) refl caseD .guarantee in
     g .dropped 6 1 300 1 refl (subst (Linked (deedAt (historyOf (hallOf 1 1 1) 20 caseD)) 1) (sym (paired-in-D g)) linked-in-D)
 
 -- ---- Answers that the guarantee refuses: nothing is ever dropped, and yet a session is handed back, every retirement of which

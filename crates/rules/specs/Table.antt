@@ -5,9 +5,9 @@ use mathlib.Core.Bool.{Bool, true, false, cond, _&&_}
 use mathlib.Core.List.{List, [], _∷_, _++_, map}
 use lib.ListN.{length, getD, take, drop, set, replicate}
 use lib.Dec.{leb, ltb, eqb}
-use Rattle.rules.specs.Hall.{Desk, Hall, State, TestedPlace, allScreens, marked, mostDesks, mostPositions, mostScreens, screenIndex, unmarked}
-use Rattle.rules.specs.Steps.{Answer, Call, Collect, Drop, Event, Question, Retire, Swap, Take, ask, collect, firstNo, inRange, isNone}
-use Rattle.rules.specs.Steps.{isSession, retire, step}
+use Rattle.rules.specs.Hall.{Desk, Hall, Limits, State, TestedPlace, allScreens, marked, screenIndex, unmarked}
+use Rattle.rules.specs.Steps.{Answer, Call, Collect, Drop, Event, Question, Retire, Swap, Take, ask, collect, firstNo, inRange, isNone, isSession, retire}
+use Rattle.rules.specs.Steps.{step}
 
 -- ---- Layout.
 -- "words 0, 1, 2: P, c, L; L words: the session at each position; S words: what each screen shows, desk by desk;
@@ -206,14 +206,16 @@ abbrev pub everyRecord : (List ℕ → Bool) → List (List ℕ) → Bool
 everyRecord test [] = true
 everyRecord test (words ∷ records) = test words && everyRecord test records
 
+-- "P, c and L are in range"
+abbrev pub inLimits : Limits → Hall → Bool
+inLimits limits hall = inRange (hall .desks) (limits .desks) && (inRange (hall .screens) (limits .screens) && inRange (hall .positions) (limits .positions))
+
 -- "A table is sound when it is long enough, P, c and L are in range, and for each desk: .."
-unfoldable pub sound : List ℕ → Bool
-sound table =
-    inRange (hallIn table .desks) mostDesks
-    && (inRange (hallIn table .screens) mostScreens
-    && (inRange (hallIn table .positions) mostPositions
+unfoldable pub sound : Limits → List ℕ → Bool
+sound limits table =
+    inLimits limits (hallIn table)
     && (leb (need (hallIn table)) (length table)
-    && everyRecord (recordSound (allScreens (hallIn table))) (recordsIn (hallIn table) table))))
+    && everyRecord (recordSound (allScreens (hallIn table))) (recordsIn (hallIn table) table))
 
 -- ---- The state that a table holds, and the words of a state.
 abbrev pub decode : Hall → List ℕ → State
@@ -256,16 +258,16 @@ stepIf true table call =
     let r = step (hallIn table) (decode (hallIn table) table) call in
     record { answer = r .answer; after = cond (eqb (r .answer .number) 0) (written table call) table }
 
-unfoldable pub stepTable : List ℕ → Call → TableDone
-stepTable table call = stepIf (sound table) table call
+unfoldable pub stepTable : Limits → List ℕ → Call → TableDone
+stepTable limits table call = stepIf (sound limits table) table call
 
-abbrev pub runTable : List ℕ → List Call → List Event
-runTable table [] = []
-runTable table (call ∷ calls) = let r = stepTable table call in record { call = call; answer = r .answer } ∷ runTable (r .after) calls
+abbrev pub runTable : Limits → List ℕ → List Call → List Event
+runTable limits table [] = []
+runTable limits table (call ∷ calls) = let r = stepTable limits table call in record { call = call; answer = r .answer } ∷ runTable limits (r .after) calls
 
-abbrev pub endTable : List ℕ → List Call → List ℕ
-endTable table [] = table
-endTable table (call ∷ calls) = endTable (stepTable table call .after) calls
+abbrev pub endTable : Limits → List ℕ → List Call → List ℕ
+endTable limits table [] = table
+endTable limits table (call ∷ calls) = endTable limits (stepTable limits table call .after) calls
 
 -- ---- The opening.
 -- "Opening writes P, c, L and zeros up to the need." "Words past the need are neither read nor written."
@@ -273,11 +275,11 @@ abbrev pub openedTable : Hall → List ℕ → List ℕ
 openedTable hall table = (hall .desks ∷ hall .screens ∷ hall .positions ∷ replicate (need hall - headerWords) 0) ++ drop (need hall) table
 
 -- "Opening: is P 1 to 16? 1. Is c 1 to 4? 2. Is L 1 to 64? 3. Is the table at least the need? 4."
-abbrev pub openQuestions : Hall → List ℕ → List Question
-openQuestions hall table =
-    ask (inRange (hall .desks) mostDesks) 1
-    ∷ ask (inRange (hall .screens) mostScreens) 2
-    ∷ ask (inRange (hall .positions) mostPositions) 3
+abbrev pub openQuestions : Limits → Hall → List ℕ → List Question
+openQuestions limits hall table =
+    ask (inRange (hall .desks) (limits .desks)) 1
+    ∷ ask (inRange (hall .screens) (limits .screens)) 2
+    ∷ ask (inRange (hall .positions) (limits .positions)) 3
     ∷ ask (leb (need hall) (length table)) 4
     ∷ []
 
@@ -285,5 +287,5 @@ abbrev pub openIf : ℕ → Hall → List ℕ → TableDone
 openIf zero hall table = record { answer = record { number = 0; session = 0 }; after = openedTable hall table }
 openIf (suc n) hall table = record { answer = record { number = suc n; session = 0 }; after = table }
 
-unfoldable pub openTable : Hall → List ℕ → TableDone
-openTable hall table = openIf (firstNo (openQuestions hall table)) hall table
+unfoldable pub openTable : Limits → Hall → List ℕ → TableDone
+openTable limits hall table = openIf (firstNo (openQuestions limits hall table)) hall table

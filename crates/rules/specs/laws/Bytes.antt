@@ -6,10 +6,10 @@ use mathlib.Core.Bool.{false}
 use mathlib.Core.List.{List, [], _∷_, _++_, append-nil}
 use lib.ListN.{length, getD, drop, length-append, length-drop}
 use lib.Seq.{drop-at, getD-drop}
-use Rattle.rules.specs.Bytes.{Agrees, Call16, Calls16, IsBytes, Words16, answerIn, bytesOfWords, endBytes, laidOver, onBytes, openBytes, reply}
-use Rattle.rules.specs.Bytes.{runBytes, stepBytes, wordsOfBytes}
+use Rattle.rules.specs.Bytes.{Agrees, Call16, Calls16, IsBytes, Words16, answerIn, bytesOfWords, endBytes, laidOver, onBytes, openBytes, reply, runBytes}
+use Rattle.rules.specs.Bytes.{stepBytes, wordsOfBytes}
 use Rattle.rules.specs.Demands.{BytesDemand1, names}
-use Rattle.rules.specs.Hall.{Hall}
+use Rattle.rules.specs.Hall.{Hall, Limits}
 use Rattle.rules.specs.Steps.{Answer, Call}
 use Rattle.rules.specs.Table.{TableDone, endTable, openTable, runTable, stepTable}
 use Rattle.rules.specs.laws.Words16.{below-append, open-length, open-session, open-words, step-length, step-refused, step-session, step-words}
@@ -104,56 +104,56 @@ agrees bytes told h s w e =
       lastByte = subst (λ (n : ℕ). drop n (laidOver (told .after) bytes) ≡ drop n bytes) e2 (laid-past (told .after) bytes);
     }
 
-pub bytes-step : (bytes : List ℕ) (call : Call) → IsBytes bytes → Call16 call
-    → Agrees bytes (stepBytes bytes call) (stepTable (wordsOfBytes bytes) call)
+pub bytes-step : (limits : Limits) (bytes : List ℕ) (call : Call) → IsBytes bytes → Call16 call
+    → Agrees bytes (stepBytes limits bytes call) (stepTable limits (wordsOfBytes bytes) call)
 unfolding stepBytes
-bytes-step bytes call h w =
+bytes-step limits bytes call h w =
     let words = wordsOfBytes bytes in
     let g = words-are-16 bytes h in
-    agrees bytes (stepTable words call) h (step-session words call g) (step-words words call g w) (step-length words call g)
+    agrees bytes (stepTable limits words call) h (step-session limits words call g) (step-words limits words call g w) (step-length limits words call g)
 
-pub bytes-open : (hall : Hall) (bytes : List ℕ) → IsBytes bytes → Agrees bytes (openBytes hall bytes) (openTable hall (wordsOfBytes bytes))
+pub bytes-open : (limits : Limits) (hall : Hall) (bytes : List ℕ) → IsBytes bytes → Agrees bytes (openBytes limits hall bytes) (openTable limits hall (wordsOfBytes bytes))
 unfolding openBytes
-bytes-open hall bytes h =
+bytes-open limits hall bytes h =
     let words = wordsOfBytes bytes in
-    agrees bytes (openTable hall words) h (omega (arith, open-session hall words)) (open-words hall words (words-are-16 bytes h))
-    (open-length hall words)
+    agrees bytes (openTable limits hall words) h (omega (arith, open-session limits hall words)) (open-words limits hall words (words-are-16 bytes h))
+    (open-length limits hall words)
 
 -- ---- A list of calls.
-pub bytes-run : (bytes : List ℕ) (calls : List Call) → IsBytes bytes → Calls16 calls → runBytes bytes calls ≡ runTable (wordsOfBytes bytes) calls
-bytes-run bytes [] h w = refl
-bytes-run bytes (call ∷ calls) h w =
-    let a = bytes-step bytes call h (w .0) in
-    let later = bytes-run (stepBytes bytes call .after) calls (a .areBytes) (w .1) in
-    λ i. record { call = call; answer = a .heard i } ∷ (later ∙ ap (λ (t : List ℕ). runTable t calls) (a .words)) i
+pub bytes-run : (limits : Limits) (bytes : List ℕ) (calls : List Call) → IsBytes bytes → Calls16 calls → runBytes limits bytes calls ≡ runTable limits (wordsOfBytes bytes) calls
+bytes-run limits bytes [] h w = refl
+bytes-run limits bytes (call ∷ calls) h w =
+    let a = bytes-step limits bytes call h (w .0) in
+    let later = bytes-run limits (stepBytes limits bytes call .after) calls (a .areBytes) (w .1) in
+    λ i. record { call = call; answer = a .heard i } ∷ (later ∙ ap (λ (t : List ℕ). runTable limits t calls) (a .words)) i
 
-pub bytes-end : (bytes : List ℕ) (calls : List Call) → IsBytes bytes → Calls16 calls
-    → wordsOfBytes (endBytes bytes calls) ≡ endTable (wordsOfBytes bytes) calls
-bytes-end bytes [] h w = refl
-bytes-end bytes (call ∷ calls) h w =
-    let a = bytes-step bytes call h (w .0) in
-    bytes-end (stepBytes bytes call .after) calls (a .areBytes) (w .1) ∙ ap (λ (t : List ℕ). endTable t calls) (a .words)
+pub bytes-end : (limits : Limits) (bytes : List ℕ) (calls : List Call) → IsBytes bytes → Calls16 calls
+    → wordsOfBytes (endBytes limits bytes calls) ≡ endTable limits (wordsOfBytes bytes) calls
+bytes-end limits bytes [] h w = refl
+bytes-end limits bytes (call ∷ calls) h w =
+    let a = bytes-step limits bytes call h (w .0) in
+    bytes-end limits (stepBytes limits bytes call .after) calls (a .areBytes) (w .1) ∙ ap (λ (t : List ℕ). endTable limits t calls) (a .words)
 
 -- the bytes at the end are bytes, as many, with the same odd last one
-pub end-are-bytes : (bytes : List ℕ) (calls : List Call) → IsBytes bytes → Calls16 calls → IsBytes (endBytes bytes calls)
-end-are-bytes bytes [] h w = h
-end-are-bytes bytes (call ∷ calls) h w = end-are-bytes (stepBytes bytes call .after) calls (bytes-step bytes call h (w .0) .areBytes) (w .1)
+pub end-are-bytes : (limits : Limits) (bytes : List ℕ) (calls : List Call) → IsBytes bytes → Calls16 calls → IsBytes (endBytes limits bytes calls)
+end-are-bytes limits bytes [] h w = h
+end-are-bytes limits bytes (call ∷ calls) h w = end-are-bytes limits (stepBytes limits bytes call .after) calls (bytes-step limits bytes call h (w .0) .areBytes) (w .1)
 
-pub end-length : (bytes : List ℕ) (calls : List Call) → IsBytes bytes → Calls16 calls → length (endBytes bytes calls) ≡ length bytes
-end-length bytes [] h w = refl
-end-length bytes (call ∷ calls) h w =
-    let a = bytes-step bytes call h (w .0) in end-length (stepBytes bytes call .after) calls (a .areBytes) (w .1) ∙ a .sameLength
+pub end-length : (limits : Limits) (bytes : List ℕ) (calls : List Call) → IsBytes bytes → Calls16 calls → length (endBytes limits bytes calls) ≡ length bytes
+end-length limits bytes [] h w = refl
+end-length limits bytes (call ∷ calls) h w =
+    let a = bytes-step limits bytes call h (w .0) in end-length limits (stepBytes limits bytes call .after) calls (a .areBytes) (w .1) ∙ a .sameLength
 
-pub end-last-byte : (bytes : List ℕ) (calls : List Call) → IsBytes bytes → Calls16 calls
-    → drop (2 * length (wordsOfBytes bytes)) (endBytes bytes calls) ≡ drop (2 * length (wordsOfBytes bytes)) bytes
-end-last-byte bytes [] h w = refl
-end-last-byte bytes (call ∷ calls) h w =
-    let a = bytes-step bytes call h (w .0) in
-    let after : List ℕ = stepBytes bytes call .after in
+pub end-last-byte : (limits : Limits) (bytes : List ℕ) (calls : List Call) → IsBytes bytes → Calls16 calls
+    → drop (2 * length (wordsOfBytes bytes)) (endBytes limits bytes calls) ≡ drop (2 * length (wordsOfBytes bytes)) bytes
+end-last-byte limits bytes [] h w = refl
+end-last-byte limits bytes (call ∷ calls) h w =
+    let a = bytes-step limits bytes call h (w .0) in
+    let after : List ℕ = stepBytes limits bytes call .after in
     let n : length (wordsOfBytes after) ≡ length (wordsOfBytes bytes) =
-    ap length (a .words) ∙ step-length (wordsOfBytes bytes) call (words-are-16 bytes h) in
+    ap length (a .words) ∙ step-length limits (wordsOfBytes bytes) call (words-are-16 bytes h) in
     let e : 2 * length (wordsOfBytes after) ≡ 2 * length (wordsOfBytes bytes) = omega arith in
-    subst (λ (m : ℕ). drop m (endBytes after calls) ≡ drop m after) e (end-last-byte after calls (a .areBytes) (w .1)) ∙ a .lastByte
+    subst (λ (m : ℕ). drop m (endBytes limits after calls) ≡ drop m after) e (end-last-byte limits after calls (a .areBytes) (w .1)) ∙ a .lastByte
 
 -- ---- Demand 1.
 -- a byte stays where its word stays, and where it stands past the words
@@ -179,19 +179,19 @@ same-past n xs ys e j h =
     (sym (getD-drop n xs (j - n) 0) ∙ ap (λ (l : List ℕ). getD l (j - n) 0) e ∙ getD-drop n ys (j - n) 0)
 
 -- demand 1 on bytes, from what an accepted step leaves of the words
-pub bytes-demand1 : (bytes : List ℕ) (call : Call) → IsBytes bytes → Call16 call
-    → (stepTable (wordsOfBytes bytes) call .answer .number ≡ 0 → (i : ℕ) → names (wordsOfBytes bytes) call i ≡ false → getD (stepTable (wordsOfBytes bytes) call .after) i 0 ≡ getD (wordsOfBytes bytes) i 0)
-    → BytesDemand1 bytes call
+pub bytes-demand1 : (limits : Limits) (bytes : List ℕ) (call : Call) → IsBytes bytes → Call16 call
+    → (stepTable limits (wordsOfBytes bytes) call .answer .number ≡ 0 → (i : ℕ) → names (wordsOfBytes bytes) call i ≡ false → getD (stepTable limits (wordsOfBytes bytes) call .after) i 0 ≡ getD (wordsOfBytes bytes) i 0)
+    → BytesDemand1 limits bytes call
 unfolding stepBytes
-bytes-demand1 bytes call h w fact =
+bytes-demand1 limits bytes call h w fact =
     let words : List ℕ = wordsOfBytes bytes in
-    let a = bytes-step bytes call h w in
-    let number : reply (stepTable words call .answer) / 65536 ≡ stepTable words call .answer .number = ap (λ (x : Answer). x .number) (a .heard) in
+    let a = bytes-step limits bytes call h w in
+    let number : reply (stepTable limits words call .answer) / 65536 ≡ stepTable limits words call .answer .number = ap (λ (x : Answer). x .number) (a .heard) in
     record {
       refused =
-          λ n e. (let r = step-refused words call n (sym number ∙ e) in (r .0, omega (arith, r .1), ap (λ (t : List ℕ). laidOver t bytes) (r .2) ∙ laid-back bytes h));
+          λ n e. (let r = step-refused limits words call n (sym number ∙ e) in (r .0, omega (arith, r .1), ap (λ (t : List ℕ). laidOver t bytes) (r .2) ∙ laid-back bytes h));
       accepted =
-          λ e j q. laid-word (stepTable words call .after) bytes j h (step-length words call (words-are-16 bytes h)) (fact (sym number ∙ e) (j / 2) q);
-      lastByte = same-past (2 * length words) (stepBytes bytes call .after) bytes (a .lastByte);
+          λ e j q. laid-word (stepTable limits words call .after) bytes j h (step-length limits words call (words-are-16 bytes h)) (fact (sym number ∙ e) (j / 2) q);
+      lastByte = same-past (2 * length words) (stepBytes limits bytes call .after) bytes (a .lastByte);
       sameLength = a .sameLength;
     }

@@ -1,4 +1,4 @@
--- A sound table of 16-bit words is the table of the state that it is read as. The screens' places are apart.
+-- A sound record of 16-bit words is the record of the desk that it is read as.
 use Prim.Native.Nat.{ℕ, zero, suc, _+_, _*_, _-_, _/_, _%_, _^_, _≤_, _<_}
 use native.Mathlib.Omega.{arith}
 use native.Mathlib.Nat.{mul-le-mul}
@@ -9,13 +9,10 @@ use lib.ListN.{length, getD, take, drop, replicate, length-append, length-drop, 
 use lib.Seq.{take-add, length-take-le, drop-drop, drop-cons, getD-drop, take-at, drop-at}
 use lib.Dec.{leb, eqb}
 use borrow.Author.Tests.{eqb-true, eqb-false, leb-true}
-use Rattle.rules.specs.Hall.{Hall, TestedPlace, allScreens, mostAllScreens, mostDesks, mostPositions, mostScreens}
-use Rattle.rules.specs.Steps.{inRange}
-use Rattle.rules.specs.Table.{allMarks, bitValue, bitsOfWord, bitsOfWords, decode, decodeDesk, encode, encodeDesk, every, everyRecord, hallIn, joined}
-use Rattle.rules.specs.Table.{marksOf, need, ones, pieces, placesOf, recordSound, recordWidth, recordsIn, scanSound, sessionsOf, sound}
-use Rattle.rules.specs.Table.{headerWords, listPlace, markWords, widthFor, wordOfBits, wordsOfBits}
+use Rattle.rules.specs.Hall.{TestedPlace, mostAllScreens}
+use Rattle.rules.specs.Table.{allMarks, bitValue, bitsOfWord, bitsOfWords, decodeDesk, encodeDesk, every, everyRecord, joined, listPlace, markWords}
+use Rattle.rules.specs.Table.{marksOf, ones, pieces, placesOf, recordSound, scanSound, sessionsOf, widthFor, wordOfBits, wordsOfBits}
 use Rattle.rules.specs.laws.Bools.{and-left, and-right}
-use Rattle.rules.specs.laws.Effect.{in-range}
 
 -- bits and words
 every-one : (bs : List Bool) → ones bs ≡ 0 → bs ≡ replicate (length bs) false
@@ -171,7 +168,7 @@ small-take (suc n) [] h i = omega arith
 small-take (suc n) (x ∷ r) h zero = h 0
 small-take (suc n) (x ∷ r) h (suc i) = small-take n r (λ j. h (suc j)) i
 
-records-back : (S n : ℕ) (x : List ℕ) → S ≤ mostAllScreens → n * widthFor S ≤ length x → ((i : ℕ) → getD x i 0 < 65536)
+pub records-back : (S n : ℕ) (x : List ℕ) → S ≤ mostAllScreens → n * widthFor S ≤ length x → ((i : ℕ) → getD x i 0 < 65536)
     → everyRecord (recordSound S) (pieces n (widthFor S) x) ≡ true
     → joined (map (encodeDesk S) (map decodeDesk (pieces n (widthFor S) x))) ≡ take (n * widthFor S) x
 records-back S zero x hS hl sm h = ap (λ (m : ℕ). take m x) (nought (widthFor S))
@@ -188,50 +185,3 @@ records-back S (suc n) x hS hl sm h =
     (and-right (recordSound S (take w x)) (everyRecord (recordSound S) (pieces n w (drop w x))) h) in
     let c : w + n * w ≡ suc n * w = omega arith in
     ap₂ {C = List ℕ} (λ y z. y ++ z) a b ∙ sym (take-add w (n * w) x) ∙ ap (λ (m : ℕ). take m x) c
-
-glue : (a b c : ℕ) (x : List ℕ) → (take a x ++ (take b (drop a x) ++ take c (drop b (drop a x)))) ++ drop c (drop b (drop a x)) ≡ x
-glue a b c x =
-    append-assoc (take a x) (take b (drop a x) ++ take c (drop b (drop a x))) (drop c (drop b (drop a x)))
-    ∙ ap {B = List ℕ} (λ y. take a x ++ y)
-    (append-assoc (take b (drop a x)) (take c (drop b (drop a x))) (drop c (drop b (drop a x))) ∙ ap {B = List ℕ} (λ y. take b (drop a x) ++ y) (take-append-drop c (drop b (drop a x))) ∙ take-append-drop b (drop a x))
-    ∙ take-append-drop a x
-
--- A sound table of 16-bit words is its state's, with what stands past the need.
-pub same-table : (t : List ℕ) → ((i : ℕ) → getD t i 0 < 65536) → sound t ≡ true
-    → encode (hallIn t) (decode (hallIn t) t) ++ drop (need (hallIn t)) t ≡ t
-unfolding sound
-same-table t sm h =
-    let H : Hall = hallIn t in
-    let h1 = and-right (inRange (H .desks) mostDesks) (s1 H) h in
-    let h2 = and-right (inRange (H .screens) mostScreens) (s2 H) h1 in
-    let h3 = and-right (inRange (H .positions) mostPositions) (s3 H) h2 in
-    let ra = in-range (H .desks) mostDesks (and-left (inRange (H .desks) mostDesks) (s1 H) h) in
-    let rb = in-range (H .screens) mostScreens (and-left (inRange (H .screens) mostScreens) (s2 H) h1) in
-    let hn : need H ≤ length t = leb-true (need H) (length t) (and-left (leb (need H) (length t)) (s4 H) h3) in
-    let hS : allScreens H ≤ mostAllScreens = mul-le-mul (ra .1) (rb .1) in
-    let x : List ℕ = drop (allScreens H) (drop (H .positions) (drop headerWords t)) in
-    let lx : length x ≡ length t - headerWords - H .positions - allScreens H =
-    omega (arith, length-drop (allScreens H) (drop (H .positions) (drop headerWords t)), length-drop (H .positions) (drop headerWords t), length-drop headerWords t) in
-    let fb =
-    records-back (allScreens H) (H .desks) x hS (omega arith)
-    (small-drop (allScreens H) (drop (H .positions) (drop headerWords t)) (small-drop (H .positions) (drop headerWords t) (small-drop headerWords t sm)))
-    (and-right (leb (need H) (length t)) (s4 H) h3) in
-    let dn : drop (need H) t ≡ drop (H .desks * recordWidth H) x =
-    sym
-    (drop-drop (H .desks * recordWidth H) (allScreens H) (drop (H .positions) (drop headerWords t)) ∙ drop-drop (allScreens H + H .desks * recordWidth H) (H .positions) (drop headerWords t) ∙ drop-drop (H .positions + (allScreens H + H .desks * recordWidth H)) headerWords t) in
-    (λ i. H .desks ∷ H .screens ∷ H .positions ∷ ((take (H .positions) (drop headerWords t) ++ (take (allScreens H) (drop (H .positions) (drop headerWords t)) ++ fb i)) ++ dn i))
-    ∙ ap {B = List ℕ} (λ y. H .desks ∷ H .screens ∷ H .positions ∷ y) (glue (H .positions) (allScreens H) (H .desks * recordWidth H) (drop headerWords t))
-    ∙ sym
-    (drop-cons t 0 0 (omega arith) ∙ ap {B = List ℕ} (λ y. getD t 0 0 ∷ y) (drop-cons t 1 0 (omega arith) ∙ ap {B = List ℕ} (λ y. getD t 1 0 ∷ y) (drop-cons t 2 0 (omega arith))))
-  where
-    s4 : Hall → Bool
-    s4 H = everyRecord (recordSound (allScreens H)) (recordsIn H t)
-
-    s3 : Hall → Bool
-    s3 H = leb (need H) (length t) && s4 H
-
-    s2 : Hall → Bool
-    s2 H = inRange (H .positions) mostPositions && s3 H
-
-    s1 : Hall → Bool
-    s1 H = inRange (H .screens) mostScreens && s2 H

@@ -11,21 +11,21 @@ use lib.Dec.{eqb, ltb}
 use borrow.Author.Tests.{eqb-true, eqb-false, lt-ltb, ltb-false}
 use Rattle.rules.specs.Bytes.{Words16}
 use Rattle.rules.specs.Demands.{Demand1, OpeningDemand1, names, or}
-use Rattle.rules.specs.Hall.{Desk, Hall, State, allScreens, deskOf, usedPlaces}
+use Rattle.rules.specs.Hall.{Desk, Hall, Limits, State, allScreens, deskOf, usedPlaces}
 use Rattle.rules.specs.History.{copies, numberAt}
 use Rattle.rules.specs.Steps.{Call, Collect, Done, Drop, Retire, Swap, Take, collect, decide, firstNo, isSession, perform, questions, retire}
-use Rattle.rules.specs.Table.{TableDone, decode, decodeDesk, encodeDesk, endTable, hallIn, headerWords, listOf, listPlace, markWords, marksOf, need}
-use Rattle.rules.specs.Table.{allMarks, openQuestions, openedTable, positionWord, putRecord, recordOf, recordSound, recordStart, recordWidth, runTable}
+use Rattle.rules.specs.Table.{TableDone, allMarks, decode, decodeDesk, encodeDesk, endTable, hallIn, headerWords, listOf, listPlace, markWords, marksOf}
+use Rattle.rules.specs.Table.{need, openQuestions, openedTable, positionWord, putRecord, recordOf, recordSound, recordStart, recordWidth, runTable}
 use Rattle.rules.specs.Table.{screenWord, sessionsOf, sound, stepTable, usedIn, waitingPlace, wordsOfBits, written}
 use Rattle.rules.specs.laws.Decoding.{record-again, small-drop, small-take}
 use Rattle.rules.specs.laws.Fresh.{get-same}
 use Rattle.rules.specs.laws.Links.{desk-fact, owed-collect, retire-facts, retire-room-fact, swap-facts}
 use Rattle.rules.specs.laws.Parts.{get-past, put-is}
 use Rattle.rules.specs.laws.Sound.{Sound, collect-sound, length-list, retire-sound}
-use Rattle.rules.specs.laws.SoundTables.{desk-sound, encoded, known-opens, valid}
+use Rattle.rules.specs.laws.SoundTables.{desk-sound, encoded, valid}
 use Rattle.rules.specs.laws.TableHistories.{counts-encoded}
-use Rattle.rules.specs.laws.TableSteps.{Known, accepted-step, asked, desk-word, known, owed-word, record-sound, record-within, refused-step}
-use Rattle.rules.specs.laws.Tables.{Opens, Valid, encode-is-sound, hall-opens, length-encoded, some-screens, sound-table, valid-step}
+use Rattle.rules.specs.laws.TableSteps.{Known, accepted-step, asked, desk-word, known, known-inside, owed-word, record-sound, record-within, refused-step}
+use Rattle.rules.specs.laws.Tables.{Valid, encode-is-sound, hall-opens, length-encoded, some-screens, sound-table, valid-step}
 use Rattle.rules.specs.laws.Words16.{by-open, by-step, first-no-is-asked, open-length, step-length, step-refused}
 
 -- ---- What a retire leaves of its record.
@@ -77,15 +77,12 @@ or-no true b e = let z : _≡_ {A = ℕ} 0 1 = cc in absurd (omega arith)
 or-no false b e = (refl, e)
 
 -- ---- An accepted step on a sound table of 16-bit words.
-module _ (t : List ℕ) (small : Words16 t) (s : sound t ≡ true) where
+module _ (limits : Limits) (t : List ℕ) (small : Words16 t) (s : sound limits t ≡ true) where
   k : Known t
-  k = known t s
+  k = known limits t s
 
   v : Valid (hallIn t) (decode (hallIn t) t)
-  v = valid t (known t s)
-
-  ok : Opens (hallIn t)
-  ok = known-opens t k
+  v = valid t (known limits t s)
 
   module _ (d : ℕ) (r : (1 ≤ d) × (d ≤ hallIn t .desks)) where
     fits : recordStart (hallIn t) d + recordWidth (hallIn t) ≤ length t
@@ -117,7 +114,7 @@ module _ (t : List ℕ) (small : Words16 t) (s : sound t ≡ true) where
         → getD (putRecord (hallIn t) t d (encodeDesk (allScreens (hallIn t)) E)) i 0 ≡ getD t i 0
     record-kept E sE i h =
         put-is t (encodeDesk (allScreens (hallIn t)) E) (recordStart (hallIn t) d) (recordWidth (hallIn t)) fits
-        (length-encoded (hallIn t) ok E sE) i (getD t i 0)
+        (length-encoded (hallIn t) (k .fits) E sE) i (getD t i 0)
         (λ j l e. h j l e ∙ word-inside j l ∙ ap (λ (n : ℕ). getD t n 0) e) (λ _. refl)
 
   written-keeps : (c : Call) → asked t c ≡ 0 → (i : ℕ) → names t c i ≡ false → getD (written t c) i 0 ≡ getD t i 0
@@ -179,7 +176,7 @@ module _ (t : List ℕ) (small : Words16 t) (s : sound t ≡ true) where
       let r = desk-fact (hallIn t) (decode (hallIn t) t) (v .formed) d _ e in
       let shown = decode (hallIn t) t .shown in
       record-kept d r (collect (allScreens (hallIn t)) shown (decodeDesk (recordOf (hallIn t) t d)) .after)
-      (collect-sound (allScreens (hallIn t)) shown (decodeDesk (recordOf (hallIn t) t d)) (some-screens (hallIn t) ok) (v .formed .screens) (desk-is-sound d r)) i
+      (collect-sound (allScreens (hallIn t)) shown (decodeDesk (recordOf (hallIn t) t d)) (some-screens (hallIn t) (k .fits)) (v .formed .screens) (desk-is-sound d r)) i
       (λ j l a. first j (omega (arith, ltb-false (recordStart (hallIn t) d) i (left-no (ltb (recordStart (hallIn t) d) i) (ltb i (recordStart (hallIn t) d + recordWidth (hallIn t))) q (lt-ltb i (recordStart (hallIn t) d + recordWidth (hallIn t)) (omega arith))))))
     where
       left-no : (a b : Bool) → a && b ≡ false → b ≡ true → a ≡ false
@@ -200,44 +197,44 @@ module _ (t : List ℕ) (small : Words16 t) (s : sound t ≡ true) where
   after-valid c e =
       subst (λ (r : Done). Valid (hallIn t) (r .after))
       (ap (λ (n : ℕ). decide n (decode (hallIn t) t) (perform (hallIn t) (decode (hallIn t) t) c)) e)
-      (valid-step (hallIn t) ok (decode (hallIn t) t) c v)
+      (valid-step (hallIn t) (k .fits) (decode (hallIn t) t) c v)
 
-  written-sound : (c : Call) → asked t c ≡ 0 → sound (written t c) ≡ true
+  written-sound : (c : Call) → asked t c ≡ 0 → sound limits (written t c) ≡ true
   written-sound c e =
-      rw (encoded t c small s e)
-      (encode-is-sound (hallIn t) ok (perform (hallIn t) (decode (hallIn t) t) c .after) (after-valid c e) (drop (need (hallIn t)) t))
+      rw (encoded t c small k e)
+      (encode-is-sound limits (hallIn t) (known-inside limits t s) (perform (hallIn t) (decode (hallIn t) t) c .after) (after-valid c e) (drop (need (hallIn t)) t))
 
 -- ---- Every step.
-pub demand1 : (t : List ℕ) → Words16 t → (c : Call) → Demand1 t c
-demand1 t small c =
+pub demand1 : (limits : Limits) (t : List ℕ) → Words16 t → (c : Call) → Demand1 limits t c
+demand1 limits t small c =
     record {
-      refused = step-refused t c;
+      refused = step-refused limits t c;
       accepted =
-          by-step (λ r. r .answer .number ≡ 0 → (i : ℕ) → names t c i ≡ false → getD (r .after) i 0 ≡ getD t i 0) t c
-          (λ q. absurd (omega arith)) (λ n a q. absurd (omega arith)) (λ s a q. written-keeps t small s c a);
-      sameLength = step-length t c small;
-      staysSound = by-step (λ r. sound t ≡ true → sound (r .after) ≡ true) t c (λ q. q) (λ n a q. q) (λ s a q. written-sound t small s c a);
+          by-step limits (λ r. r .answer .number ≡ 0 → (i : ℕ) → names t c i ≡ false → getD (r .after) i 0 ≡ getD t i 0) t c
+          (λ q. absurd (omega arith)) (λ n a q. absurd (omega arith)) (λ s a q. written-keeps limits t small s c a);
+      sameLength = step-length limits t c small;
+      staysSound = by-step limits (λ r. sound limits t ≡ true → sound limits (r .after) ≡ true) t c (λ q. q) (λ n a q. q) (λ s a q. written-sound limits t small s c a);
     }
 
 -- ---- A list of steps on tables that are sound: 5 is no question's number.
 not-five : (H : Hall) (st : State) (c : Call) → firstNo (questions H st c) ≡ 5 → ⊥
 not-five H st (Take d c p) e = omega (arith, first-no-is-asked (questions H st (Take d c p)) 4 e)
 not-five H st (Drop d c) e = omega (arith, first-no-is-asked (questions H st (Drop d c)) 4 e)
-not-five H st (Swap d p v) e = omega (arith, first-no-is-asked (questions H st (Swap d p v)) 4 e)
+not-five H st (Swap d p new) e = omega (arith, first-no-is-asked (questions H st (Swap d p new)) 4 e)
 not-five H st (Retire d) e = omega (arith, first-no-is-asked (questions H st (Retire d)) 4 e)
 not-five H st (Collect d) e = omega (arith, first-no-is-asked (questions H st (Collect d)) 4 e)
 
-never-five-step : (t : List ℕ) (c : Call) → sound t ≡ true → stepTable t c .answer .number ≡ 5 → ⊥
-never-five-step t c s e = by-cases (asked t c) refl
+never-five-step : (limits : Limits) (t : List ℕ) (c : Call) → sound limits t ≡ true → stepTable limits t c .answer .number ≡ 5 → ⊥
+never-five-step limits t c s e = by-cases (asked t c) refl
   where
     by-cases : (m : ℕ) → asked t c ≡ m → ⊥
-    by-cases zero a = omega (arith, ap (λ (r : TableDone). r .answer .number) (accepted-step t c s a))
-    by-cases (suc m) a = not-five (hallIn t) (decode (hallIn t) t) c (omega (arith, ap (λ (r : TableDone). r .answer .number) (refused-step t c m s a)))
+    by-cases zero a = omega (arith, ap (λ (r : TableDone). r .answer .number) (accepted-step limits t c s a))
+    by-cases (suc m) a = not-five (hallIn t) (decode (hallIn t) t) c (omega (arith, ap (λ (r : TableDone). r .answer .number) (refused-step limits t c m s a)))
 
-pub never-five : (cs : List Call) (t : List ℕ) → ((i : ℕ) → sound (endTable t (take i cs)) ≡ true) → (i : ℕ) → numberAt (runTable t cs) i ≡ 5 → ⊥
-never-five [] t s i e = omega arith
-never-five (c ∷ cs) t s zero e = never-five-step t c (s 0) e
-never-five (c ∷ cs) t s (suc i) e = never-five cs (stepTable t c .after) (λ j. s (suc j)) i e
+pub never-five : (limits : Limits) (cs : List Call) (t : List ℕ) → ((i : ℕ) → sound limits (endTable limits t (take i cs)) ≡ true) → (i : ℕ) → numberAt (runTable limits t cs) i ≡ 5 → ⊥
+never-five limits [] t s i e = omega arith
+never-five limits (c ∷ cs) t s zero e = never-five-step limits t c (s 0) e
+never-five limits (c ∷ cs) t s (suc i) e = never-five limits cs (stepTable limits t c .after) (λ j. s (suc j)) i e
 
 -- ---- Every opening.
 opened-past : (H : Hall) (t : List ℕ) (i : ℕ) → need H ≤ i → getD (openedTable H t) i 0 ≡ getD t i 0
@@ -247,18 +244,18 @@ opened-past H t i h =
     let e : need H + (i - length front) ≡ i = omega (arith, lf) in
     get-past front (drop (need H) t) i (omega (arith, lf)) ∙ getD-drop (need H) t (i - length front) 0 ∙ ap (λ (n : ℕ). getD t n 0) e
 
-pub opening-demand1 : (H : Hall) (t : List ℕ) → OpeningDemand1 H t
-opening-demand1 H t =
+pub opening-demand1 : (limits : Limits) (H : Hall) (t : List ℕ) → OpeningDemand1 limits H t
+opening-demand1 limits H t =
     record {
       refused =
-          by-open
+          by-open limits
           (λ r. (n : ℕ) → r .answer .number ≡ suc n → (1 ≤ copies (suc n) (1 ∷ 2 ∷ 3 ∷ 4 ∷ [])) × (r .answer .session ≡ 0) × (r .after ≡ t)) H t
-          (λ m a n q. (first-no-is-asked (openQuestions H t) n (a ∙ q), refl, refl)) (λ a n q. absurd (omega arith));
+          (λ m a n q. (first-no-is-asked (openQuestions limits H t) n (a ∙ q), refl, refl)) (λ a n q. absurd (omega arith));
       accepted =
-          by-open (λ r. r .answer .number ≡ 0 → (i : ℕ) → need H ≤ i → getD (r .after) i 0 ≡ getD t i 0) H t
+          by-open limits (λ r. r .answer .number ≡ 0 → (i : ℕ) → need H ≤ i → getD (r .after) i 0 ≡ getD t i 0) H t
           (λ m a q. absurd (omega arith)) (λ a q. opened-past H t);
-      sameLength = open-length H t;
+      sameLength = open-length limits H t;
       staysSound =
-          by-open (λ r. r .answer .number ≡ 0 → sound (r .after) ≡ true) H t (λ m a q. absurd (omega arith))
-          (λ a q. sound-table H (hall-opens H t a .0) t []);
+          by-open limits (λ r. r .answer .number ≡ 0 → sound limits (r .after) ≡ true) H t (λ m a q. absurd (omega arith))
+          (λ a q. sound-table limits H (hall-opens limits H t a .0) t []);
     }

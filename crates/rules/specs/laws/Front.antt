@@ -7,12 +7,12 @@ use mathlib.Core.List.{append-nil, List, [], _∷_, _++_, append-assoc}
 use lib.ListN.{length, take, drop, length-append, drop-of-length-le, take-append-drop}
 use lib.Seq.{drop-at, length-take-le, take-all, getD-take}
 use Rattle.rules.specs.Bytes.{IsBytes, bytesOfWords, laidOver, onBytes, reply, stepBytes, wordsOfBytes}
-use Rattle.rules.specs.Hall.{Hall}
+use Rattle.rules.specs.Hall.{Hall, Limits}
 use Rattle.rules.specs.Steps.{Call}
 use Rattle.rules.specs.Table.{TableDone, hallIn, headerWords, need, stepTable}
 use Rattle.rules.specs.laws.Bytes.{bytes-length, laid-back}
 use Rattle.rules.specs.laws.Prefix.{step-append}
-use Rattle.rules.specs.laws.Tables.{Opens}
+use Rattle.rules.specs.laws.Tables.{Fits}
 
 -- ---- On words.
 module _ (t : List ℕ) (m : ℕ) where
@@ -24,9 +24,6 @@ module _ (t : List ℕ) (m : ℕ) where
       by-length (yes h) = subst₂ Q (sym (take-all m t h)) (sym (drop-of-length-le t h)) all
       by-length (no h) = front (length-take-le m t (omega arith))
 
-  whole : take m t ++ drop m t ≡ t
-  whole = take-append-drop m t
-
   hall-front : headerWords ≤ m → hallIn (take m t) ≡ hallIn t
   hall-front three = λ i. record {
     desks = getD-take m t 0 0 (omega arith) i;
@@ -34,16 +31,18 @@ module _ (t : List ℕ) (m : ℕ) where
     positions = getD-take m t 2 0 (omega arith) i;
   }
 
-  pub step-front : headerWords ≤ m → (Opens (hallIn t) → need (hallIn t) ≤ m) → (c : Call)
-      → stepTable t c ≡ record { answer = stepTable (take m t) c .answer; after = stepTable (take m t) c .after ++ drop m t }
-  step-front three enough c =
-      ap (λ (x : List ℕ). stepTable x c) (sym whole)
-      ∙ front-or-all (λ a b. stepTable (a ++ b) c ≡ record { answer = stepTable a c .answer; after = stepTable a c .after ++ b })
-      (ap (λ (x : List ℕ). stepTable x c) (append-nil t) ∙ (λ i. record { answer = stepTable t c .answer; after = sym (append-nil (stepTable t c .after)) i }))
-      (λ long. step-append (take m t) (drop m t) (omega (arith, long)) (λ o. room long (enough (subst Opens (hall-front three) o))) c)
+-- a step on the table is the step on its front, and what stands behind it
+module _ (limits : Limits) (t : List ℕ) (m : ℕ) (three : headerWords ≤ m) (enough : Fits (hallIn t) → need (hallIn t) ≤ m) where
+  pub step-front : (c : Call)
+      → stepTable limits t c ≡ record { answer = stepTable limits (take m t) c .answer; after = stepTable limits (take m t) c .after ++ drop m t }
+  step-front c =
+      ap (λ (x : List ℕ). stepTable limits x c) (sym (take-append-drop m t))
+      ∙ front-or-all t m (λ a b. stepTable limits (a ++ b) c ≡ record { answer = stepTable limits a c .answer; after = stepTable limits a c .after ++ b })
+      (ap (λ (x : List ℕ). stepTable limits x c) (append-nil t) ∙ (λ i. record { answer = stepTable limits t c .answer; after = sym (append-nil (stepTable limits t c .after)) i }))
+      (λ long. step-append limits (take m t) (drop m t) (omega (arith, long)) (λ fits. room long (enough (subst Fits (hall-front t m three) fits))) c)
     where
       room : length (take m t) ≡ m → need (hallIn t) ≤ m → need (hallIn (take m t)) ≤ length (take m t)
-      room long h = subst (λ (H : Hall). need H ≤ length (take m t)) (sym (hall-front three)) (omega (arith, long))
+      room long h = subst (λ (H : Hall). need H ≤ length (take m t)) (sym (hall-front t m three)) (omega (arith, long))
 
 -- ---- On bytes.
 pub bytes-append : (xs ys : List ℕ) → bytesOfWords (xs ++ ys) ≡ bytesOfWords xs ++ bytesOfWords ys
@@ -61,12 +60,12 @@ laid-front m bytes words are same =
     let n : ℕ = 2 * length words in
     let both : 2 * length t ≡ 2 * length (words ++ z) =
     omega (arith, length-append words z, length-append a z, ap length (take-append-drop m t)) in
-    let whole : bytesOfWords a ++ (bytesOfWords z ++ drop (2 * length t) bytes) ≡ bytes =
+    let again : bytesOfWords a ++ (bytesOfWords z ++ drop (2 * length t) bytes) ≡ bytes =
     sym (append-assoc (bytesOfWords a) (bytesOfWords z) (drop (2 * length t) bytes))
     ∙ ap (λ (l : List ℕ). l ++ drop (2 * length t) bytes) (sym (bytes-append a z) ∙ ap bytesOfWords (take-append-drop m t))
     ∙ laid-back bytes are in
     let behind : drop n bytes ≡ bytesOfWords z ++ drop (2 * length (words ++ z)) bytes =
-    ap (drop n) (sym whole)
+    ap (drop n) (sym again)
     ∙ drop-at (bytesOfWords a) (bytesOfWords z ++ drop (2 * length t) bytes) n (omega (arith, bytes-length a))
     ∙ ap (λ (m : ℕ). bytesOfWords z ++ drop m bytes) both in
     ap (λ (l : List ℕ). bytesOfWords words ++ l) behind
@@ -88,11 +87,11 @@ on-front m bytes told done are same e =
     (λ i. record { reply = reply (told .answer); after = laid-front m bytes (told .after) are same i })
     ∙ sym (ap (λ (r : TableDone). onBytes r bytes) e)
 
-module _ (m : ℕ) (bytes : List ℕ) (are : IsBytes bytes) (told : TableDone) (same : length (told .after) ≡ length (take m (wordsOfBytes bytes))) where
-  pub step-on-front : headerWords ≤ m → (Opens (hallIn (wordsOfBytes bytes)) → need (hallIn (wordsOfBytes bytes)) ≤ m) → (c : Call)
-      → told ≡ stepTable (take m (wordsOfBytes bytes)) c
-      → record { reply = reply (told .answer); after = laidOver (told .after) bytes } ≡ stepBytes bytes c
+module _ (limits : Limits) (m : ℕ) (bytes : List ℕ) (are : IsBytes bytes) (told : TableDone) (same : length (told .after) ≡ length (take m (wordsOfBytes bytes))) where
+  pub step-on-front : headerWords ≤ m → (Fits (hallIn (wordsOfBytes bytes)) → need (hallIn (wordsOfBytes bytes)) ≤ m) → (c : Call)
+      → told ≡ stepTable limits (take m (wordsOfBytes bytes)) c
+      → record { reply = reply (told .answer); after = laidOver (told .after) bytes } ≡ stepBytes limits bytes c
   unfolding stepBytes
   step-on-front three enough c e =
-      on-front m bytes told (stepTable (wordsOfBytes bytes) c) are same
-      (step-front (wordsOfBytes bytes) m three enough c ∙ ap (λ (r : TableDone). record { answer = r .answer; after = r .after ++ drop m (wordsOfBytes bytes) }) (sym e))
+      on-front m bytes told (stepTable limits (wordsOfBytes bytes) c) are same
+      (step-front limits (wordsOfBytes bytes) m three enough c ∙ ap (λ (r : TableDone). record { answer = r .answer; after = r .after ++ drop m (wordsOfBytes bytes) }) (sym e))

@@ -9,19 +9,20 @@ use lib.ListN.{length, take, getD, drop, set, length-append, replicate, length-d
 use lib.Seq.{set-append-left, take-append-le}
 use lib.Dec.{leb}
 use borrow.Author.Tests.{le-leb}
-use Rattle.rules.specs.Hall.{Hall, State, allScreens, mostAllScreens, mostDesks, mostPositions, mostScreens}
+use Rattle.rules.specs.Hall.{Hall, Limits, State, allScreens, mostAllScreens, mostDesks}
 use Rattle.rules.specs.Steps.{Call, Collect, Drop, Retire, Swap, Take, collect, firstNo, inRange, perform, questions, retire}
-use Rattle.rules.specs.Table.{TableDone, decode, decodeDesk, encodeDesk, everyRecord, hallIn, headerWords, mostWords, need, openQuestions, openTable}
-use Rattle.rules.specs.Table.{openedTable, pieces, positionWord, putRecord, recordOf, recordSound, recordStart, recordWidth, recordsIn, widthFor}
-use Rattle.rules.specs.Table.{screenWord, sound, stepTable, written}
-use Rattle.rules.specs.laws.Effect.{Formed, in-range}
+use Rattle.rules.specs.Table.{TableDone, decode, decodeDesk, encodeDesk, everyRecord, hallIn, headerWords, inLimits, mostWords, need, openQuestions}
+use Rattle.rules.specs.Table.{openTable, openedTable, pieces, positionWord, putRecord, recordOf, recordSound, recordStart, recordWidth, recordsIn}
+use Rattle.rules.specs.Table.{screenWord, sound, stepTable, widthFor, written}
+use Rattle.rules.specs.laws.Bools.{and-true}
+use Rattle.rules.specs.laws.Effect.{Formed}
 use Rattle.rules.specs.laws.Links.{desk-fact, drop-facts, position-asked, swap-facts, swap-position-asked, take-facts}
 use Rattle.rules.specs.laws.ScreenIndex.{screen-in}
 use Rattle.rules.specs.laws.SoundTables.{valid}
 use Rattle.rules.specs.laws.TableSteps.{accepted-open, accepted-step, asked, known, refused-open, refused-step, unsound-step}
-use Rattle.rules.specs.laws.Tables.{Opens, hall-opens}
+use Rattle.rules.specs.laws.Tables.{Fits, hall-opens, limits-fit}
 
-pub need-at-most : (H : Hall) → Opens H → need H ≤ mostWords
+pub need-at-most : (H : Hall) → Fits H → need H ≤ mostWords
 need-at-most H o =
     let S≤ : allScreens H ≤ mostAllScreens = mul-le-mul (o .desks .1) (o .screens .1) in
     let wide : recordWidth H ≤ widthFor mostAllScreens = omega arith in
@@ -38,6 +39,11 @@ pieces-append zero w x b h = refl
 pieces-append (suc n) w x b h =
     λ i. take-append-le w x b (omega arith) i
     ∷ (ap (pieces n w) (drop-append-left w x b (omega arith)) ∙ pieces-append n w (drop w x) b (omega (arith, length-drop w x))) i
+
+-- a table that is long enough is so with more behind it
+long-before : (a b : List ℕ) (H : Hall) → need H ≤ length a → leb (need H) (length (a ++ b)) ≡ leb (need H) (length a)
+long-before a b H far =
+    le-leb (need H) (length (a ++ b)) (omega (arith, far, length-append a b)) ∙ sym (le-leb (need H) (length a) far)
 
 -- what an accepted step writes, with the hall beside the table
 abbrev writtenIn : Hall → List ℕ → Call → List ℕ
@@ -144,100 +150,87 @@ module _ (a b : List ℕ) (three : headerWords ≤ length a) where
         (λ i. putRecord H (a ++ b) d (encodeDesk (allScreens H) (collect (allScreens H) (decode-same i .shown) (decodeDesk (record-same d r i)) .after)))
         ∙ put-same-rest d r (encodeDesk (allScreens H) (collect (allScreens H) (decode H a .shown) (decodeDesk (recordOf H a d)) .after))
 
-  -- ---- Soundness does not look past the need.
-  sound-same : (Opens (hallIn a) → need (hallIn a) ≤ length a) → sound (a ++ b) ≡ sound a
+-- ---- Soundness does not look past the need.
+module _ (limits : Limits) (a b : List ℕ) (three : headerWords ≤ length a) (enough : Fits (hallIn a) → need (hallIn a) ≤ length a) where
+  sound-same : sound limits (a ++ b) ≡ sound limits a
   unfolding sound
-  sound-same enough =
-      ap (λ (H : Hall). asks H (a ++ b)) hall-same
-      ∙ by-ranges (inRange (hallIn a .desks) mostDesks) (inRange (hallIn a .screens) mostScreens)
-      (inRange (hallIn a .positions) mostPositions) refl refl refl
+  sound-same = ap (λ (H : Hall). inLimits limits H && asks H (a ++ b)) (hall-same a b three) ∙ by-range (inLimits limits (hallIn a)) refl
     where
-      rest : Hall → List ℕ → Bool
-      rest H t = leb (need H) (length t) && everyRecord (recordSound (allScreens H)) (recordsIn H t)
-
       asks : Hall → List ℕ → Bool
-      asks H t = inRange (H .desks) mostDesks && (inRange (H .screens) mostScreens && (inRange (H .positions) mostPositions && rest H t))
+      asks H t = leb (need H) (length t) && everyRecord (recordSound (allScreens H)) (recordsIn H t)
 
-      by-ranges : (x y z : Bool) → inRange (hallIn a .desks) mostDesks ≡ x → inRange (hallIn a .screens) mostScreens ≡ y
-          → inRange (hallIn a .positions) mostPositions ≡ z
-          → x && (y && (z && rest (hallIn a) (a ++ b))) ≡ x && (y && (z && rest (hallIn a) a))
-      by-ranges true true true p q r =
-          let o : Opens (hallIn a) =
-          record {
-            desks = in-range (hallIn a .desks) mostDesks p;
-            screens = in-range (hallIn a .screens) mostScreens q;
-            positions = in-range (hallIn a .positions) mostPositions r;
-          } in
-          let both : leb (need (hallIn a)) (length (a ++ b)) ≡ leb (need (hallIn a)) (length a) =
-          le-leb (need (hallIn a)) (length (a ++ b)) (omega (arith, enough o, length-append a b))
-          ∙ sym (le-leb (need (hallIn a)) (length a) (enough o)) in
-          λ i. both i && everyRecord (recordSound (allScreens (hallIn a))) (records-same (hallIn a) (enough o) i)
-      by-ranges true true false p q r = refl
-      by-ranges true false z p q r = refl
-      by-ranges false y z p q r = refl
+      by-range : (x : Bool) → inLimits limits (hallIn a) ≡ x → x && asks (hallIn a) (a ++ b) ≡ x && asks (hallIn a) a
+      by-range true inside =
+          let far = enough (limits-fit limits (hallIn a) inside) in
+          λ i. long-before a b (hallIn a) far i && everyRecord (recordSound (allScreens (hallIn a))) (records-same a b three (hallIn a) far i)
+      by-range false inside = refl
 
   -- ---- A step.
-  pub step-append : (Opens (hallIn a) → need (hallIn a) ≤ length a) → (c : Call)
-      → stepTable (a ++ b) c ≡ record { answer = stepTable a c .answer; after = stepTable a c .after ++ b }
-  step-append enough c = by-sound (sound a) refl
+  pub step-append : (c : Call) → stepTable limits (a ++ b) c ≡ record { answer = stepTable limits a c .answer; after = stepTable limits a c .after ++ b }
+  step-append c = by-sound (sound limits a) refl
     where
       done : TableDone → TableDone
       done r = record { answer = r .answer; after = r .after ++ b }
 
-      by-sound : (x : Bool) → sound a ≡ x → stepTable (a ++ b) c ≡ done (stepTable a c)
-      by-sound false s = unsound-step (a ++ b) c (sound-same enough ∙ s) ∙ sym (ap done (unsound-step a c s))
+      by-sound : (x : Bool) → sound limits a ≡ x → stepTable limits (a ++ b) c ≡ done (stepTable limits a c)
+      by-sound false s = unsound-step limits (a ++ b) c (sound-same ∙ s) ∙ sym (ap done (unsound-step limits a c s))
       by-sound true s = by-number (asked a c) refl
         where
           far : need (hallIn a) ≤ length a
-          far = known a s .long
+          far = known limits a s .long
 
           -- the questions and the reply are those at the same state
           outcome-same : perform (hallIn (a ++ b)) (decode (hallIn (a ++ b)) (a ++ b)) c .session ≡ perform (hallIn a) (decode (hallIn a) a) c .session
           outcome-same =
-              ap (λ (H : Hall). perform H (decode H (a ++ b)) c .session) hall-same
-              ∙ ap (λ (st : State). perform (hallIn a) st c .session) (decode-same (hallIn a) far)
+              ap (λ (H : Hall). perform H (decode H (a ++ b)) c .session) (hall-same a b three)
+              ∙ ap (λ (st : State). perform (hallIn a) st c .session) (decode-same a b three (hallIn a) far)
 
           asked-same : asked (a ++ b) c ≡ asked a c
           asked-same =
-              ap (λ (H : Hall). firstNo (questions H (decode H (a ++ b)) c)) hall-same
-              ∙ ap (λ (st : State). firstNo (questions (hallIn a) st c)) (decode-same (hallIn a) far)
+              ap (λ (H : Hall). firstNo (questions H (decode H (a ++ b)) c)) (hall-same a b three)
+              ∙ ap (λ (st : State). firstNo (questions (hallIn a) st c)) (decode-same a b three (hallIn a) far)
 
-          by-number : (n : ℕ) → asked a c ≡ n → stepTable (a ++ b) c ≡ done (stepTable a c)
+          written-same : asked a c ≡ 0 → written (a ++ b) c ≡ written a c ++ b
+          written-same q =
+              written-is-in (a ++ b) c ∙ ap (λ (H : Hall). writtenIn H (a ++ b) c) (hall-same a b three)
+              ∙ written-before a b three (hallIn a) far (decode (hallIn a) a) (valid a (known limits a s) .formed) c q
+              ∙ ap (λ (l : List ℕ). l ++ b) (sym (written-is-in a c))
+
+          by-number : (n : ℕ) → asked a c ≡ n → stepTable limits (a ++ b) c ≡ done (stepTable limits a c)
           by-number zero q =
-              accepted-step (a ++ b) c (sound-same enough ∙ s) (asked-same ∙ q)
-              ∙ (λ i. record {
-                answer = record { number = 0; session = outcome-same i };
-                after =
-                    (written-is-in (a ++ b) c ∙ ap (λ (H : Hall). writtenIn H (a ++ b) c) hall-same ∙ written-before (hallIn a) far (decode (hallIn a) a) (valid a (known a s) .formed) c q ∙ ap (λ (l : List ℕ). l ++ b) (sym (written-is-in a c))) i;
-              })
-              ∙ sym (ap done (accepted-step a c s q))
-          by-number (suc n) q = refused-step (a ++ b) c n (sound-same enough ∙ s) (asked-same ∙ q) ∙ sym (ap done (refused-step a c n s q))
+              accepted-step limits (a ++ b) c (sound-same ∙ s) (asked-same ∙ q)
+              ∙ (λ i. record { answer = record { number = 0; session = outcome-same i }; after = written-same q i })
+              ∙ sym (ap done (accepted-step limits a c s q))
+          by-number (suc n) q =
+              refused-step limits (a ++ b) c n (sound-same ∙ s) (asked-same ∙ q) ∙ sym (ap done (refused-step limits a c n s q))
 
 -- ---- The opening.
-module _ (a b : List ℕ) where
-  pub open-append : (H : Hall) → (Opens H → need H ≤ length a)
-      → openTable H (a ++ b) ≡ record { answer = openTable H a .answer; after = openTable H a .after ++ b }
-  open-append H enough = by-number (firstNo (openQuestions H a)) refl
+module _ (limits : Limits) (a b : List ℕ) (H : Hall) (enough : Fits H → need H ≤ length a) where
+  pub open-append : openTable limits H (a ++ b) ≡ record { answer = openTable limits H a .answer; after = openTable limits H a .after ++ b }
+  open-append = by-number (firstNo (openQuestions limits H a)) refl
     where
       done : TableDone → TableDone
       done r = record { answer = r .answer; after = r .after ++ b }
 
-      same : firstNo (openQuestions H (a ++ b)) ≡ firstNo (openQuestions H a)
-      same = by-ranges (inRange (H .desks) mostDesks) (inRange (H .screens) mostScreens) (inRange (H .positions) mostPositions) refl refl refl
+      desks : Bool
+      desks = inRange (H .desks) (limits .desks)
+
+      screens : Bool
+      screens = inRange (H .screens) (limits .screens)
+
+      positions : Bool
+      positions = inRange (H .positions) (limits .positions)
+
+      same : firstNo (openQuestions limits H (a ++ b)) ≡ firstNo (openQuestions limits H a)
+      same = by-ranges desks screens positions refl refl refl
         where
-          by-ranges : (x y z : Bool) → inRange (H .desks) mostDesks ≡ x → inRange (H .screens) mostScreens ≡ y
-              → inRange (H .positions) mostPositions ≡ z
-              → cond {A = ℕ} x (cond {A = ℕ} y (cond {A = ℕ} z (cond {A = ℕ} (leb (need H) (length (a ++ b))) 0 4) 3) 2) 1 ≡ cond x (cond y (cond z (cond (leb (need H) (length a)) 0 4) 3) 2) 1
+          asks : Bool → Bool → Bool → List ℕ → ℕ
+          asks x y z t = cond x (cond y (cond z (cond (leb (need H) (length t)) 0 4) 3) 2) 1
+
+          by-ranges : (x y z : Bool) → desks ≡ x → screens ≡ y → positions ≡ z → asks x y z (a ++ b) ≡ asks x y z a
           by-ranges true true true p q r =
-              let o : Opens H =
-              record {
-                desks = in-range (H .desks) mostDesks p;
-                screens = in-range (H .screens) mostScreens q;
-                positions = in-range (H .positions) mostPositions r;
-              } in
-              let both : leb (need H) (length (a ++ b)) ≡ leb (need H) (length a) =
-              le-leb (need H) (length (a ++ b)) (omega (arith, enough o, length-append a b)) ∙ sym (le-leb (need H) (length a) (enough o)) in
-              ap (λ (y : Bool). cond {A = ℕ} y 0 4) both
+              ap (λ (y : Bool). cond {A = ℕ} y 0 4)
+              (long-before a b H (enough (limits-fit limits H (and-true desks (screens && positions) p (and-true screens positions q r)))))
           by-ranges true true false p q r = refl
           by-ranges true false z p q r = refl
           by-ranges false y z p q r = refl
@@ -247,9 +240,9 @@ module _ (a b : List ℕ) where
           let front : List ℕ = H .desks ∷ H .screens ∷ H .positions ∷ replicate (need H - headerWords) 0 in
           ap (λ (l : List ℕ). front ++ l) (drop-append-left (need H) a b h) ∙ sym (append-assoc front (drop (need H) a) b)
 
-      by-number : (n : ℕ) → firstNo (openQuestions H a) ≡ n → openTable H (a ++ b) ≡ done (openTable H a)
+      by-number : (n : ℕ) → firstNo (openQuestions limits H a) ≡ n → openTable limits H (a ++ b) ≡ done (openTable limits H a)
       by-number zero q =
-          accepted-open H (a ++ b) (same ∙ q)
-          ∙ (λ i. record { answer = record { number = 0; session = 0 }; after = opened-append (hall-opens H a q .1) i })
-          ∙ sym (ap done (accepted-open H a q))
-      by-number (suc n) q = refused-open H (a ++ b) n (same ∙ q) ∙ sym (ap done (refused-open H a n q))
+          accepted-open limits H (a ++ b) (same ∙ q)
+          ∙ (λ i. record { answer = record { number = 0; session = 0 }; after = opened-append (hall-opens limits H a q .1) i })
+          ∙ sym (ap done (accepted-open limits H a q))
+      by-number (suc n) q = refused-open limits H (a ++ b) n (same ∙ q) ∙ sym (ap done (refused-open limits H a n q))

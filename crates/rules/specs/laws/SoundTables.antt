@@ -1,27 +1,27 @@
 -- Of any sound table of 16-bit words, not only of one that an opening began: a step on it is to read the state, do the step of the rules, and write the state.
-use Prim.Native.Nat.{ℕ, zero, suc, _+_, _*_, _%_, _≤_, _<_}
+use Prim.Native.Nat.{ℕ, zero, suc, _+_, _*_, _-_, _%_, _≤_, _<_}
 use native.Mathlib.Omega.{arith}
 use mathlib.Core.Path.{_≡_, refl, sym, ap, _∙_}
 use mathlib.Core.Bool.{Bool, true, false, not, _&&_}
-use mathlib.Core.List.{List, [], _∷_, _++_, map}
+use mathlib.Core.List.{append-assoc, List, [], _∷_, _++_, map}
 use lib.ListN.{length, getD, take, drop, length-drop, length-map, take-append-drop}
-use lib.Seq.{length-take-le}
+use lib.Seq.{drop-cons, drop-drop, length-take-le}
 use lib.Dec.{leb, ltb, eqb, T}
 use borrow.Author.Tests.{leb-true, eqb-true, eqb-false, ltb-true}
 use Rattle.rules.specs.Hall.{Hall, TestedPlace, allScreens, mostAllScreens}
 use Rattle.rules.specs.History.{copies}
 use Rattle.rules.specs.Steps.{Call, perform}
-use Rattle.rules.specs.Table.{allMarks, bitsOfWords, decode, decodeDesk, encode, every, everyRecord, hallIn, need, ones, pieces, placesOf, recordSound}
-use Rattle.rules.specs.Table.{headerWords, listPlace, markWords, marksPlace, recordWidth, recordsIn, scanSound, sound, widthFor, written}
+use Rattle.rules.specs.Table.{allMarks, bitsOfWords, decode, decodeDesk, encode, every, everyRecord, hallIn, headerWords, listPlace, markWords}
+use Rattle.rules.specs.Table.{marksPlace, need, ones, pieces, placesOf, recordSound, recordWidth, recordsIn, scanSound, widthFor, written}
 use Rattle.rules.specs.laws.Bools.{and-left, and-right}
-use Rattle.rules.specs.laws.Decoding.{length-bits-of-words, list-parts, marks-of-places, ready-length, same-table, tested-length}
+use Rattle.rules.specs.laws.Decoding.{length-bits-of-words, list-parts, marks-of-places, ready-length, records-back, small-drop, tested-length}
 use Rattle.rules.specs.laws.Decoding.{waiting-length}
 use Rattle.rules.specs.laws.Encoding.{ones-marks}
 use Rattle.rules.specs.laws.Lists.{matches, matches-other}
 use Rattle.rules.specs.laws.Marks.{markCount}
 use Rattle.rules.specs.laws.Sound.{ScanFits, Sound, copies-list, ones-append}
-use Rattle.rules.specs.laws.TableSteps.{Known, asked, known}
-use Rattle.rules.specs.laws.Tables.{All, Opens, Valid, written-is}
+use Rattle.rules.specs.laws.TableSteps.{Known, asked}
+use Rattle.rules.specs.laws.Tables.{All, Valid, written-is}
 
 real-cnt : (l : List ℕ) → every (λ x. not (eqb x 0)) l ≡ true → copies 0 l ≡ 0
 real-cnt [] h = refl
@@ -89,9 +89,6 @@ length-records : (n w : ℕ) (x : List ℕ) → length (pieces n w x) ≡ n
 length-records zero w x = refl
 length-records (suc n) w x = ap suc (length-records n w (drop w x))
 
-pub known-opens : (t : List ℕ) → Known t → Opens (hallIn t)
-known-opens t k = record { desks = k .desks; screens = k .screens; positions = k .positions }
-
 pub valid : (t : List ℕ) → Known t → Valid (hallIn t) (decode (hallIn t) t)
 valid t k =
     let H : Hall = hallIn t in
@@ -106,10 +103,36 @@ valid t k =
       desks = records-sound (allScreens H) (k .most) (H .desks) (drop (allScreens H) (drop (H .positions) (drop headerWords t))) (omega arith) (k .records);
     }
 
+glue : (a b c : ℕ) (x : List ℕ) → (take a x ++ (take b (drop a x) ++ take c (drop b (drop a x)))) ++ drop c (drop b (drop a x)) ≡ x
+glue a b c x =
+    append-assoc (take a x) (take b (drop a x) ++ take c (drop b (drop a x))) (drop c (drop b (drop a x)))
+    ∙ ap {B = List ℕ} (λ y. take a x ++ y)
+    (append-assoc (take b (drop a x)) (take c (drop b (drop a x))) (drop c (drop b (drop a x))) ∙ ap {B = List ℕ} (λ y. take b (drop a x) ++ y) (take-append-drop c (drop b (drop a x))) ∙ take-append-drop b (drop a x))
+    ∙ take-append-drop a x
+
+-- A sound table of 16-bit words is its state's, with what stands past the need.
+same-table : (t : List ℕ) → ((i : ℕ) → getD t i 0 < 65536) → Known t → encode (hallIn t) (decode (hallIn t) t) ++ drop (need (hallIn t)) t ≡ t
+same-table t small k =
+    let H : Hall = hallIn t in
+    let long = k .long in
+    let x : List ℕ = drop (allScreens H) (drop (H .positions) (drop headerWords t)) in
+    let lx : length x ≡ length t - headerWords - H .positions - allScreens H =
+    omega (arith, length-drop (allScreens H) (drop (H .positions) (drop headerWords t)), length-drop (H .positions) (drop headerWords t), length-drop headerWords t) in
+    let records =
+    records-back (allScreens H) (H .desks) x (k .most) (omega arith)
+    (small-drop (allScreens H) (drop (H .positions) (drop headerWords t)) (small-drop (H .positions) (drop headerWords t) (small-drop headerWords t small)))
+    (k .records) in
+    let past : drop (need H) t ≡ drop (H .desks * recordWidth H) x =
+    sym
+    (drop-drop (H .desks * recordWidth H) (allScreens H) (drop (H .positions) (drop headerWords t)) ∙ drop-drop (allScreens H + H .desks * recordWidth H) (H .positions) (drop headerWords t) ∙ drop-drop (H .positions + (allScreens H + H .desks * recordWidth H)) headerWords t) in
+    (λ i. H .desks ∷ H .screens ∷ H .positions ∷ ((take (H .positions) (drop headerWords t) ++ (take (allScreens H) (drop (H .positions) (drop headerWords t)) ++ records i)) ++ past i))
+    ∙ ap {B = List ℕ} (λ y. H .desks ∷ H .screens ∷ H .positions ∷ y) (glue (H .positions) (allScreens H) (H .desks * recordWidth H) (drop headerWords t))
+    ∙ sym
+    (drop-cons t 0 0 (omega arith) ∙ ap {B = List ℕ} (λ y. getD t 0 0 ∷ y) (drop-cons t 1 0 (omega arith) ∙ ap {B = List ℕ} (λ y. getD t 1 0 ∷ y) (drop-cons t 2 0 (omega arith))))
+
 -- what an accepted call writes is the table of the state after it
-pub encoded : (t : List ℕ) (c : Call) → ((i : ℕ) → getD t i 0 < 65536) → sound t ≡ true → asked t c ≡ 0
+pub encoded : (t : List ℕ) (c : Call) → ((i : ℕ) → getD t i 0 < 65536) → Known t → asked t c ≡ 0
     → written t c ≡ encode (hallIn t) (perform (hallIn t) (decode (hallIn t) t) c .after) ++ drop (need (hallIn t)) t
-encoded t c sm h q =
-    let k = known t h in
-    ap (λ (x : List ℕ). written x c) (sym (same-table t sm h))
-    ∙ written-is (hallIn t) (known-opens t k) (decode (hallIn t) t) (valid t k) (drop (need (hallIn t)) t) c q
+encoded t c small k q =
+    ap (λ (x : List ℕ). written x c) (sym (same-table t small k))
+    ∙ written-is (hallIn t) (k .fits) (decode (hallIn t) t) (valid t k) (drop (need (hallIn t)) t) c q

@@ -8,11 +8,10 @@ use mathlib.Core.List.{List, [], _++_}
 use lib.ListN.{length, take, drop, replicate}
 use lib.Seq.{take-at}
 use Rattle.rules.specs.Demands.{BackWithin, Demand2, Demand3, countsOfDesk, exactBound, listOfDesk}
-use Rattle.rules.specs.Hall.{Desk, Hall, allScreens, deskOf, fresh, usedPlaces}
-use Rattle.rules.specs.History.{copies, handBacks, handBacksOf, isHandBack, isHandBackOf, isRetirement, isRetirementOf, retirements}
-use Rattle.rules.specs.History.{retirementsOf}
+use Rattle.rules.specs.Hall.{Desk, Hall, Limits, allScreens, deskOf, fresh, usedPlaces}
+use Rattle.rules.specs.History.{copies, handBacks, handBacksOf, isHandBack, isHandBackOf, isRetirement, isRetirementOf, retirements, retirementsOf}
 use Rattle.rules.specs.Steps.{Call, Event, end, firstNo, inRange, run}
-use Rattle.rules.specs.Table.{encode, encodeDesk, endTable, listIn, listOf, need, openIf, openQuestions, openTable, openedTable, recordOf}
+use Rattle.rules.specs.Table.{encode, encodeDesk, endTable, inLimits, listIn, listOf, need, openIf, openQuestions, openTable, openedTable, recordOf}
 use Rattle.rules.specs.Table.{runTable, usedIn}
 use Rattle.rules.specs.laws.Collect.{copiesOn}
 use Rattle.rules.specs.laws.Demand3.{back-in-time, list-bound, never-lacks-room, on-list, three-is-enough}
@@ -23,16 +22,16 @@ use Rattle.rules.specs.laws.Runs.{copies-run, sound-run}
 use Rattle.rules.specs.laws.Session.{same-session}
 use Rattle.rules.specs.laws.Sound.{copies-list, length-list}
 use Rattle.rules.specs.laws.Splits.{no-session-zero, outsider-counts, run-take}
-use Rattle.rules.specs.laws.Tables.{Opens, Valid, desk-record, fresh-valid, opened-is-fresh, some-screens, table-end, table-run, valid-end}
+use Rattle.rules.specs.laws.Tables.{Fits, Valid, desk-record, fresh-valid, limits-fit, opened-is-fresh, some-screens, table-end, table-run, valid-end}
 
 -- ---- What an accepted opening says of its hall.
-pub opening-asks : (H : Hall) (t : List ℕ) → openTable H t .answer .number ≡ 0
-    → (firstNo (openQuestions H t) ≡ 0) × (openTable H t .after ≡ openedTable H t)
+pub opening-asks : (limits : Limits) (H : Hall) (t : List ℕ) → openTable limits H t .answer .number ≡ 0
+    → (firstNo (openQuestions limits H t) ≡ 0) × (openTable limits H t .after ≡ openedTable H t)
 unfolding openTable
-opening-asks H t ok = by-cases (firstNo (openQuestions H t)) refl ok
+opening-asks limits H t ok = by-cases (firstNo (openQuestions limits H t)) refl ok
   where
-    by-cases : (n : ℕ) → firstNo (openQuestions H t) ≡ n → openIf n H t .answer .number ≡ 0
-        → (firstNo (openQuestions H t) ≡ 0) × (openIf n H t .after ≡ openedTable H t)
+    by-cases : (n : ℕ) → firstNo (openQuestions limits H t) ≡ n → openIf n H t .answer .number ≡ 0
+        → (firstNo (openQuestions limits H t) ≡ 0) × (openIf n H t .after ≡ openedTable H t)
     by-cases zero e z = (e, refl)
     by-cases (suc n) e z = absurd (omega arith)
 
@@ -45,31 +44,34 @@ list-encoded : (S : ℕ) (D : Desk) → take (usedIn (encodeDesk S D)) (listIn (
 unfolding encodeDesk
 list-encoded S D = take-at (listOf D) (replicate (2 * S - length (listOf D)) 0) (usedPlaces D) (length-list D)
 
-module _ (H : Hall) (ok : Opens H) (t : List ℕ) (cs : List Call) where
+module _ (limits : Limits) (H : Hall) (inside : inLimits limits H ≡ true) (t : List ℕ) (cs : List Call) where
+  abbrev fits : Fits H
+  fits = limits-fit limits H inside
+
   some : 1 ≤ allScreens H
-  some = some-screens H ok
+  some = some-screens H fits
 
-  run-is : runTable (openedTable H t) cs ≡ run H (fresh H) cs
-  run-is = rw (opened-is-fresh H ok t) (table-run H ok cs (fresh H) (fresh-valid H ok) (drop (need H) t))
+  run-is : runTable limits (openedTable H t) cs ≡ run H (fresh H) cs
+  run-is = rw (opened-is-fresh H fits t) (table-run limits H inside cs (fresh H) (fresh-valid H fits) (drop (need H) t))
 
-  end-is : (i : ℕ) → endTable (openedTable H t) (take i cs) ≡ encode H (end H (fresh H) (take i cs)) ++ drop (need H) t
-  end-is i = rw (opened-is-fresh H ok t) (table-end H ok (take i cs) (fresh H) (fresh-valid H ok) (drop (need H) t))
+  end-is : (i : ℕ) → endTable limits (openedTable H t) (take i cs) ≡ encode H (end H (fresh H) (take i cs)) ++ drop (need H) t
+  end-is i = rw (opened-is-fresh H fits t) (table-end limits H inside (take i cs) (fresh H) (fresh-valid H fits) (drop (need H) t))
 
   valid : (i : ℕ) → Valid H (end H (fresh H) (take i cs))
-  valid i = valid-end H ok (take i cs) (fresh H) (fresh-valid H ok)
+  valid i = valid-end H fits (take i cs) (fresh H) (fresh-valid H fits)
 
   -- the record of desk d after the first i calls
   record-after : (i d : ℕ) → (1 ≤ d) × (d ≤ H .desks)
-      → recordOf H (endTable (openedTable H t) (take i cs)) d ≡ encodeDesk (allScreens H) (deskOf (end H (fresh H) (take i cs)) d)
+      → recordOf H (endTable limits (openedTable H t) (take i cs)) d ≡ encodeDesk (allScreens H) (deskOf (end H (fresh H) (take i cs)) d)
   record-after i d r =
-      ap (λ (l : List ℕ). recordOf H l d) (end-is i) ∙ desk-record H ok (end H (fresh H) (take i cs)) (valid i) (drop (need H) t) d (r .0) (r .1)
+      ap (λ (l : List ℕ). recordOf H l d) (end-is i) ∙ desk-record H fits (end H (fresh H) (take i cs)) (valid i) (drop (need H) t) d (r .0) (r .1)
 
   counts-after : (d i : ℕ)
-      → retirements d (take i (run H (fresh H) cs)) ≡ handBacks d (take i (run H (fresh H) cs)) + countsOfDesk H (endTable (openedTable H t) (take i cs)) d
+      → retirements d (take i (run H (fresh H) cs)) ≡ handBacks d (take i (run H (fresh H) cs)) + countsOfDesk H (endTable limits (openedTable H t) (take i cs)) d
   counts-after d i = rw (run-take H i cs (fresh H)) (by-cases (inRange d (H .desks)) refl)
     where
       by-cases : (b : Bool) → inRange d (H .desks) ≡ b
-          → retirements d (run H (fresh H) (take i cs)) ≡ handBacks d (run H (fresh H) (take i cs)) + cond b (usedIn (recordOf H (endTable (openedTable H t) (take i cs)) d)) 0
+          → retirements d (run H (fresh H) (take i cs)) ≡ handBacks d (run H (fresh H) (take i cs)) + cond b (usedIn (recordOf H (endTable limits (openedTable H t) (take i cs)) d)) 0
       by-cases true q =
           let r = in-range d (H .desks) q in
           on-list H some (take i cs) d (r .0)
@@ -88,18 +90,18 @@ module _ (H : Hall) (ok : Opens H) (t : List ℕ) (cs : List Call) where
       by-cases false q = omega (arith, outsider-counts H d (out-of-range d (H .desks) q) isRetirement refl (take i cs) (fresh H) (fresh-formed H))
 
   copies-after : (d s i : ℕ)
-      → retirementsOf d s (take i (run H (fresh H) cs)) ≡ handBacksOf d s (take i (run H (fresh H) cs)) + copies s (listOfDesk H (endTable (openedTable H t) (take i cs)) d)
+      → retirementsOf d s (take i (run H (fresh H) cs)) ≡ handBacksOf d s (take i (run H (fresh H) cs)) + copies s (listOfDesk H (endTable limits (openedTable H t) (take i cs)) d)
   copies-after d s i = rw (run-take H i cs (fresh H)) (by-cases (inRange d (H .desks)) refl (ℕ-discrete s 0))
     where
       listed : (1 ≤ d) × (d ≤ H .desks)
-          → copies s (let words = recordOf H (endTable (openedTable H t) (take i cs)) d in take (usedIn words) (listIn words)) ≡ copiesOn s (deskOf (end H (fresh H) (take i cs)) d)
+          → copies s (let words = recordOf H (endTable limits (openedTable H t) (take i cs)) d in take (usedIn words) (listIn words)) ≡ copiesOn s (deskOf (end H (fresh H) (take i cs)) d)
       listed r =
           ap (λ (words : List ℕ). copies s (take (usedIn words) (listIn words))) (record-after i d r)
           ∙ ap (copies s) (list-encoded (allScreens H) (deskOf (end H (fresh H) (take i cs)) d))
           ∙ copies-list s (deskOf (end H (fresh H) (take i cs)) d)
 
       by-cases : (b : Bool) → inRange d (H .desks) ≡ b → Dec (s ≡ 0)
-          → retirementsOf d s (run H (fresh H) (take i cs)) ≡ handBacksOf d s (run H (fresh H) (take i cs)) + copies s (cond b (let words = recordOf H (endTable (openedTable H t) (take i cs)) d in take (usedIn words) (listIn words)) [])
+          → retirementsOf d s (run H (fresh H) (take i cs)) ≡ handBacksOf d s (run H (fresh H) (take i cs)) + copies s (cond b (let words = recordOf H (endTable limits (openedTable H t) (take i cs)) d in take (usedIn words) (listIn words)) [])
       by-cases true q (yes z) =
           let r = in-range d (H .desks) q in
           let real = sound-run H d some (r .0) (take i cs) (fresh H) (fresh-formed H) (fresh-sound H d) .real in
@@ -114,15 +116,15 @@ module _ (H : Hall) (ok : Opens H) (t : List ℕ) (cs : List Call) where
           omega
           (arith, outsider-counts H d (out-of-range d (H .desks) q) (isRetirementOf s) refl (take i cs) (fresh H) (fresh-formed H), outsider-counts H d (out-of-range d (H .desks) q) (isHandBackOf s) refl (take i cs) (fresh H) (fresh-formed H))
 
-  pub demand2-opened : Demand2 H (runTable (openedTable H t) cs) (λ i. endTable (openedTable H t) (take i cs))
+  pub demand2-opened : Demand2 H (runTable limits (openedTable H t) cs) (λ i. endTable limits (openedTable H t) (take i cs))
   demand2-opened =
-      subst (λ (history : List Event). Demand2 H history (λ i. endTable (openedTable H t) (take i cs))) (sym run-is)
+      subst (λ (history : List Event). Demand2 H history (λ i. endTable limits (openedTable H t) (take i cs))) (sym run-is)
       (record { guarantee = guaranteed H some cs; sessions = same-session H cs (fresh H) (fresh-formed H); counts = copies-after })
 
-  pub demand3-opened : Demand3 H (runTable (openedTable H t) cs) (λ i. endTable (openedTable H t) (take i cs))
+  pub demand3-opened : Demand3 H (runTable limits (openedTable H t) cs) (λ i. endTable limits (openedTable H t) (take i cs))
   demand3-opened =
-      subst (λ (history : List Event). Demand3 H history (λ i. endTable (openedTable H t) (take i cs))) (sym run-is)
+      subst (λ (history : List Event). Demand3 H history (λ i. endTable limits (openedTable H t) (take i cs))) (sym run-is)
       (record { room = never-lacks-room H some cs; list = list-after; counts = counts-after; back = back-in-time H some cs (3 * allScreens H) (three-is-enough (allScreens H) some) })
 
-  pub back-opened : BackWithin (exactBound (allScreens H)) (runTable (openedTable H t) cs)
+  pub back-opened : BackWithin (exactBound (allScreens H)) (runTable limits (openedTable H t) cs)
   back-opened = subst (BackWithin (exactBound (allScreens H))) (sym run-is) (back-in-time H some cs (exactBound (allScreens H)) (omega arith))

@@ -9,14 +9,14 @@ use lib.ListN.{length, getD, take, drop}
 use lib.Seq.{getD-take, getD-drop, drop-drop}
 use lib.Dec.{leb, eqb, eqb·suc-zero, T}
 use borrow.Author.Tests.{leb-true}
-use Rattle.rules.specs.Hall.{Desk, Hall, TestedPlace, allScreens, deskOf, emptyDesk, mostAllScreens, mostDesks, mostPositions, mostScreens, screenIndex}
-use Rattle.rules.specs.Steps.{Call, beginAt, collect, collectSeeing, decide, firstNo, inRange, perform, questions}
-use Rattle.rules.specs.Table.{TableDone, decode, decodeDesk, everyRecord, hallIn, need, openIf, openQuestions, openTable, openedTable, pieces}
-use Rattle.rules.specs.Table.{headerWords, positionWord, recordOf, recordSound, recordStart, recordWidth, recordsIn, screenWord, sound, stepIf, stepTable}
-use Rattle.rules.specs.Table.{written}
+use Rattle.rules.specs.Hall.{Desk, Hall, Limits, TestedPlace, allScreens, deskOf, emptyDesk, mostAllScreens, screenIndex}
+use Rattle.rules.specs.Steps.{Call, beginAt, collect, collectSeeing, decide, firstNo, perform, questions}
+use Rattle.rules.specs.Table.{TableDone, decode, decodeDesk, everyRecord, hallIn, headerWords, inLimits, need, openIf, openQuestions, openTable}
+use Rattle.rules.specs.Table.{openedTable, pieces, positionWord, recordOf, recordSound, recordStart, recordWidth, recordsIn, screenWord, sound, stepIf}
+use Rattle.rules.specs.Table.{stepTable, written}
 use Rattle.rules.specs.laws.Bools.{and-left, and-right}
-use Rattle.rules.specs.laws.Effect.{in-range}
 use Rattle.rules.specs.laws.ScreenIndex.{screen-in}
+use Rattle.rules.specs.laws.Tables.{Fits, limits-fit}
 
 -- ---- questions
 pub asked-no : (b : Bool) (m n : ℕ) → b ≡ false → cond {A = ℕ} b m n ≡ n
@@ -29,69 +29,62 @@ asked-yes b m n k e q = ap (λ (x : Bool). cond {A = ℕ} x m n) e ∙ q
 abbrev pub asked : List ℕ → Call → ℕ
 asked t c = firstNo (questions (hallIn t) (decode (hallIn t) t) c)
 
-pub unsound-step : (t : List ℕ) (c : Call) → sound t ≡ false → stepTable t c ≡ record { answer = record { number = 5; session = 0 }; after = t }
+pub unsound-step : (limits : Limits) (t : List ℕ) (c : Call) → sound limits t ≡ false → stepTable limits t c ≡ record { answer = record { number = 5; session = 0 }; after = t }
 unfolding stepTable
-unsound-step t c e = ap (λ (b : Bool). stepIf b t c) e
+unsound-step limits t c e = ap (λ (b : Bool). stepIf b t c) e
 
 told-by : List ℕ → Call → ℕ → TableDone
 told-by t c n =
     let r = decide n (decode (hallIn t) t) (perform (hallIn t) (decode (hallIn t) t) c) in
     record { answer = r .answer; after = cond (eqb (r .answer .number) 0) (written t c) t }
 
-sound-step : (t : List ℕ) (c : Call) → sound t ≡ true → stepTable t c ≡ told-by t c (asked t c)
+sound-step : (limits : Limits) (t : List ℕ) (c : Call) → sound limits t ≡ true → stepTable limits t c ≡ told-by t c (asked t c)
 unfolding stepTable told-by
-sound-step t c e = ap (λ (b : Bool). stepIf b t c) e
+sound-step limits t c e = ap (λ (b : Bool). stepIf b t c) e
 
-pub refused-step : (t : List ℕ) (c : Call) (n : ℕ) → sound t ≡ true → asked t c ≡ suc n
-    → stepTable t c ≡ record { answer = record { number = suc n; session = 0 }; after = t }
+pub refused-step : (limits : Limits) (t : List ℕ) (c : Call) (n : ℕ) → sound limits t ≡ true → asked t c ≡ suc n
+    → stepTable limits t c ≡ record { answer = record { number = suc n; session = 0 }; after = t }
 unfolding told-by
-refused-step t c n e q =
-    sound-step t c e ∙ ap (told-by t c) q
+refused-step limits t c n e q =
+    sound-step limits t c e ∙ ap (told-by t c) q
     ∙ (λ i. record { answer = record { number = suc n; session = 0 }; after = cond (eqb·suc-zero n i) (written t c) t })
 
-pub accepted-step : (t : List ℕ) (c : Call) → sound t ≡ true → asked t c ≡ 0
-    → stepTable t c ≡ record { answer = record { number = 0; session = perform (hallIn t) (decode (hallIn t) t) c .session }; after = written t c }
+pub accepted-step : (limits : Limits) (t : List ℕ) (c : Call) → sound limits t ≡ true → asked t c ≡ 0
+    → stepTable limits t c ≡ record { answer = record { number = 0; session = perform (hallIn t) (decode (hallIn t) t) c .session }; after = written t c }
 unfolding told-by
-accepted-step t c e q = sound-step t c e ∙ ap (told-by t c) q
+accepted-step limits t c e q = sound-step limits t c e ∙ ap (told-by t c) q
 
 -- ---- a sound table
 pub record Known (t : List ℕ) : Type 0 where
-  pub desks : (1 ≤ hallIn t .desks) × (hallIn t .desks ≤ mostDesks)
-  pub screens : (1 ≤ hallIn t .screens) × (hallIn t .screens ≤ mostScreens)
-  pub positions : (1 ≤ hallIn t .positions) × (hallIn t .positions ≤ mostPositions)
+  pub fits : Fits (hallIn t)
   pub most : allScreens (hallIn t) ≤ mostAllScreens
   pub long : need (hallIn t) ≤ length t
   pub records : everyRecord (recordSound (allScreens (hallIn t))) (recordsIn (hallIn t) t) ≡ true
 
-pub known : (t : List ℕ) → sound t ≡ true → Known t
+-- its hall is within the limits
+pub known-inside : (limits : Limits) (t : List ℕ) → sound limits t ≡ true → inLimits limits (hallIn t) ≡ true
 unfolding sound
-known t h =
+known-inside limits t s =
+    and-left (inLimits limits (hallIn t)) (leb (need (hallIn t)) (length t) && everyRecord (recordSound (allScreens (hallIn t))) (recordsIn (hallIn t) t)) s
+
+pub known : (limits : Limits) (t : List ℕ) → sound limits t ≡ true → Known t
+unfolding sound
+known limits t s =
     let H : Hall = hallIn t in
-    let h1 = and-right (inRange (H .desks) mostDesks) (s1 H) h in
-    let h2 = and-right (inRange (H .screens) mostScreens) (s2 H) h1 in
-    let h3 = and-right (inRange (H .positions) mostPositions) (s3 H) h2 in
-    let ra = in-range (H .desks) mostDesks (and-left (inRange (H .desks) mostDesks) (s1 H) h) in
-    let rb = in-range (H .screens) mostScreens (and-left (inRange (H .screens) mostScreens) (s2 H) h1) in
+    let later = and-right (inLimits limits H) (long && records) s in
+    let fits = limits-fit limits H (and-left (inLimits limits H) (long && records) s) in
     record {
-      desks = ra;
-      screens = rb;
-      positions = in-range (H .positions) mostPositions (and-left (inRange (H .positions) mostPositions) (s3 H) h2);
-      most = mul-le-mul (ra .1) (rb .1);
-      long = leb-true (need H) (length t) (and-left (leb (need H) (length t)) (s4 H) h3);
-      records = and-right (leb (need H) (length t)) (s4 H) h3;
+      fits = fits;
+      most = mul-le-mul (fits .desks .1) (fits .screens .1);
+      long = leb-true (need H) (length t) (and-left long records later);
+      records = and-right long records later;
     }
   where
-    s4 : Hall → Bool
-    s4 H = everyRecord (recordSound (allScreens H)) (recordsIn H t)
+    long : Bool
+    long = leb (need (hallIn t)) (length t)
 
-    s3 : Hall → Bool
-    s3 H = leb (need H) (length t) && s4 H
-
-    s2 : Hall → Bool
-    s2 H = inRange (H .positions) mostPositions && s3 H
-
-    s1 : Hall → Bool
-    s1 H = inRange (H .screens) mostScreens && s2 H
+    records : Bool
+    records = everyRecord (recordSound (allScreens (hallIn t))) (recordsIn (hallIn t) t)
 
 -- ---- record i, from 0
 row-at : (n w i : ℕ) (x : List ℕ) → drop (i * w) (drop w x) ≡ drop (suc i * w) x
@@ -168,12 +161,12 @@ collect-seeing S shown D = ap (λ (n : ℕ). collectSeeing S (take 2 (drop n sho
     same-scanned (p ∷ T) = refl
 
 -- ---- the opening
-pub refused-open : (H : Hall) (t : List ℕ) (n : ℕ) → firstNo (openQuestions H t) ≡ suc n
-    → openTable H t ≡ record { answer = record { number = suc n; session = 0 }; after = t }
+pub refused-open : (limits : Limits) (H : Hall) (t : List ℕ) (n : ℕ) → firstNo (openQuestions limits H t) ≡ suc n
+    → openTable limits H t ≡ record { answer = record { number = suc n; session = 0 }; after = t }
 unfolding openTable
-refused-open H t n q = ap (λ (m : ℕ). openIf m H t) q
+refused-open limits H t n q = ap (λ (m : ℕ). openIf m H t) q
 
-pub accepted-open : (H : Hall) (t : List ℕ) → firstNo (openQuestions H t) ≡ 0
-    → openTable H t ≡ record { answer = record { number = 0; session = 0 }; after = openedTable H t }
+pub accepted-open : (limits : Limits) (H : Hall) (t : List ℕ) → firstNo (openQuestions limits H t) ≡ 0
+    → openTable limits H t ≡ record { answer = record { number = 0; session = 0 }; after = openedTable H t }
 unfolding openTable
-accepted-open H t q = ap (λ (m : ℕ). openIf m H t) q
+accepted-open limits H t q = ap (λ (m : ℕ). openIf m H t) q

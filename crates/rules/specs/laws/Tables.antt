@@ -3,20 +3,20 @@ use Prim.Native.Nat.{ℕ, zero, suc, _+_, _*_, _-_, _≤_, _<_}
 use native.Mathlib.Omega.{arith}
 use native.Mathlib.Nat.{mul-pos, mul-le-mul}
 use mathlib.Core.Path.{_≡_, refl, sym, ap, ap₂, _∙_}
-use mathlib.Core.Bool.{Bool, true, cond, not}
+use mathlib.Core.Bool.{Bool, true, cond, not, _&&_}
 use mathlib.Core.List.{List, [], _∷_, _++_, map, append-assoc}
 use lib.ListN.{length, getD, take, drop, set, replicate, length-append, length-replicate, length-set, replicate-append-replicate}
 use lib.Seq.{take-at, drop-at}
 use lib.Dec.{leb, ltb, eqb, eqb·suc-zero}
 use borrow.Author.Tests.{le-leb, eqb-false, ltb-true, not-true, leb-true}
-use Rattle.rules.specs.Hall.{Desk, Hall, State, allScreens, deskOf, emptyDesk, fresh, mostAllScreens, mostDesks, mostPositions, mostScreens, screenIndex}
-use Rattle.rules.specs.Hall.{usedPlaces, withDesk, withHeld, withShown}
-use Rattle.rules.specs.Steps.{Call, Collect, Drop, Event, Retire, Swap, Take, collect, decide, end, firstNo, inRange, owe, perform, questions}
-use Rattle.rules.specs.Steps.{retire, run, step}
-use Rattle.rules.specs.Table.{TableDone, decode, decodeDesk, encode, encodeDesk, endTable, everyRecord, headerWords, joined, listOf, need, openQuestions}
-use Rattle.rules.specs.Table.{listPlace, openedTable, pieces, positionWord, putRecord, recordOf, recordSound, recordStart, recordWidth, recordsIn}
-use Rattle.rules.specs.Table.{runTable, screenWord, sound, stepIf, stepTable, written}
-use Rattle.rules.specs.laws.Bools.{and-true}
+use Rattle.rules.specs.Hall.{Desk, Hall, Limits, State, allScreens, deskOf, emptyDesk, fresh, mostAllScreens, mostDesks, mostPositions, mostScreens}
+use Rattle.rules.specs.Hall.{screenIndex, usedPlaces, withDesk, withHeld, withShown}
+use Rattle.rules.specs.Steps.{Call, Collect, Drop, Event, Retire, Swap, Take, collect, decide, end, firstNo, inRange, owe, perform, questions, retire}
+use Rattle.rules.specs.Steps.{run, step}
+use Rattle.rules.specs.Table.{TableDone, decode, decodeDesk, encode, encodeDesk, endTable, everyRecord, headerWords, inLimits, joined, listOf, listPlace}
+use Rattle.rules.specs.Table.{need, openQuestions, openedTable, pieces, positionWord, putRecord, recordOf, recordSound, recordStart, recordWidth}
+use Rattle.rules.specs.Table.{recordsIn, runTable, screenWord, sound, stepIf, stepTable, written}
+use Rattle.rules.specs.laws.Bools.{and-left, and-right, and-true}
 use Rattle.rules.specs.laws.Effect.{Formed, formed-step, in-range, retire-questions}
 use Rattle.rules.specs.laws.Encoding.{desk-read-back}
 use Rattle.rules.specs.laws.Links.{holds}
@@ -24,11 +24,27 @@ use Rattle.rules.specs.laws.Parts.{get-mid, put-mid, set-mid, take-mid}
 use Rattle.rules.specs.laws.ScreenIndex.{screen-in}
 use Rattle.rules.specs.laws.Sound.{Sound, collect-sound, encoded-sound, length-list, retire-sound, sound-owe}
 
--- The opening asks this of a hall.
-pub record Opens (H : Hall) : Type 0 where
+-- A hall that the table has room for.
+pub record Fits (H : Hall) : Type 0 where
   pub desks : (1 ≤ H .desks) × (H .desks ≤ mostDesks)
   pub screens : (1 ≤ H .screens) × (H .screens ≤ mostScreens)
   pub positions : (1 ≤ H .positions) × (H .positions ≤ mostPositions)
+
+-- a hall within a board's limits is one
+pub limits-fit : (limits : Limits) (H : Hall) → inLimits limits H ≡ true → Fits H
+limits-fit limits H inside =
+    let desks = inRange (H .desks) (limits .desks) in
+    let screens = inRange (H .screens) (limits .screens) in
+    let positions = inRange (H .positions) (limits .positions) in
+    let later = and-right desks (screens && positions) inside in
+    let few-desks = in-range (H .desks) (limits .desks) (and-left desks (screens && positions) inside) in
+    let few-screens = in-range (H .screens) (limits .screens) (and-left screens positions later) in
+    let few-positions = in-range (H .positions) (limits .positions) (and-right screens positions later) in
+    record {
+      desks = (few-desks .0, omega (arith, limits .fewDesks));
+      screens = (few-screens .0, omega (arith, limits .fewScreens));
+      positions = (few-positions .0, omega (arith, limits .fewPositions));
+    }
 
 abbrev pub All : (Desk → Type 0) → List Desk → Type 0
 All P [] = Unit {0}
@@ -56,12 +72,12 @@ pub record Valid (H : Hall) (st : State) : Type 0 where
 pub empty-desk-sound : (S : ℕ) → Sound S emptyDesk
 empty-desk-sound S = record { total = omega arith; real = refl; pass = refl }
 
-module _ (H : Hall) (opens : Opens H) where
+module _ (H : Hall) (fits : Fits H) where
   pub some-screens : 1 ≤ allScreens H
-  some-screens = mul-pos (opens .desks .0) (opens .screens .0)
+  some-screens = mul-pos (fits .desks .0) (fits .screens .0)
 
   most : allScreens H ≤ mostAllScreens
-  most = mul-le-mul (opens .desks .1) (opens .screens .1)
+  most = mul-le-mul (fits .desks .1) (fits .screens .1)
 
   pub valid-step : (st : State) (c : Call) → Valid H st → Valid H (step H st c .after)
   valid-step st c v = record {
@@ -196,18 +212,6 @@ module _ (H : Hall) (opens : Opens H) where
         omega
         (arith, length-append (st .held) (st .shown ++ joined (map (encodeDesk (allScreens H)) (st .desks))), length-append (st .shown) (joined (map (encodeDesk (allScreens H)) (st .desks))), length-flat (st .desks) (v .desks), v .held, v .formed .screens, ap (λ (n : ℕ). n * recordWidth H) (v .formed .desks))
 
-    range-true : (n m : ℕ) → 1 ≤ n → n ≤ m → inRange n m ≡ true
-    range-true n m a b = and-true (leb 1 n) (leb n m) (le-leb 1 n a) (le-leb n m b)
-
-    pub encode-is-sound : sound (encode H st ++ rest) ≡ true
-    unfolding sound
-    encode-is-sound =
-        and-true _ _ (range-true (H .desks) mostDesks (opens .desks .0) (opens .desks .1))
-        (and-true _ _ (range-true (H .screens) mostScreens (opens .screens .0) (opens .screens .1))
-        (and-true _ _ (range-true (H .positions) mostPositions (opens .positions .0) (opens .positions .1))
-        (and-true _ _ (le-leb (need H) (length (encode H st ++ rest)) (omega (arith, length-table, length-append (encode H st) rest)))
-        (ap (everyRecord (recordSound (allScreens H))) records-of-encode ∙ all-sound (st .desks) (v .desks)))))
-
     -- the table in three parts, with the positions, the screens or one record in the middle
     as-held : (h s f : List ℕ)
         → (H .desks ∷ H .screens ∷ H .positions ∷ (h ++ (s ++ f))) ++ rest ≡ (H .desks ∷ H .screens ∷ H .positions ∷ []) ++ (h ++ ((s ++ f) ++ rest))
@@ -325,33 +329,6 @@ module _ (H : Hall) (opens : Opens H) where
         (λ i. putRecord H (encode H st ++ rest) d (encodeDesk (allScreens H) (collect (allScreens H) (decode-encode i .shown) (record-decoded d k i) .after)))
         ∙ put-record-is d (collect (allScreens H) (st .shown) (deskOf st d) .after) k
 
-    -- a step on the table is the step of the rules
-    pub table-step : (c : Call)
-        → stepTable (encode H st ++ rest) c ≡ record { answer = step H st c .answer; after = encode H (step H st c .after) ++ rest }
-    unfolding stepTable
-    table-step c =
-        ap (λ (b : Bool). stepIf b (encode H st ++ rest) c) encode-is-sound ∙ ap (λ (s : State). told s) decode-encode ∙ by-cases (firstNo (questions H st c)) refl
-      where
-        told : State → TableDone
-        told s =
-            let r = step H s c in
-            record { answer = r .answer; after = cond (eqb (r .answer .number) 0) (written (encode H st ++ rest) c) (encode H st ++ rest) }
-
-        by-cases : (n : ℕ) → firstNo (questions H st c) ≡ n
-            → _≡_ {A = TableDone} (let r = decide n st (perform H st c) in record { answer = r .answer; after = cond (eqb (r .answer .number) 0) (written (encode H st ++ rest) c) (encode H st ++ rest) }) (record { answer = decide n st (perform H st c) .answer; after = encode H (decide n st (perform H st c) .after) ++ rest })
-        by-cases zero e = λ i. record { answer = record { number = 0; session = perform H st c .session }; after = written-is c e i }
-        by-cases (suc n) e =
-            λ i. record { answer = record { number = suc n; session = 0 }; after = cond (eqb·suc-zero n i) (written (encode H st ++ rest) c) (encode H st ++ rest) }
-
-  pub table-run : (cs : List Call) (st : State) → Valid H st → (rest : List ℕ) → runTable (encode H st ++ rest) cs ≡ run H st cs
-  table-run [] st v rest = refl
-  table-run (c ∷ cs) st v rest =
-      ap (λ (r : TableDone). more r) (table-step st v rest c)
-      ∙ ap {B = List Event} (λ es. record { call = c; answer = step H st c .answer } ∷ es) (table-run cs (step H st c .after) (valid-step st c v) rest)
-    where
-      more : TableDone → List Event
-      more r = record { call = c; answer = r .answer } ∷ runTable (r .after) cs
-
   pub fresh-valid : Valid H (fresh H)
   fresh-valid = record {
     formed = record { desks = length-replicate (H .desks) emptyDesk; screens = length-replicate (allScreens H) 0 };
@@ -381,28 +358,67 @@ module _ (H : Hall) (opens : Opens H) where
           sym
           (ap (λ (l : List ℕ). replicate (H .positions) 0 ++ (replicate (allScreens H) 0 ++ l)) (joined-empty (H .desks)) ∙ ap (λ (l : List ℕ). replicate (H .positions) 0 ++ l) (replicate-append-replicate (allScreens H) (H .desks * recordWidth H) 0) ∙ replicate-append-replicate (H .positions) (allScreens H + H .desks * recordWidth H) 0 ∙ alike (H .positions + (allScreens H + H .desks * recordWidth H)) (need H - headerWords) (omega arith))
 
-  pub table-end : (cs : List Call) (st : State) → Valid H st → (rest : List ℕ) → endTable (encode H st ++ rest) cs ≡ encode H (end H st cs) ++ rest
-  table-end [] st v rest = refl
-  table-end (c ∷ cs) st v rest =
-      ap (λ (r : TableDone). endTable (r .after) cs) (table-step st v rest c) ∙ table-end cs (step H st c .after) (valid-step st c v) rest
-
   pub valid-end : (cs : List Call) (st : State) → Valid H st → Valid H (end H st cs)
   valid-end [] st v = v
   valid-end (c ∷ cs) st v = valid-end cs (step H st c .after) (valid-step st c v)
 
+-- ---- A step, and a list of steps, on the table of a state, where the hall is within the board's limits.
+module _ (limits : Limits) (H : Hall) (inside : inLimits limits H ≡ true) where
+  abbrev fits : Fits H
+  fits = limits-fit limits H inside
+
+  module _ (st : State) (v : Valid H st) (rest : List ℕ) where
+    pub encode-is-sound : sound limits (encode H st ++ rest) ≡ true
+    unfolding sound
+    encode-is-sound =
+        and-true (inLimits limits H) _ inside
+        (and-true _ _ (le-leb (need H) (length (encode H st ++ rest)) (omega (arith, length-table H fits st v rest, length-append (encode H st) rest)))
+        (ap (everyRecord (recordSound (allScreens H))) (records-of-encode H fits st v rest) ∙ all-sound H fits (st .desks) (v .desks)))
+
+    -- a step on the table is the step of the rules
+    pub table-step : (c : Call)
+        → stepTable limits (encode H st ++ rest) c ≡ record { answer = step H st c .answer; after = encode H (step H st c .after) ++ rest }
+    unfolding stepTable
+    table-step c =
+        ap (λ (b : Bool). stepIf b (encode H st ++ rest) c) encode-is-sound ∙ ap (λ (s : State). told s) (decode-encode H fits st v rest) ∙ by-cases (firstNo (questions H st c)) refl
+      where
+        told : State → TableDone
+        told s =
+            let r = step H s c in
+            record { answer = r .answer; after = cond (eqb (r .answer .number) 0) (written (encode H st ++ rest) c) (encode H st ++ rest) }
+
+        by-cases : (n : ℕ) → firstNo (questions H st c) ≡ n
+            → _≡_ {A = TableDone} (let r = decide n st (perform H st c) in record { answer = r .answer; after = cond (eqb (r .answer .number) 0) (written (encode H st ++ rest) c) (encode H st ++ rest) }) (record { answer = decide n st (perform H st c) .answer; after = encode H (decide n st (perform H st c) .after) ++ rest })
+        by-cases zero e = λ i. record { answer = record { number = 0; session = perform H st c .session }; after = written-is H fits st v rest c e i }
+        by-cases (suc n) e =
+            λ i. record { answer = record { number = suc n; session = 0 }; after = cond (eqb·suc-zero n i) (written (encode H st ++ rest) c) (encode H st ++ rest) }
+
+  pub table-run : (cs : List Call) (st : State) → Valid H st → (rest : List ℕ) → runTable limits (encode H st ++ rest) cs ≡ run H st cs
+  table-run [] st v rest = refl
+  table-run (c ∷ cs) st v rest =
+      ap (λ (r : TableDone). more r) (table-step st v rest c)
+      ∙ ap {B = List Event} (λ es. record { call = c; answer = step H st c .answer } ∷ es) (table-run cs (step H st c .after) (valid-step H fits st c v) rest)
+    where
+      more : TableDone → List Event
+      more r = record { call = c; answer = r .answer } ∷ runTable limits (r .after) cs
+
+  pub table-end : (cs : List Call) (st : State) → Valid H st → (rest : List ℕ) → endTable limits (encode H st ++ rest) cs ≡ encode H (end H st cs) ++ rest
+  table-end [] st v rest = refl
+  table-end (c ∷ cs) st v rest =
+      ap (λ (r : TableDone). endTable limits (r .after) cs) (table-step st v rest c) ∙ table-end cs (step H st c .after) (valid-step H fits st c v) rest
+
   -- The table stays sound: no step from an opening on is answered 5.
-  pub sound-table : (t : List ℕ) (cs : List Call) → sound (endTable (openedTable H t) cs) ≡ true
+  pub sound-table : (t : List ℕ) (cs : List Call) → sound limits (endTable limits (openedTable H t) cs) ≡ true
   sound-table t cs =
-      rw (opened-is-fresh t, table-end cs (fresh H) fresh-valid (drop (need H) t))
-      (encode-is-sound (end H (fresh H) cs) (valid-end cs (fresh H) fresh-valid) (drop (need H) t))
+      let start = fresh-valid H fits in
+      rw (opened-is-fresh H fits t, table-end cs (fresh H) start (drop (need H) t))
+      (encode-is-sound (end H (fresh H) cs) (valid-end H fits cs (fresh H) start) (drop (need H) t))
 
 -- What an accepted opening asked of its hall and its table.
-pub hall-opens : (H : Hall) (t : List ℕ) → firstNo (openQuestions H t) ≡ 0 → Opens H × (need H ≤ length t)
-hall-opens H t e =
-    let y1 = holds (inRange (H .desks) mostDesks) _ 0 e in
-    let y2 = holds (inRange (H .screens) mostScreens) _ 1 (y1 .1) in
-    let y3 = holds (inRange (H .positions) mostPositions) _ 2 (y2 .1) in
-    let y4 = holds (leb (need H) (length t)) _ 3 (y3 .1) in (
-      record { desks = in-range (H .desks) mostDesks (y1 .0); screens = in-range (H .screens) mostScreens (y2 .0); positions = in-range (H .positions) mostPositions (y3 .0) },
-      leb-true (need H) (length t) (y4 .0),
-    )
+pub hall-opens : (limits : Limits) (H : Hall) (t : List ℕ) → firstNo (openQuestions limits H t) ≡ 0 → (inLimits limits H ≡ true) × (need H ≤ length t)
+hall-opens limits H t e =
+    let y1 = holds (inRange (H .desks) (limits .desks)) _ 0 e in
+    let y2 = holds (inRange (H .screens) (limits .screens)) _ 1 (y1 .1) in
+    let y3 = holds (inRange (H .positions) (limits .positions)) _ 2 (y2 .1) in
+    let y4 = holds (leb (need H) (length t)) _ 3 (y3 .1) in
+    (and-true _ _ (y1 .0) (and-true _ _ (y2 .0) (y3 .0)), leb-true (need H) (length t) (y4 .0))

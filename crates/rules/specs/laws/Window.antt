@@ -8,19 +8,19 @@ use mathlib.Core.List.{List, [], _∷_, _++_, append-assoc}
 use lib.ListN.{length, getD, take, drop, set, length-append, length-drop}
 use lib.Seq.{ext-getD, getD-drop, getD-set-other, getD-take, length-take-le}
 use Rattle.rules.specs.Bytes.{IsBytes, Words16, bytesOfWords, laidOver, wordsOfBytes}
-use Rattle.rules.specs.Hall.{Hall, allScreens}
+use Rattle.rules.specs.Hall.{Hall, Limits, allScreens}
 use Rattle.rules.specs.Steps.{Call, Collect, Drop, Retire, Swap, Take, collect, inRange, retire}
-use Rattle.rules.specs.Table.{decode, decodeDesk, encodeDesk, hallIn, need, positionWord, putRecord, recordOf, recordStart, recordWidth, screenWord}
-use Rattle.rules.specs.Table.{headerWords, sound, stepTable, written}
+use Rattle.rules.specs.Table.{decode, decodeDesk, encodeDesk, hallIn, headerWords, need, positionWord, putRecord, recordOf, recordStart, recordWidth}
+use Rattle.rules.specs.Table.{screenWord, sound, stepTable, written}
 use Rattle.rules.specs.laws.Bytes.{words-length}
 use Rattle.rules.specs.laws.Effect.{in-range}
 use Rattle.rules.specs.laws.Front.{bytes-append, front-laid-back}
 use Rattle.rules.specs.laws.Links.{desk-fact, drop-facts, holds, take-facts}
 use Rattle.rules.specs.laws.Parts.{put-is}
 use Rattle.rules.specs.laws.ScreenIndex.{screen-in}
-use Rattle.rules.specs.laws.SoundTables.{known-opens, valid}
+use Rattle.rules.specs.laws.SoundTables.{valid}
 use Rattle.rules.specs.laws.TableSteps.{Known, asked, known, record-within}
-use Rattle.rules.specs.laws.Tables.{Opens}
+use Rattle.rules.specs.laws.Tables.{Fits}
 use Rattle.rules.specs.laws.Words16.{by-step, written-length}
 
 -- ---- On words.
@@ -43,14 +43,14 @@ pub record Outside (hall : Hall) (d i : ℕ) : Type 0 where
 
 -- the words after a step of desk d: they tell a hall that has it, and outside the two parts they are the old ones
 pub record Rewritten (d : ℕ) (old words : List ℕ) : Type 0 where
-  pub opens : Opens (hallIn words)
+  pub opens : Fits (hallIn words)
   pub long : need (hallIn words) ≤ length words
   pub desk : (1 ≤ d) × (d ≤ hallIn words .desks)
   pub kept : (i : ℕ) → Outside (hallIn words) d i → getD words i 0 ≡ getD old i 0
 
-module _ (t : List ℕ) (small : Words16 t) (s : sound t ≡ true) where
+module _ (limits : Limits) (t : List ℕ) (small : Words16 t) (s : sound limits t ≡ true) where
   k : Known t
-  k = known t s
+  k = known limits t s
 
   put-keeps : (d : ℕ) (w : List ℕ) → (1 ≤ d) × (d ≤ hallIn t .desks) → length (putRecord (hallIn t) t d w) ≡ length t → (i : ℕ)
       → Outside (hallIn t) d i → getD (putRecord (hallIn t) t d w) i 0 ≡ getD t i 0
@@ -85,8 +85,8 @@ module _ (t : List ℕ) (small : Words16 t) (s : sound t ≡ true) where
       getD-set-other (set t (positionWord p) session) (recordStart (hallIn t) d) i (getD t (positionWord p) 0) 0
       (λ z. omega (arith, out .own (omega arith)))
       ∙ getD-set-other t (positionWord p) i session 0 (λ z. omega (arith, out .shared (omega arith), position))
-  written-outside (Retire d) e i out = put-keeps d (encodeDesk (allScreens (hallIn t)) (retire (decodeDesk (recordOf (hallIn t) t d)))) (desk-there (Retire d) e) (written-length t (Retire d) small s e) i out
-  written-outside (Collect d) e i out = put-keeps d (encodeDesk (allScreens (hallIn t)) (collect (allScreens (hallIn t)) (decode (hallIn t) t .shown) (decodeDesk (recordOf (hallIn t) t d)) .after)) (desk-there (Collect d) e) (written-length t (Collect d) small s e) i out
+  written-outside (Retire d) e i out = put-keeps d (encodeDesk (allScreens (hallIn t)) (retire (decodeDesk (recordOf (hallIn t) t d)))) (desk-there (Retire d) e) (written-length limits t (Retire d) small s e) i out
+  written-outside (Collect d) e i out = put-keeps d (encodeDesk (allScreens (hallIn t)) (collect (allScreens (hallIn t)) (decode (hallIn t) t .shown) (decodeDesk (recordOf (hallIn t) t d)) .after)) (desk-there (Collect d) e) (written-length limits t (Collect d) small s e) i out
 
   written-again : (c : Call) → asked t c ≡ 0 → Rewritten (deskIn c) t (written t c)
   written-again c e =
@@ -95,18 +95,18 @@ module _ (t : List ℕ) (small : Words16 t) (s : sound t ≡ true) where
       let hall : hallIn t ≡ hallIn (written t c) =
       λ j. record { desks = header 0 (omega arith) j; screens = header 1 (omega arith) j; positions = header 2 (omega arith) j } in
       record {
-        opens = subst Opens hall (known-opens t k);
-        long = subst (λ (H : Hall). need H ≤ length (written t c)) hall (omega (arith, k .long, written-length t c small s e));
+        opens = subst Fits hall (k .fits);
+        long = subst (λ (H : Hall). need H ≤ length (written t c)) hall (omega (arith, k .long, written-length limits t c small s e));
         desk = subst (λ (H : Hall). (1 ≤ deskIn c) × (deskIn c ≤ H .desks)) hall (desk-there c e);
         kept =
             subst (λ (H : Hall). (i : ℕ) → Outside H (deskIn c) i → getD (written t c) i 0 ≡ getD t i 0) hall (written-outside c e);
       }
 
 -- "an accepted call writes only the words its step names": they are in the two parts
-pub step-rewritten : (t : List ℕ) → Words16 t → (c : Call) → stepTable t c .answer .number ≡ 0 → Rewritten (deskIn c) t (stepTable t c .after)
-step-rewritten t small c =
-    by-step (λ r. r .answer .number ≡ 0 → Rewritten (deskIn c) t (r .after)) t c (λ q. absurd (omega arith)) (λ n a q. absurd (omega arith))
-    (λ s a q. written-again t small s c a)
+pub step-rewritten : (limits : Limits) (t : List ℕ) → Words16 t → (c : Call) → stepTable limits t c .answer .number ≡ 0 → Rewritten (deskIn c) t (stepTable limits t c .after)
+step-rewritten limits t small c =
+    by-step limits (λ r. r .answer .number ≡ 0 → Rewritten (deskIn c) t (r .after)) t c (λ q. absurd (omega arith)) (λ n a q. absurd (omega arith))
+    (λ s a q. written-again limits t small s c a)
 
 -- ---- On bytes.
 -- the words from place a up to e, laid over their own bytes

@@ -9,12 +9,12 @@ use lib.Dec.{ltb, eqb}
 use borrow.Author.Tests.{ltb-true, ltb-false, eqb-false, not-true}
 use Rattle.rules.specs.Bytes.{Call16, Words16}
 use Rattle.rules.specs.Demands.{refusals}
-use Rattle.rules.specs.Hall.{Desk, Hall, State, TestedPlace, allScreens, deskOf, emptyDesk, mostAllScreens, screenIndex, usedPlaces}
+use Rattle.rules.specs.Hall.{Desk, Hall, Limits, State, TestedPlace, allScreens, deskOf, emptyDesk, mostAllScreens, screenIndex, usedPlaces}
 use Rattle.rules.specs.History.{copies}
 use Rattle.rules.specs.Steps.{Call, Collect, Drop, Question, Retire, Swap, Take, collect, decide, firstNo, inRange, perform, questions, retire}
-use Rattle.rules.specs.Table.{TableDone, allMarks, decode, decodeDesk, encode, encodeDesk, hallIn, listOf, marksIn, marksOf, need, openQuestions}
-use Rattle.rules.specs.Table.{openTable, openedTable, placesOf, positionWord, putRecord, recordOf, recordStart, recordWidth, screenWord, sound}
-use Rattle.rules.specs.Table.{headerWords, listPlace, markWords, stepTable, wordOfBits, wordsOfBits, written}
+use Rattle.rules.specs.Table.{TableDone, allMarks, decode, decodeDesk, encode, encodeDesk, hallIn, headerWords, listOf, listPlace, markWords, marksIn}
+use Rattle.rules.specs.Table.{marksOf, need, openQuestions, openTable, openedTable, placesOf, positionWord, putRecord, recordOf, recordStart, recordWidth}
+use Rattle.rules.specs.Table.{screenWord, sound, stepTable, wordOfBits, wordsOfBits, written}
 use Rattle.rules.specs.laws.Collect.{collect-copies, copiesOn, retire-copies}
 use Rattle.rules.specs.laws.Decoding.{small-drop, small-take}
 use Rattle.rules.specs.laws.Effect.{in-range, retire-questions}
@@ -22,10 +22,9 @@ use Rattle.rules.specs.laws.Links.{holds, owed-collect}
 use Rattle.rules.specs.laws.Lists.{matches, matches-other, matches-same}
 use Rattle.rules.specs.laws.Marks.{testedCopies}
 use Rattle.rules.specs.laws.Sound.{ScanFits, Sound, collect-sound, copies-list, retire-sound, sound-orderly}
-use Rattle.rules.specs.laws.SoundTables.{encoded, known-opens, valid}
-use Rattle.rules.specs.laws.TableSteps.{Known, accepted-open, accepted-step, asked, desk-word, known, owed-word, refused-open, refused-step}
-use Rattle.rules.specs.laws.TableSteps.{unsound-step}
-use Rattle.rules.specs.laws.Tables.{Opens, Valid, all-get, empty-desk-sound, hall-opens, length-table, some-screens, valid-step}
+use Rattle.rules.specs.laws.SoundTables.{encoded, valid}
+use Rattle.rules.specs.laws.TableSteps.{Known, accepted-open, accepted-step, asked, desk-word, known, owed-word, refused-open, refused-step, unsound-step}
+use Rattle.rules.specs.laws.Tables.{Fits, Valid, all-get, empty-desk-sound, hall-opens, length-table, limits-fit, some-screens, valid-step}
 
 -- ---- Small numbers in lists.
 pub below-append : (m : ℕ) (xs ys : List ℕ) → ((i : ℕ) → getD xs i 0 < m) → ((i : ℕ) → getD ys i 0 < m) → (i : ℕ) → getD (xs ++ ys) i 0 < m
@@ -160,31 +159,31 @@ module _ (S : ℕ) (shown : List ℕ) (D : Desk) (some : 1 ≤ S) (all : length 
       (λ l. let s = collect S shown D .session in omega (arith, collect-copies s S shown D some all (sound-orderly S D (k .sound)) (λ q. omega arith), k .sessions s l, matches-same s))
 
 -- ---- A step, by its three cases.
-pub by-step : (Q : TableDone → Type 0) (t : List ℕ) (c : Call)
+pub by-step : (limits : Limits) (Q : TableDone → Type 0) (t : List ℕ) (c : Call)
     → Q (record { answer = record { number = 5; session = 0 }; after = t })
     → ((n : ℕ) → asked t c ≡ suc n → Q (record { answer = record { number = suc n; session = 0 }; after = t }))
-    → (sound t ≡ true → asked t c ≡ 0 → Q (record { answer = record { number = 0; session = perform (hallIn t) (decode (hallIn t) t) c .session }; after = written t c }))
-    → Q (stepTable t c)
-by-step Q t c unsound refused accepted = at (sound t) refl
+    → (sound limits t ≡ true → asked t c ≡ 0 → Q (record { answer = record { number = 0; session = perform (hallIn t) (decode (hallIn t) t) c .session }; after = written t c }))
+    → Q (stepTable limits t c)
+by-step limits Q t c unsound refused accepted = at (sound limits t) refl
   where
-    told : (n : ℕ) → asked t c ≡ n → sound t ≡ true → Q (stepTable t c)
-    told zero q s = subst Q (sym (accepted-step t c s q)) (accepted s q)
-    told (suc n) q s = subst Q (sym (refused-step t c n s q)) (refused n q)
+    told : (n : ℕ) → asked t c ≡ n → sound limits t ≡ true → Q (stepTable limits t c)
+    told zero q s = subst Q (sym (accepted-step limits t c s q)) (accepted s q)
+    told (suc n) q s = subst Q (sym (refused-step limits t c n s q)) (refused n q)
 
-    at : (b : Bool) → sound t ≡ b → Q (stepTable t c)
+    at : (b : Bool) → sound limits t ≡ b → Q (stepTable limits t c)
     at true s = told (asked t c) refl s
-    at false s = subst Q (sym (unsound-step t c s)) unsound
+    at false s = subst Q (sym (unsound-step limits t c s)) unsound
 
 -- the opening, by its two
-pub by-open : (Q : TableDone → Type 0) (H : Hall) (t : List ℕ)
-    → ((n : ℕ) → firstNo (openQuestions H t) ≡ suc n → Q (record { answer = record { number = suc n; session = 0 }; after = t }))
-    → (firstNo (openQuestions H t) ≡ 0 → Q (record { answer = record { number = 0; session = 0 }; after = openedTable H t }))
-    → Q (openTable H t)
-by-open Q H t refused accepted = told (firstNo (openQuestions H t)) refl
+pub by-open : (limits : Limits) (Q : TableDone → Type 0) (H : Hall) (t : List ℕ)
+    → ((n : ℕ) → firstNo (openQuestions limits H t) ≡ suc n → Q (record { answer = record { number = suc n; session = 0 }; after = t }))
+    → (firstNo (openQuestions limits H t) ≡ 0 → Q (record { answer = record { number = 0; session = 0 }; after = openedTable H t }))
+    → Q (openTable limits H t)
+by-open limits Q H t refused accepted = told (firstNo (openQuestions limits H t)) refl
   where
-    told : (n : ℕ) → firstNo (openQuestions H t) ≡ n → Q (openTable H t)
-    told zero q = subst Q (sym (accepted-open H t q)) (accepted q)
-    told (suc n) q = subst Q (sym (refused-open H t n q)) (refused n q)
+    told : (n : ℕ) → firstNo (openQuestions limits H t) ≡ n → Q (openTable limits H t)
+    told zero q = subst Q (sym (accepted-open limits H t q)) (accepted q)
+    told (suc n) q = subst Q (sym (refused-open limits H t n q)) (refused n q)
 
 -- ---- The number in an answer.
 -- the first question that is answered no gives its own number
@@ -205,10 +204,10 @@ refusals-are-asked H st (Retire d) = refl
 refusals-are-asked H st (Collect d) = refl
 
 -- "A refused call gives its number from document 01 and session 0, and every lent word .. keeps its content."
-pub step-refused : (t : List ℕ) (c : Call) (n : ℕ) → stepTable t c .answer .number ≡ suc n
-    → (1 ≤ copies (suc n) (refusals c)) × (stepTable t c .answer .session ≡ 0) × (stepTable t c .after ≡ t)
-step-refused t c =
-    by-step (λ r. (n : ℕ) → r .answer .number ≡ suc n → (1 ≤ copies (suc n) (refusals c)) × (r .answer .session ≡ 0) × (r .after ≡ t)) t c
+pub step-refused : (limits : Limits) (t : List ℕ) (c : Call) (n : ℕ) → stepTable limits t c .answer .number ≡ suc n
+    → (1 ≤ copies (suc n) (refusals c)) × (stepTable limits t c .answer .session ≡ 0) × (stepTable limits t c .after ≡ t)
+step-refused limits t c =
+    by-step limits (λ r. (n : ℕ) → r .answer .number ≡ suc n → (1 ≤ copies (suc n) (refusals c)) × (r .answer .session ≡ 0) × (r .after ≡ t)) t c
     (λ n e. (unsound n e, refl, refl)) (λ m q n e. (asks m q n e, refl, refl)) (λ s q n e. absurd (omega arith))
   where
     numbers : List ℕ
@@ -236,14 +235,14 @@ performed-small t (Drop d c) h k q =
 performed-small t (Swap d p w) h k q = small-take (hallIn t .positions) (drop headerWords t) (small-drop headerWords t h) (p - 1)
 performed-small t (Retire d) h k q = desk-read t d h k (in-range d (hallIn t .desks) (desk-asked (inRange d (hallIn t .desks)) _ q)) .owed
 performed-small t (Collect d) h k q =
-    collected-small (allScreens (hallIn t)) (decode (hallIn t) t .shown) (deskOf (decode (hallIn t) t) d) (some-screens (hallIn t) (known-opens t k))
+    collected-small (allScreens (hallIn t)) (decode (hallIn t) t .shown) (deskOf (decode (hallIn t) t) d) (some-screens (hallIn t) (k .fits))
     (valid t k .formed .screens) (desk-read t d h k (in-range d (hallIn t .desks) (desk-asked (inRange d (hallIn t .desks)) _ q)))
 
-pub step-session : (t : List ℕ) (c : Call) → Words16 t → stepTable t c .answer .session < 65536
-step-session t c h = by-step (λ r. r .answer .session < 65536) t c (omega arith) (λ n q. omega arith) (λ s q. performed-small t c h (known t s) q)
+pub step-session : (limits : Limits) (t : List ℕ) (c : Call) → Words16 t → stepTable limits t c .answer .session < 65536
+step-session limits t c h = by-step limits (λ r. r .answer .session < 65536) t c (omega arith) (λ n q. omega arith) (λ s q. performed-small t c h (known limits t s) q)
 
-pub open-session : (H : Hall) (t : List ℕ) → openTable H t .answer .session ≡ 0
-open-session H t = by-open (λ r. r .answer .session ≡ 0) H t (λ n q. refl) (λ q. refl)
+pub open-session : (limits : Limits) (H : Hall) (t : List ℕ) → openTable limits H t .answer .session ≡ 0
+open-session limits H t = by-open limits (λ r. r .answer .session ≡ 0) H t (λ n q. refl) (λ q. refl)
 
 -- ---- The words after a call.
 put-words : (H : Hall) (t : List ℕ) (d : ℕ) (words : List ℕ) → Words16 t → Words16 words → Words16 (putRecord H t d words)
@@ -274,40 +273,40 @@ written-words t (Collect d) h w k q =
     let D : Desk = deskOf st d in
     let S : ℕ = allScreens H in
     let r = in-range d (H .desks) (desk-asked (inRange d (H .desks)) _ q) in
-    let k16 = collect-16 S (st .shown) D (some-screens (hallIn t) (known-opens t k)) (valid t k .formed .screens) (desk-read t d h k r) in
+    let k16 = collect-16 S (st .shown) D (some-screens (hallIn t) (k .fits)) (valid t k .formed .screens) (desk-read t d h k r) in
     put-words H t d (encodeDesk S (collect S (st .shown) (decodeDesk (recordOf H t d)) .after)) h
     (subst (λ (E : Desk). Words16 (encodeDesk S (collect S (st .shown) E .after))) (desk-word t d (r .0) (r .1)) (record-words S (collect S (st .shown) D .after) (k .most) k16))
 
-pub step-words : (t : List ℕ) (c : Call) → Words16 t → Call16 c → Words16 (stepTable t c .after)
-step-words t c h w = by-step (λ r. Words16 (r .after)) t c h (λ n q. h) (λ s q. written-words t c h w (known t s) q)
+pub step-words : (limits : Limits) (t : List ℕ) (c : Call) → Words16 t → Call16 c → Words16 (stepTable limits t c .after)
+step-words limits t c h w = by-step limits (λ r. Words16 (r .after)) t c h (λ n q. h) (λ s q. written-words t c h w (known limits t s) q)
 
 -- ---- The opening.
-opened-words : (H : Hall) (t : List ℕ) → Words16 t → Opens H → Words16 (openedTable H t)
+opened-words : (H : Hall) (t : List ℕ) → Words16 t → Fits H → Words16 (openedTable H t)
 opened-words H t h o zero = omega (arith, o .desks)
 opened-words H t h o (suc zero) = omega (arith, o .screens)
 opened-words H t h o (suc (suc zero)) = omega (arith, o .positions)
 opened-words H t h o (suc (suc (suc i))) =
     below-append 65536 (replicate (need H - headerWords) 0) (drop (need H) t) (words-zeros (need H - headerWords)) (small-drop (need H) t h) i
 
-pub open-words : (H : Hall) (t : List ℕ) → Words16 t → Words16 (openTable H t .after)
-open-words H t h = by-open (λ r. Words16 (r .after)) H t (λ n q. h) (λ q. opened-words H t h (hall-opens H t q .0))
+pub open-words : (limits : Limits) (H : Hall) (t : List ℕ) → Words16 t → Words16 (openTable limits H t .after)
+open-words limits H t h = by-open limits (λ r. Words16 (r .after)) H t (λ n q. h) (λ q. opened-words H t h (limits-fit limits H (hall-opens limits H t q .0)))
 
 -- ---- The length of the table.
-pub written-length : (t : List ℕ) (c : Call) → Words16 t → sound t ≡ true → asked t c ≡ 0 → length (written t c) ≡ length t
-written-length t c h s q =
+pub written-length : (limits : Limits) (t : List ℕ) (c : Call) → Words16 t → sound limits t ≡ true → asked t c ≡ 0 → length (written t c) ≡ length t
+written-length limits t c h s q =
     let H : Hall = hallIn t in
     let st : State = decode H t in
-    let k = known t s in
-    let o = known-opens t k in
+    let k = known limits t s in
+    let o = k .fits in
     let after : State = perform H st c .after in
     let v : Valid H after = subst (λ (n : ℕ). Valid H (decide n st (perform H st c) .after)) q (valid-step H o st c (valid t k)) in
-    ap length (encoded t c h s q)
+    ap length (encoded t c h k q)
     ∙ omega (arith, length-append (encode H after) (drop (need H) t), length-table H o after v [], length-drop (need H) t, k .long)
 
-pub step-length : (t : List ℕ) (c : Call) → Words16 t → length (stepTable t c .after) ≡ length t
-step-length t c h = by-step (λ r. length (r .after) ≡ length t) t c refl (λ n q. refl) (λ s q. written-length t c h s q)
+pub step-length : (limits : Limits) (t : List ℕ) (c : Call) → Words16 t → length (stepTable limits t c .after) ≡ length t
+step-length limits t c h = by-step limits (λ r. length (r .after) ≡ length t) t c refl (λ n q. refl) (λ s q. written-length limits t c h s q)
 
-pub open-length : (H : Hall) (t : List ℕ) → length (openTable H t .after) ≡ length t
-open-length H t =
-    by-open (λ r. length (r .after) ≡ length t) H t (λ n q. refl)
-    (λ q. omega (arith, hall-opens H t q .1, length-append (H .desks ∷ H .screens ∷ H .positions ∷ replicate (need H - headerWords) 0) (drop (need H) t), length-replicate {A = ℕ} (need H - headerWords) 0, length-drop (need H) t))
+pub open-length : (limits : Limits) (H : Hall) (t : List ℕ) → length (openTable limits H t .after) ≡ length t
+open-length limits H t =
+    by-open limits (λ r. length (r .after) ≡ length t) H t (λ n q. refl)
+    (λ q. omega (arith, hall-opens limits H t q .1, length-append (H .desks ∷ H .screens ∷ H .positions ∷ replicate (need H - headerWords) 0) (drop (need H) t), length-replicate {A = ℕ} (need H - headerWords) 0, length-drop (need H) t))
