@@ -9,15 +9,16 @@ use mathlib.Core.Logic.{⊎-elim}
 use mathlib.Core.Path.{_≡_, refl, sym, ap, ap₂, _∙_}
 use lib.ListN.{length, take, drop, length-drop, take-append-drop}
 use lib.Seq.{drop-drop, length-take-le}
+use lib.Dec.{leb}
 use borrow.Author.Tests.{le-leb, lt-leb}
-use Rattle.rules.specs.Hall.{allScreens, mostAllScreens, mostDesks, mostPositions, mostScreens}
+use Rattle.rules.specs.Hall.{allScreens, hallLimits, mostAllScreens, mostDesks, mostPositions, mostScreens}
 use Rattle.rules.specs.Steps.{inRange}
-use Rattle.rules.specs.Table.{everyRecord, hallIn, need, pieces, putRecord, recordOf, recordSound, recordStart, recordWidth, screenWord, sound}
-use Rattle.rules.specs.Table.{headerWords, widthFor}
+use Rattle.rules.specs.Table.{everyRecord, hallIn, headerWords, inLimits, need, pieces, putRecord, recordOf, recordSound, recordStart, recordWidth, recordsIn}
+use Rattle.rules.specs.Table.{screenWord, sound, widthFor}
 use Rattle.rules.specs.laws.Effect.{in-range}
 use Rattle.rules.specs.laws.TableSteps.{Known, record-sound}
-use Rattle.marks.proofs.BoolLaws.{&&-false, not-true, not-false}
-use Rattle.board.proofs.Rows.{screen-in, row-ends, row-part}
+use Rattle.marks.proofs.BoolLaws.{&&-false, not-false, not-true}
+use Rattle.board.proofs.Rows.{row-ends, row-part, screen-in}
 
 -- ---- each number below n: how the loop over the records goes
 abbrev pub each : (ℕ → Bool) → ℕ → Bool
@@ -62,29 +63,26 @@ no-two : (a b : Bool) → a && (b && false) ≡ false
 no-two true b = &&-false b
 no-two false b = refl
 
-no-three : (a b c : Bool) → a && (b && (c && false)) ≡ false
-no-three true b c = no-two b c
-no-three false b c = refl
-
 module _ (t : List ℕ) where
-  pub bad-desks : inRange (hallIn t .desks) mostDesks ≡ false → sound t ≡ false
+  outside : inLimits hallLimits (hallIn t) ≡ false → sound hallLimits t ≡ false
   unfolding sound
-  bad-desks q = rw q
+  outside q = ap (λ (b : Bool). b && (leb (need (hallIn t)) (length t) && everyRecord (recordSound (allScreens (hallIn t))) (recordsIn (hallIn t) t))) q
 
-  pub bad-screens : inRange (hallIn t .screens) mostScreens ≡ false → sound t ≡ false
-  unfolding sound
-  bad-screens q = rw q (&&-false (inRange (hallIn t .desks) mostDesks))
+  pub bad-desks : inRange (hallIn t .desks) mostDesks ≡ false → sound hallLimits t ≡ false
+  bad-desks q = outside (rw q)
 
-  pub bad-positions : inRange (hallIn t .positions) mostPositions ≡ false → sound t ≡ false
-  unfolding sound
-  bad-positions q = rw q (no-two (inRange (hallIn t .desks) mostDesks) (inRange (hallIn t .screens) mostScreens))
+  pub bad-screens : inRange (hallIn t .screens) mostScreens ≡ false → sound hallLimits t ≡ false
+  bad-screens q = outside (rw q (&&-false (inRange (hallIn t .desks) mostDesks)))
 
-  pub not-long : length t < need (hallIn t) → sound t ≡ false
+  pub bad-positions : inRange (hallIn t .positions) mostPositions ≡ false → sound hallLimits t ≡ false
+  bad-positions q = outside (rw q (no-two (inRange (hallIn t .desks) mostDesks) (inRange (hallIn t .screens) mostScreens)))
+
+  pub not-long : length t < need (hallIn t) → sound hallLimits t ≡ false
   unfolding sound
-  not-long h = rw (lt-leb (need (hallIn t)) (length t) h) (no-three (inRange (hallIn t .desks) mostDesks) (inRange (hallIn t .screens) mostScreens) (inRange (hallIn t .positions) mostPositions))
+  not-long h = rw (lt-leb (need (hallIn t)) (length t) h) (&&-false (inLimits hallLimits (hallIn t)))
 
   pub by-records : inRange (hallIn t .desks) mostDesks ≡ true → inRange (hallIn t .screens) mostScreens ≡ true → inRange (hallIn t .positions) mostPositions ≡ true → need (hallIn t) ≤ length t
-      → sound t ≡ everyRecord (recordSound (allScreens (hallIn t))) (pieces (hallIn t .desks) (recordWidth (hallIn t)) (drop (headerWords + hallIn t .positions + allScreens (hallIn t)) t))
+      → sound hallLimits t ≡ everyRecord (recordSound (allScreens (hallIn t))) (pieces (hallIn t .desks) (recordWidth (hallIn t)) (drop (headerWords + hallIn t .positions + allScreens (hallIn t)) t))
   unfolding sound
   by-records p q r h =
       let H = hallIn t in

@@ -1,6 +1,6 @@
 -- The steps, return by return: what the code answers and leaves is what the rules say.
 use Prim.Native.Nat.{ℕ, zero, suc, _+_, _-_, _^_, _≤_, _<_}
-use native.Mathlib.Nat.{one-le-mul, add-assoc}
+use native.Mathlib.Nat.{add-assoc}
 use native.Mathlib.Omega.{arith}
 use mathlib.Core.Bool.{Bool, true, false, not, cond}
 use mathlib.Core.List.{List, [], _∷_, _++_}
@@ -9,43 +9,44 @@ use lib.Dec.{eqb}
 use lib.ListN.{length, getD, take, drop, set, length-drop}
 use lib.Seq.{getD-take, getD-drop, length-take-le}
 use borrow.Author.Tests.{eq-eqb, ne-eqb}
-use Rattle.rules.specs.Hall.{Desk, allScreens, deskOf, mostAllScreens, screenIndex}
+use Rattle.rules.specs.Hall.{Desk, allScreens, deskOf, hallLimits, mostAllScreens, screenIndex}
 use Rattle.rules.specs.Steps.{Collect, Collected, Drop, Retire, Swap, Take, collect, collectSeeing, firstNo, inRange, retire, retireQuestions}
-use Rattle.rules.specs.Table.{decode, decodeDesk, encodeDesk, hallIn, positionWord, recordOf, screenWord, sound, stepTable}
-use Rattle.rules.specs.Table.{headerWords, widthFor}
+use Rattle.rules.specs.Table.{decode, decodeDesk, encodeDesk, hallIn, headerWords, positionWord, recordOf, screenWord, sound, stepTable, widthFor}
 use Rattle.rules.specs.laws.Decoding.{small-drop, small-take}
 use Rattle.rules.specs.laws.Effect.{in-range}
-use Rattle.rules.specs.laws.TableSteps.{accepted-step, asked, asked-no, asked-yes, collect-seeing, desk-word, held-word, owed-word, refused-step, shown-at, shown-word}
+use Rattle.rules.specs.laws.Tables.{some-screens}
+use Rattle.rules.specs.laws.TableSteps.{accepted-step, asked, asked-no, asked-yes, collect-seeing, desk-word, held-word, owed-word, refused-step, shown-at}
+use Rattle.rules.specs.laws.TableSteps.{shown-word}
 use Rattle.reply.specs.declared.Reply.{Reply}
-use Rattle.reply.specs.declared.Reply.the-variants.{Accepted, NoScreen, NoPosition, ScreenInUse, PositionEmpty, ScreenEmpty, DeskOwes}
+use Rattle.reply.specs.declared.Reply.the-variants.{Accepted, DeskOwes, NoPosition, NoScreen, PositionEmpty, ScreenEmpty, ScreenInUse}
 use Rattle.reply.specs.Answer.{answerOf, told}
-use Rattle.marks.proofs.Scan.{rest, ended}
+use Rattle.marks.proofs.Scan.{ended, rest}
 use Rattle.desk.specs.Record.{Encoded, Retired}
-use Rattle.desk.proofs.DeskTie.{sound-encoded, scanned-below}
+use Rattle.desk.proofs.DeskTie.{scanned-below, sound-encoded}
 use Rattle.board.specs.declared.Place.{Place}
 use Rattle.board.proofs.EntryLaws.{Entered}
 use Rattle.board.proofs.SoundLaws.{Lent, lent, put-on, put-same}
 
 -- ---- drop
 module _ (t : List ℕ) (d i : ℕ) (p : Place) (e : Entered t d p) where
-  pub drop-no-screen : inRange i (hallIn t .screens) ≡ false → told NoScreen t ≡ stepTable t (Drop d i)
-  drop-no-screen w = sym (refused-step t (Drop d i) 6 (e .yes-sound) (asked-yes (inRange d (hallIn t .desks)) _ 6 7 (e .yes-desk) (asked-no (inRange i (hallIn t .screens)) _ 7 w)))
+  pub drop-no-screen : inRange i (hallIn t .screens) ≡ false → told NoScreen t ≡ stepTable hallLimits t (Drop d i)
+  drop-no-screen w = sym (refused-step hallLimits t (Drop d i) 6 (e .yes-sound) (asked-yes (inRange d (hallIn t .desks)) _ 6 7 (e .yes-desk) (asked-no (inRange i (hallIn t .screens)) _ 7 w)))
 
   module _ (w : inRange i (hallIn t .screens) ≡ true) (a : ℕ) (at : a ≡ screenWord (hallIn t) d i) where
     shows : getD (decode (hallIn t) t .shown) (screenIndex (hallIn t) d i) 0 ≡ getD t a 0
     shows = let r = in-range i (hallIn t .screens) w in shown-word t d i (e .range .0) (e .range .1) (r .0) (r .1) ∙ ap (λ (k : ℕ). getD t k 0) (sym at)
 
-    pub drop-screen-empty : getD t a 0 ≡ 0 → told ScreenEmpty t ≡ stepTable t (Drop d i)
+    pub drop-screen-empty : getD t a 0 ≡ 0 → told ScreenEmpty t ≡ stepTable hallLimits t (Drop d i)
     drop-screen-empty z =
-        sym (refused-step t (Drop d i) 10 (e .yes-sound)
+        sym (refused-step hallLimits t (Drop d i) 10 (e .yes-sound)
         (asked-yes (inRange d (hallIn t .desks)) _ 6 11 (e .yes-desk)
         (asked-yes (inRange i (hallIn t .screens)) _ 7 11 w
         (asked-no (not (eqb (getD (decode (hallIn t) t .shown) (screenIndex (hallIn t) d i) 0) 0)) 0 11 (ap not (eq-eqb _ 0 (shows ∙ z)))))))
 
-    pub drop-accepted : (getD t a 0 ≡ 0 → ⊥) → told (Accepted (getD t a 0)) (set t a 0) ≡ stepTable t (Drop d i)
+    pub drop-accepted : (getD t a 0 ≡ 0 → ⊥) → told (Accepted (getD t a 0)) (set t a 0) ≡ stepTable hallLimits t (Drop d i)
     drop-accepted n =
         (λ j. record { answer = record { number = 0; session = sym shows j }; after = set t (at j) 0 })
-        ∙ sym (accepted-step t (Drop d i) (e .yes-sound)
+        ∙ sym (accepted-step hallLimits t (Drop d i) (e .yes-sound)
         (asked-yes (inRange d (hallIn t .desks)) _ 6 0 (e .yes-desk)
         (asked-yes (inRange i (hallIn t .screens)) _ 7 0 w
         (asked-yes (not (eqb (getD (decode (hallIn t) t .shown) (screenIndex (hallIn t) d i) 0) 0)) 0 11 0 (ap not (ne-eqb _ 0 (λ z. n (sym shows ∙ z)))) refl))))
@@ -77,13 +78,13 @@ ready t d p e sm =
 -- ---- retire
 pub retire-told : (t : List ℕ) (d : ℕ) (p : Place) → Entered t d p → (r : Ready t d (p .all) (p .start)) (x : Reply) (ys : List ℕ)
     → Retired (p .all) (take (p .start + widthFor (p .all) - p .start) (drop (p .start) t)) (answerOf x) ys
-    → told x (take (p .start) t ++ (ys ++ drop (p .start + widthFor (p .all) - p .start) (drop (p .start) t))) ≡ stepTable t (Retire d)
+    → told x (take (p .start) t ++ (ys ++ drop (p .start + widthFor (p .all) - p .start) (drop (p .start) t))) ≡ stepTable hallLimits t (Retire d)
 retire-told t d p e r x ys q = go (answerOf x .number) refl
   where
     all-asked : asked t (Retire d) ≡ answerOf x .number
     all-asked = asked-yes (inRange d (hallIn t .desks)) _ 6 _ (e .yes-desk) (sym (q .number ∙ ap₂ (λ (n : ℕ) (D : Desk). firstNo (retireQuestions n D)) (r .all-is) (r .desk-is)))
 
-    go : (n : ℕ) → answerOf x .number ≡ n → told x (take (p .start) t ++ (ys ++ drop (p .start + widthFor (p .all) - p .start) (drop (p .start) t))) ≡ stepTable t (Retire d)
+    go : (n : ℕ) → answerOf x .number ≡ n → told x (take (p .start) t ++ (ys ++ drop (p .start + widthFor (p .all) - p .start) (drop (p .start) t))) ≡ stepTable hallLimits t (Retire d)
     go zero z =
         let yes : eqb (answerOf x .number) 0 ≡ true = eq-eqb (answerOf x .number) 0 z in
         let v : answerOf x .session ≡ deskOf (decode (hallIn t) t) d .owed
@@ -92,14 +93,14 @@ retire-told t d p e r x ys q = go (answerOf x .number) refl
         = q .after ∙ ap (λ (b : Bool). cond b (encodeDesk (p .all) (retire (decodeDesk (take (p .start + widthFor (p .all) - p .start) (drop (p .start) t))))) (take (p .start + widthFor (p .all) - p .start) (drop (p .start) t))) yes
         ∙ ap₂ (λ (n : ℕ) (l : List ℕ). encodeDesk n (retire (decodeDesk l))) (r .all-is) (r .lent-is .part) in
         (λ i. record { answer = record { number = z i; session = v i }; after = put-on t d (p .all) (p .start) (r .lent-is) (r .all-is) ys _ w i })
-        ∙ sym (accepted-step t (Retire d) (e .yes-sound) (all-asked ∙ z))
+        ∙ sym (accepted-step hallLimits t (Retire d) (e .yes-sound) (all-asked ∙ z))
     go (suc n) z =
         let no-more : eqb (answerOf x .number) 0 ≡ false = ne-eqb (answerOf x .number) 0 (λ y. omega arith) in
         let v : answerOf x .session ≡ 0 = q .session ∙ ap (λ (b : Bool). cond b (decodeDesk (take (p .start + widthFor (p .all) - p .start) (drop (p .start) t)) .owed) 0) no-more in
         let w : ys ≡ take (p .start + widthFor (p .all) - p .start) (drop (p .start) t)
         = q .after ∙ ap (λ (b : Bool). cond b (encodeDesk (p .all) (retire (decodeDesk (take (p .start + widthFor (p .all) - p .start) (drop (p .start) t))))) (take (p .start + widthFor (p .all) - p .start) (drop (p .start) t))) no-more in
         (λ i. record { answer = record { number = z i; session = v i }; after = put-same t (p .start) (p .start + widthFor (p .all) - p .start) ys w i })
-        ∙ sym (refused-step t (Retire d) n (e .yes-sound) (all-asked ∙ z))
+        ∙ sym (refused-step hallLimits t (Retire d) n (e .yes-sound) (all-asked ∙ z))
 
 -- ---- collect: the screens that are read
 scanned-word : (r : List ℕ) → getD r 1 0 ≡ decodeDesk r .scanned
@@ -130,7 +131,7 @@ reads t d k p e r ek =
     let el = e .positions-is in
     let fm = e .facts .most in
     let fl = e .facts .long in
-    let s1 : 1 ≤ allScreens (hallIn t) = one-le-mul (e .facts .desks .0) (e .facts .screens .0) in
+    let s1 : 1 ≤ allScreens (hallIn t) = some-screens (hallIn t) (e .facts .fits) in
     let rk : k ≡ getD (take n (drop a t)) 1 0 = ek ∙ sym (getD-take n (drop a t) 1 0 (omega arith) ∙ getD-drop a t 1 0) in
     let kl : getD (take n (drop a t)) 1 0 < s = scanned-below s (take n (drop a t)) (omega arith) (r .lent-is .sound) in
     let ls : length (decode (hallIn t) t .shown) ≡ s
@@ -149,7 +150,7 @@ pub collect-told : (t : List ℕ) (d k : ℕ) (p : Place) → Entered t d p → 
     → (vs : List ℕ) → vs ≡ take 2 (drop k (decode (hallIn t) t .shown)) → (x : ℕ) (ys : List ℕ)
     → x ≡ collectSeeing (p .all) vs (decodeDesk (take (p .start + widthFor (p .all) - p .start) (drop (p .start) t))) .session
     → ys ≡ encodeDesk (p .all) (collectSeeing (p .all) vs (decodeDesk (take (p .start + widthFor (p .all) - p .start) (drop (p .start) t))) .after)
-    → told (Accepted x) (take (p .start) t ++ (ys ++ drop (p .start + widthFor (p .all) - p .start) (drop (p .start) t))) ≡ stepTable t (Collect d)
+    → told (Accepted x) (take (p .start) t ++ (ys ++ drop (p .start + widthFor (p .all) - p .start) (drop (p .start) t))) ≡ stepTable hallLimits t (Collect d)
 collect-told t d k p e r ek vs ev x ys ex ey =
     let D = decodeDesk (take (p .start + widthFor (p .all) - p .start) (drop (p .start) t)) in
     let H = hallIn t in
@@ -160,17 +161,17 @@ collect-told t d k p e r ek vs ev x ys ex ey =
     let w : ys ≡ encodeDesk (allScreens H) (collect (allScreens H) scr (decodeDesk (recordOf H t d)) .after)
     = ey ∙ ap₂ (λ (n : ℕ) (g : Collected). encodeDesk n (g .after)) (r .all-is) same ∙ ap (λ (l : List ℕ). encodeDesk (allScreens H) (collect (allScreens H) scr (decodeDesk l) .after)) (r .lent-is .part) in
     (λ i. record { answer = record { number = 0; session = v i }; after = put-on t d (p .all) (p .start) (r .lent-is) (r .all-is) ys _ w i })
-    ∙ sym (accepted-step t (Collect d) (e .yes-sound) (asked-yes (inRange d (hallIn t .desks)) _ 6 0 (e .yes-desk) refl))
+    ∙ sym (accepted-step hallLimits t (Collect d) (e .yes-sound) (asked-yes (inRange d (hallIn t .desks)) _ 6 0 (e .yes-desk) refl))
 
 -- ---- take
 module _ (t : List ℕ) (d i q : ℕ) (p : Place) (e : Entered t d p) where
-  pub take-no-screen : inRange i (hallIn t .screens) ≡ false → told NoScreen t ≡ stepTable t (Take d i q)
-  take-no-screen w = sym (refused-step t (Take d i q) 6 (e .yes-sound) (asked-yes (inRange d (hallIn t .desks)) _ 6 7 (e .yes-desk) (asked-no (inRange i (hallIn t .screens)) _ 7 w)))
+  pub take-no-screen : inRange i (hallIn t .screens) ≡ false → told NoScreen t ≡ stepTable hallLimits t (Take d i q)
+  take-no-screen w = sym (refused-step hallLimits t (Take d i q) 6 (e .yes-sound) (asked-yes (inRange d (hallIn t .desks)) _ 6 7 (e .yes-desk) (asked-no (inRange i (hallIn t .screens)) _ 7 w)))
 
   module _ (w : inRange i (hallIn t .screens) ≡ true) where
-    pub take-no-position : inRange q (hallIn t .positions) ≡ false → told NoPosition t ≡ stepTable t (Take d i q)
+    pub take-no-position : inRange q (hallIn t .positions) ≡ false → told NoPosition t ≡ stepTable hallLimits t (Take d i q)
     take-no-position v =
-        sym (refused-step t (Take d i q) 7 (e .yes-sound)
+        sym (refused-step hallLimits t (Take d i q) 7 (e .yes-sound)
         (asked-yes (inRange d (hallIn t .desks)) _ 6 8 (e .yes-desk)
         (asked-yes (inRange i (hallIn t .screens)) _ 7 8 w
         (asked-no (inRange q (hallIn t .positions)) _ 8 v))))
@@ -185,24 +186,24 @@ module _ (t : List ℕ) (d i q : ℕ) (p : Place) (e : Entered t d p) where
       three : (y : ℕ) (u : ℕ) → cond {A = ℕ} (eqb (getD (decode (hallIn t) t .shown) (screenIndex (hallIn t) d i) 0) 0) u 9 ≡ y → cond {A = ℕ} (inRange d (hallIn t .desks)) (cond {A = ℕ} (inRange i (hallIn t .screens)) (cond {A = ℕ} (inRange q (hallIn t .positions)) (cond {A = ℕ} (eqb (getD (decode (hallIn t) t .shown) (screenIndex (hallIn t) d i) 0) 0) u 9) 8) 7) 6 ≡ y
       three y u z = asked-yes (inRange d (hallIn t .desks)) _ 6 y (e .yes-desk) (asked-yes (inRange i (hallIn t .screens)) _ 7 y w (asked-yes (inRange q (hallIn t .positions)) _ 8 y w' z))
 
-      pub take-screen-in-use : (getD t a 0 ≡ 0 → ⊥) → told ScreenInUse t ≡ stepTable t (Take d i q)
-      take-screen-in-use z = sym (refused-step t (Take d i q) 8 (e .yes-sound) (three 9 _ (asked-no (eqb (getD (decode (hallIn t) t .shown) (screenIndex (hallIn t) d i) 0) 0) _ 9 (ne-eqb _ 0 (λ y. z (sym screen ∙ y))))))
+      pub take-screen-in-use : (getD t a 0 ≡ 0 → ⊥) → told ScreenInUse t ≡ stepTable hallLimits t (Take d i q)
+      take-screen-in-use z = sym (refused-step hallLimits t (Take d i q) 8 (e .yes-sound) (three 9 _ (asked-no (eqb (getD (decode (hallIn t) t .shown) (screenIndex (hallIn t) d i) 0) 0) _ 9 (ne-eqb _ 0 (λ y. z (sym screen ∙ y))))))
 
-      pub take-position-empty : getD t a 0 ≡ 0 → getD t (positionWord q) 0 ≡ 0 → told PositionEmpty t ≡ stepTable t (Take d i q)
+      pub take-position-empty : getD t a 0 ≡ 0 → getD t (positionWord q) 0 ≡ 0 → told PositionEmpty t ≡ stepTable hallLimits t (Take d i q)
       take-position-empty z v =
-          sym (refused-step t (Take d i q) 9 (e .yes-sound) (three 10 _ (asked-yes (eqb (getD (decode (hallIn t) t .shown) (screenIndex (hallIn t) d i) 0) 0) _ 9 10 (eq-eqb _ 0 (screen ∙ z))
+          sym (refused-step hallLimits t (Take d i q) 9 (e .yes-sound) (three 10 _ (asked-yes (eqb (getD (decode (hallIn t) t .shown) (screenIndex (hallIn t) d i) 0) 0) _ 9 10 (eq-eqb _ 0 (screen ∙ z))
           (asked-no (not (eqb (getD (decode (hallIn t) t .held) (q - 1) 0) 0)) 0 10 (ap not (eq-eqb _ 0 (held ∙ v)))))))
 
-      pub take-accepted : getD t a 0 ≡ 0 → (getD t (positionWord q) 0 ≡ 0 → ⊥) → told (Accepted (getD t (positionWord q) 0)) (set t a (getD t (positionWord q) 0)) ≡ stepTable t (Take d i q)
+      pub take-accepted : getD t a 0 ≡ 0 → (getD t (positionWord q) 0 ≡ 0 → ⊥) → told (Accepted (getD t (positionWord q) 0)) (set t a (getD t (positionWord q) 0)) ≡ stepTable hallLimits t (Take d i q)
       take-accepted z v =
           (λ j. record { answer = record { number = 0; session = sym held j }; after = set t (at j) (getD t (positionWord q) 0) })
-          ∙ sym (accepted-step t (Take d i q) (e .yes-sound) (three 0 _ (asked-yes (eqb (getD (decode (hallIn t) t .shown) (screenIndex (hallIn t) d i) 0) 0) _ 9 0 (eq-eqb _ 0 (screen ∙ z))
+          ∙ sym (accepted-step hallLimits t (Take d i q) (e .yes-sound) (three 0 _ (asked-yes (eqb (getD (decode (hallIn t) t .shown) (screenIndex (hallIn t) d i) 0) 0) _ 9 0 (eq-eqb _ 0 (screen ∙ z))
           (asked-yes (not (eqb (getD (decode (hallIn t) t .held) (q - 1) 0) 0)) 0 10 0 (ap not (ne-eqb _ 0 (λ y. v (sym held ∙ y)))) refl))))
 
 -- ---- swap
 module _ (t : List ℕ) (d q v : ℕ) (p : Place) (e : Entered t d p) where
-  pub swap-no-position : inRange q (hallIn t .positions) ≡ false → told NoPosition t ≡ stepTable t (Swap d q v)
-  swap-no-position w = sym (refused-step t (Swap d q v) 7 (e .yes-sound) (asked-yes (inRange d (hallIn t .desks)) _ 6 8 (e .yes-desk) (asked-no (inRange q (hallIn t .positions)) _ 8 w)))
+  pub swap-no-position : inRange q (hallIn t .positions) ≡ false → told NoPosition t ≡ stepTable hallLimits t (Swap d q v)
+  swap-no-position w = sym (refused-step hallLimits t (Swap d q v) 7 (e .yes-sound) (asked-yes (inRange d (hallIn t .desks)) _ 6 8 (e .yes-desk) (asked-no (inRange q (hallIn t .positions)) _ 8 w)))
 
   module _ (w : inRange q (hallIn t .positions) ≡ true) where
     owes : deskOf (decode (hallIn t) t) d .owed ≡ getD t (p .start) 0
@@ -211,15 +212,15 @@ module _ (t : List ℕ) (d q v : ℕ) (p : Place) (e : Entered t d p) where
     old : getD (decode (hallIn t) t .held) (q - 1) 0 ≡ getD t (positionWord q) 0
     old = let r = in-range q (hallIn t .positions) w in held-word t q (r .0) (r .1)
 
-    pub swap-desk-owes : (getD t (p .start) 0 ≡ 0 → ⊥) → told DeskOwes t ≡ stepTable t (Swap d q v)
+    pub swap-desk-owes : (getD t (p .start) 0 ≡ 0 → ⊥) → told DeskOwes t ≡ stepTable hallLimits t (Swap d q v)
     swap-desk-owes z =
-        sym (refused-step t (Swap d q v) 11 (e .yes-sound) (asked-yes (inRange d (hallIn t .desks)) _ 6 12 (e .yes-desk) (asked-yes (inRange q (hallIn t .positions)) _ 8 12 w
+        sym (refused-step hallLimits t (Swap d q v) 11 (e .yes-sound) (asked-yes (inRange d (hallIn t .desks)) _ 6 12 (e .yes-desk) (asked-yes (inRange q (hallIn t .positions)) _ 8 12 w
         (asked-no (eqb (deskOf (decode (hallIn t) t) d .owed) 0) 0 12 (ne-eqb _ 0 (λ y. z (sym owes ∙ y)))))))
 
-    pub swap-accepted : getD t (p .start) 0 ≡ 0 → told (Accepted (getD t (positionWord q) 0)) (set (set t (positionWord q) v) (p .start) (getD t (positionWord q) 0)) ≡ stepTable t (Swap d q v)
+    pub swap-accepted : getD t (p .start) 0 ≡ 0 → told (Accepted (getD t (positionWord q) 0)) (set (set t (positionWord q) v) (p .start) (getD t (positionWord q) 0)) ≡ stepTable hallLimits t (Swap d q v)
     swap-accepted z =
         (λ j. record { answer = record { number = 0; session = sym old j }; after = set (set t (positionWord q) v) (e .start-is j) (getD t (positionWord q) 0) })
-        ∙ sym (accepted-step t (Swap d q v) (e .yes-sound) (asked-yes (inRange d (hallIn t .desks)) _ 6 0 (e .yes-desk) (asked-yes (inRange q (hallIn t .positions)) _ 8 0 w
+        ∙ sym (accepted-step hallLimits t (Swap d q v) (e .yes-sound) (asked-yes (inRange d (hallIn t .desks)) _ 6 0 (e .yes-desk) (asked-yes (inRange q (hallIn t .positions)) _ 8 0 w
         (asked-yes (eqb (deskOf (decode (hallIn t) t) d .owed) 0) 0 12 0 (eq-eqb _ 0 (owes ∙ z)) refl))))
 
 -- where a position and a desk's record stand

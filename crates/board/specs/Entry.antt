@@ -2,16 +2,16 @@
 use Prim.Native.Nat.{ℕ}
 use mathlib.Core.Bool.{cond}
 use mathlib.Core.List.{List}
-use Rattle.rules.specs.Hall.{allScreens}
+use Rattle.rules.specs.Hall.{allScreens, hallLimits}
 use Rattle.rules.specs.Steps.{inRange}
 use Rattle.rules.specs.Table.{hallIn, recordStart, sound}
-use Rattle.reply.specs.declared.Reply.the-variants.{Unsound, NoDesk}
+use Rattle.reply.specs.declared.Reply.the-variants.{NoDesk, Unsound}
 use Rattle.board.specs.declared.Place.{Place}
 use Rattle.board.specs.declared.Entry.{Entry}
-use Rattle.board.specs.declared.Entry.the-variants.{No, At}
+use Rattle.board.specs.declared.Entry.the-variants.{At, No}
 
 abbrev pub placeOf : List ℕ → ℕ → Place
 placeOf t desk = record { positions = hallIn t .positions; screens = hallIn t .screens; all = allScreens (hallIn t); start = recordStart (hallIn t) desk }
 
 unfoldable pub entryOf : List ℕ → ℕ → Entry
-entryOf t desk = cond (sound t) (cond (inRange desk (hallIn t .desks)) (At (placeOf t desk)) (No NoDesk)) (No Unsound)
+entryOf t desk = cond (sound hallLimits t) (cond (inRange desk (hallIn t .desks)) (At (placeOf t desk)) (No NoDesk)) (No Unsound)

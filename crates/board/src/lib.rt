@@ -10,7 +10,7 @@ use reply::number;
 ghost use mathlib.Core.Path.{_≡_};
 ghost use Prim.Native.Nat.{_+_, _-_, _*_, _≤_, _<_};
 ghost use lib.ListN.{length, drop as dropWords};
-ghost use Rattle.rules.specs.Hall.{hallOf, mostAllScreens, mostDesks, mostPositions};
+ghost use Rattle.rules.specs.Hall.{hallLimits, hallOf, mostAllScreens, mostDesks, mostPositions};
 ghost use Rattle.rules.specs.Steps.{Collect, Drop, Retire, Swap, Take, inRange};
 ghost use Rattle.rules.specs.Table.{everyRecord, need as hallNeed, openTable, pieces, recordSound, sound as soundTable, stepTable};
 ghost use Rattle.rules.specs.Table.{headerWords, mostWords, startFor, widthFor};
@@ -75,7 +75,7 @@ pub fn record_start(l: usize, s: usize, d: usize) -> usize
 
 // Whether a table is sound.
 pub fn sound(t: &[u16]) -> bool
-    ensures { λ r. ⌜ r ≡ soundTable (now (t .entry)) ⌝ }
+    ensures { λ r. ⌜ r ≡ soundTable hallLimits (now (t .entry)) ⌝ }
 {
     if t.len() < HEADER {
         return false;
@@ -177,7 +177,7 @@ pub fn opening(desks: u16, screens: u16, positions: u16, words: usize) -> Reply
 
 // Opening writes P, c, L and zeros up to the need.
 pub fn open(t: &mut [u16], desks: u16, screens: u16, positions: u16) -> Reply
-    ensures { λ r. ⌜ told r (now (t .exit)) ≡ openTable (hallOf desks screens positions) (now (t .entry)) ⌝ }
+    ensures { λ r. ⌜ told r (now (t .exit)) ≡ openTable hallLimits (hallOf desks screens positions) (now (t .entry)) ⌝ }
 {
     let r = opening(desks, screens, positions, t.len());
     if number(r) != 0 {
@@ -193,7 +193,7 @@ pub fn open(t: &mut [u16], desks: u16, screens: u16, positions: u16) -> Reply
 
 // Take: the screen shows the position's session; the reply is that session.
 pub fn take(t: &mut [u16], desk: u16, screen: u16, position: u16) -> Reply
-    ensures { λ r. ⌜ told r (now (t .exit)) ≡ stepTable (now (t .entry)) (Take desk screen position) ⌝ }
+    ensures { λ r. ⌜ told r (now (t .exit)) ≡ stepTable hallLimits (now (t .entry)) (Take desk screen position) ⌝ }
 {
     let entry = enter(t, desk);
     match entry {
@@ -226,7 +226,7 @@ pub fn take(t: &mut [u16], desk: u16, screen: u16, position: u16) -> Reply
 
 // Drop: the screen becomes 0; the reply is what it showed.
 pub fn drop(t: &mut [u16], desk: u16, screen: u16) -> Reply
-    ensures { λ r. ⌜ told r (now (t .exit)) ≡ stepTable (now (t .entry)) (Drop desk screen) ⌝ }
+    ensures { λ r. ⌜ told r (now (t .exit)) ≡ stepTable hallLimits (now (t .entry)) (Drop desk screen) ⌝ }
 {
     let entry = enter(t, desk);
     match entry {
@@ -252,7 +252,7 @@ pub fn drop(t: &mut [u16], desk: u16, screen: u16) -> Reply
 
 // Swap: the position holds the new session or 0; the reply is the old one, and the desk owes it.
 pub fn swap(t: &mut [u16], desk: u16, position: u16, session: u16) -> Reply
-    ensures { λ r. ⌜ told r (now (t .exit)) ≡ stepTable (now (t .entry)) (Swap desk position session) ⌝ }
+    ensures { λ r. ⌜ told r (now (t .exit)) ≡ stepTable hallLimits (now (t .entry)) (Swap desk position session) ⌝ }
 {
     let entry = enter(t, desk);
     match entry {
@@ -278,7 +278,7 @@ pub fn swap(t: &mut [u16], desk: u16, position: u16, session: u16) -> Reply
 
 // Retire: the owed session goes to the end of the list as waiting; nothing is owed; the reply is that session.
 pub fn retire(t: &mut [u16], desk: u16) -> Reply
-    ensures { λ r. ⌜ told r (now (t .exit)) ≡ stepTable (now (t .entry)) (Retire desk) ⌝ }
+    ensures { λ r. ⌜ told r (now (t .exit)) ≡ stepTable hallLimits (now (t .entry)) (Retire desk) ⌝ }
 {
     let entry = enter(t, desk);
     match entry {
@@ -294,7 +294,7 @@ pub fn retire(t: &mut [u16], desk: u16) -> Reply
 
 // Collect: (a) to (d), on the record of the desk, with the next two screens of the hall or the last one alone.
 pub fn collect(t: &mut [u16], desk: u16) -> Reply
-    ensures { λ r. ⌜ told r (now (t .exit)) ≡ stepTable (now (t .entry)) (Collect desk) ⌝ }
+    ensures { λ r. ⌜ told r (now (t .exit)) ≡ stepTable hallLimits (now (t .entry)) (Collect desk) ⌝ }
 {
     let entry = enter(t, desk);
     match entry {
@@ -340,7 +340,7 @@ pub fn desk_of(call: Call) -> u16
 
 // The step that a call asks for.
 pub fn step(t: &mut [u16], call: Call) -> Reply
-    ensures { λ r. ⌜ told r (now (t .exit)) ≡ stepTable (now (t .entry)) (callOf call) ⌝ }
+    ensures { λ r. ⌜ told r (now (t .exit)) ≡ stepTable hallLimits (now (t .entry)) (callOf call) ⌝ }
 {
     match call {
         Call::Take(desk, screen, position) => take(t, desk, screen, position),

@@ -5,6 +5,7 @@ use mathlib.Core.Path.{_≡_, refl, sym, ap, subst, subst₂, _∙_}
 use mathlib.Core.List.{List, _++_}
 use lib.ListN.{length, take, drop}
 use lib.Seq.{length-take-le, take-at}
+use Rattle.rules.specs.Hall.{hallLimits}
 use Rattle.rules.specs.Steps.{Call}
 use Rattle.rules.specs.Table.{TableDone, hallIn, stepTable}
 use Rattle.rules.specs.Bytes.{IsBytes, Words16, laidOver, reply, stepBytes, wordsOfBytes}
@@ -15,15 +16,15 @@ use Rattle.rules.specs.laws.Window.{Rewritten, deskIn, step-rewritten}
 use Rattle.rules.specs.laws.Words16.{step-length, step-refused}
 use Rattle.reply.specs.declared.Reply.{Reply}
 use Rattle.reply.specs.Answer.{answerOf, told}
-use Rattle.host.specs.Heard.{heard, Front, Seen, Told}
+use Rattle.host.specs.Heard.{Front, Seen, Told, heard}
 
 -- The board was lent the first n words of a buffer, and left others in their place.
 module _ (n number : ℕ) (call : Call) (buffer bytes after : List ℕ) (r : Reply) (answer : number ≡ reply (answerOf r))
-    (e : told r after ≡ stepTable (take n buffer) call) where
-  number-is : answerOf r .number ≡ stepTable (take n buffer) call .answer .number
+    (e : told r after ≡ stepTable hallLimits (take n buffer) call) where
+  number-is : answerOf r .number ≡ stepTable hallLimits (take n buffer) call .answer .number
   number-is = ap (λ (d : TableDone). d .answer .number) e
 
-  answer-is : number ≡ reply (stepTable (take n buffer) call .answer)
+  answer-is : number ≡ reply (stepTable hallLimits (take n buffer) call .answer)
   answer-is = answer ∙ ap (λ (d : TableDone). reply (d .answer)) e
 
   pub refusal-told : (answerOf r .number ≡ 0 → ⊥) → Told number call (take n buffer) bytes bytes
@@ -38,10 +39,10 @@ module _ (n number : ℕ) (call : Call) (buffer bytes after : List ℕ) (r : Rep
     pub step-rewrote : Words16 buffer → take n buffer ≡ take n (wordsOfBytes bytes) → (d : ℕ) → d ≡ deskIn call
         → Rewritten d (take (length (take n (after ++ drop n buffer))) (wordsOfBytes bytes)) (take n (after ++ drop n buffer))
     step-rewrote small read d is =
-        let left : stepTable (take n buffer) call .after ≡ take n (after ++ drop n buffer) = ap (λ (s : TableDone). s .after) (sym e) ∙ sym lent-is in
+        let left : stepTable hallLimits (take n buffer) call .after ≡ take n (after ++ drop n buffer) = ap (λ (s : TableDone). s .after) (sym e) ∙ sym lent-is in
         let long : n ≡ length (take n (after ++ drop n buffer)) = sym (ap length lent-is ∙ as-long ∙ length-take-le n buffer room) in
         subst (λ (x : ℕ). Rewritten x (take (length (take n (after ++ drop n buffer))) (wordsOfBytes bytes)) (take n (after ++ drop n buffer))) (sym is)
-        (subst₂ (λ (x y : List ℕ). Rewritten (deskIn call) x y) (read ∙ ap (λ (k : ℕ). take k (wordsOfBytes bytes)) long) left (step-rewritten (take n buffer) (small-take n buffer small) call (sym number-is ∙ accepted)))
+        (subst₂ (λ (x y : List ℕ). Rewritten (deskIn call) x y) (read ∙ ap (λ (k : ℕ). take k (wordsOfBytes bytes)) long) left (step-rewritten hallLimits (take n buffer) (small-take n buffer small) call (sym number-is ∙ accepted)))
 
     pub step-told : (out : List ℕ) → out ≡ laidOver (take n (after ++ drop n buffer)) bytes → Told number call (take n buffer) bytes out
     step-told out laid =
@@ -53,17 +54,17 @@ module _ (n number : ℕ) (call : Call) (buffer bytes after : List ℕ) (r : Rep
 
 -- Of the first m words n are there, and the step was on these.
 pub step-heard : (m n number : ℕ) (bytes words out : List ℕ) (call : Call) → IsBytes bytes → Front (hallIn (wordsOfBytes bytes)) m → Seen bytes m n
-    → words ≡ take n (wordsOfBytes bytes) → Told number call words bytes out → heard number out ≡ stepBytes bytes call
+    → words ≡ take n (wordsOfBytes bytes) → Told number call words bytes out → heard number out ≡ stepBytes hallLimits bytes call
 step-heard m n number bytes words out call are front seen read done =
     let ws : List ℕ = wordsOfBytes bytes in
     let lent : words ≡ take m ws = read ∙ seen .front in
-    let long : length (stepTable words call .after) ≡ length (take m ws) =
-    ap (λ (w : List ℕ). length (stepTable w call .after)) lent ∙ step-length (take m ws) call (small-take m ws (words-are-16 bytes are)) in
-    (λ i. record { reply = done .answer i; after = left (stepTable words call .answer .number) refl i })
-    ∙ step-on-front m bytes are (stepTable words call) long (front .header) (front .enough) call (ap (λ (w : List ℕ). stepTable w call) lent)
+    let long : length (stepTable hallLimits words call .after) ≡ length (take m ws) =
+    ap (λ (w : List ℕ). length (stepTable hallLimits w call .after)) lent ∙ step-length hallLimits (take m ws) call (small-take m ws (words-are-16 bytes are)) in
+    (λ i. record { reply = done .answer i; after = left (stepTable hallLimits words call .answer .number) refl i })
+    ∙ step-on-front hallLimits m bytes are (stepTable hallLimits words call) long (front .header) (front .enough) call (ap (λ (w : List ℕ). stepTable hallLimits w call) lent)
   where
-    left : (k : ℕ) → stepTable words call .answer .number ≡ k → out ≡ laidOver (stepTable words call .after) bytes
+    left : (k : ℕ) → stepTable hallLimits words call .answer .number ≡ k → out ≡ laidOver (stepTable hallLimits words call .after) bytes
     left zero q = done .written q
     left (suc k) q =
         done .refused (λ z. absurd (omega (arith, q, z)))
-        ∙ sym (ap (λ (w : List ℕ). laidOver w bytes) (step-refused words call k q .2 ∙ read ∙ seen .front) ∙ front-laid-back m bytes are)
+        ∙ sym (ap (λ (w : List ℕ). laidOver w bytes) (step-refused hallLimits words call k q .2 ∙ read ∙ seen .front) ∙ front-laid-back m bytes are)

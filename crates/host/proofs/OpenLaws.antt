@@ -5,13 +5,13 @@ use mathlib.Core.Path.{_≡_, refl, sym, ap, ap₂, _∙_}
 use mathlib.Core.List.{List, [], _∷_, _++_}
 use lib.ListN.{length, take, drop, replicate, length-drop, length-replicate}
 use lib.Seq.{length-take-le, drop-drop}
-use Rattle.rules.specs.Hall.{Hall}
+use Rattle.rules.specs.Hall.{Hall, hallLimits}
 use Rattle.rules.specs.Steps.{firstNo}
 use Rattle.rules.specs.Table.{TableDone, headerWords, mostWords, need, openQuestions, openTable}
 use Rattle.rules.specs.Bytes.{IsBytes, bytesOfWords, laidOver, onBytes, openBytes, reply, wordsOfBytes}
 use Rattle.rules.specs.laws.Front.{laid-front}
 use Rattle.rules.specs.laws.Prefix.{need-at-most}
-use Rattle.rules.specs.laws.Tables.{hall-opens}
+use Rattle.rules.specs.laws.Tables.{hall-opens, limits-fit}
 use Rattle.rules.specs.laws.TableSteps.{accepted-open}
 use Rattle.reply.specs.declared.Reply.{Reply}
 use Rattle.reply.specs.Answer.{answerOf}
@@ -30,26 +30,26 @@ zero-bytes (suc k) =
     ap {B = List ℕ} (λ bytes. 0 ∷ 0 ∷ bytes) (zero-bytes k) ∙ ap (λ (m : ℕ). replicate m 0) e
 
 pub record Room (H : Hall) (bytes : List ℕ) : Type 0 where
-  pub asked : firstNo (openQuestions H (wordsOfBytes bytes)) ≡ 0
+  pub asked : firstNo (openQuestions hallLimits H (wordsOfBytes bytes)) ≡ 0
   pub least : headerWords ≤ need H
   pub most : need H ≤ mostWords
   pub there : 2 * need H ≤ length bytes
 
-module _ (H : Hall) (bytes : List ℕ) (r : Reply) (e : answerOf r ≡ openTable H (wordsOfBytes bytes) .answer) where
+module _ (H : Hall) (bytes : List ℕ) (r : Reply) (e : answerOf r ≡ openTable hallLimits H (wordsOfBytes bytes) .answer) where
   -- the questions are all answered yes, so the need is there
   pub room : answerOf r .number ≡ 0 → Room H bytes
   room z =
       let asked = is-opened H (wordsOfBytes bytes) r e z in
-      let o = hall-opens H (wordsOfBytes bytes) asked in
+      let o = hall-opens hallLimits H (wordsOfBytes bytes) asked in
       record {
         asked = asked;
         least = omega arith;
-        most = omega (arith, need-at-most H (o .0));
+        most = omega (arith, need-at-most H (limits-fit hallLimits H (o .0)));
         there = omega (arith, o .1, words-length bytes);
       }
 
   module _ (are : IsBytes bytes) (number : ℕ) (answer : number ≡ reply (answerOf r)) where
-    pub refusal-heard : (answerOf r .number ≡ 0 → ⊥) → heard number bytes ≡ openBytes H bytes
+    pub refusal-heard : (answerOf r .number ≡ 0 → ⊥) → heard number bytes ≡ openBytes hallLimits H bytes
     unfolding openBytes
     refusal-heard no-opening =
         (λ i. record { reply = answer i; after = sym (laid-back bytes are) i })
@@ -57,14 +57,14 @@ module _ (H : Hall) (bytes : List ℕ) (r : Reply) (e : answerOf r ≡ openTable
 
     zeros-heard : answerOf r .number ≡ 0 → (n : ℕ) → n ≡ need H → (zeros : List ℕ)
         → zeros ≡ replicate (length (take (2 * n - 2 * headerWords) (drop (2 * headerWords) (laidOver (header H) bytes)))) 0
-        → heard number (take (2 * headerWords) (laidOver (header H) bytes) ++ (zeros ++ drop (2 * n - 2 * headerWords) (drop (2 * headerWords) (laidOver (header H) bytes)))) ≡ openBytes H bytes
+        → heard number (take (2 * headerWords) (laidOver (header H) bytes) ++ (zeros ++ drop (2 * n - 2 * headerWords) (drop (2 * headerWords) (laidOver (header H) bytes)))) ≡ openBytes hallLimits H bytes
     unfolding openBytes laidOver
     zeros-heard z n is zeros q =
         let place = room z in
         let words : List ℕ = H .desks ∷ H .screens ∷ H .positions ∷ replicate (need H - headerWords) 0 in
         let long : length words ≡ need H = omega (arith, place .least, length-replicate {A = ℕ} (need H - headerWords) 0) in
         let all : length words ≡ length (take (need H) (wordsOfBytes bytes)) =
-        long ∙ sym (length-take-le (need H) (wordsOfBytes bytes) (hall-opens H (wordsOfBytes bytes) (place .asked) .1)) in
+        long ∙ sym (length-take-le (need H) (wordsOfBytes bytes) (hall-opens hallLimits H (wordsOfBytes bytes) (place .asked) .1)) in
         let many : length (take (2 * n - 2 * headerWords) (drop (2 * headerWords) bytes)) ≡ 2 * (need H - headerWords) =
         length-take-le (2 * n - 2 * headerWords) (drop (2 * headerWords) bytes) (omega (arith, length-drop (2 * headerWords) bytes, place .there)) ∙ omega (arith, place .least) in
         let cleared : zeros ≡ bytesOfWords (replicate (need H - headerWords) 0) = q ∙ ap (λ (k : ℕ). replicate k 0) many ∙ sym (zero-bytes (need H - headerWords)) in
@@ -75,15 +75,15 @@ module _ (H : Hall) (bytes : List ℕ) (r : Reply) (e : answerOf r ≡ openTable
         (λ i. record { reply = answer i; after = (laid ∙ laid-front (need H) bytes words are all) i })
         ∙ ap (λ (d : TableDone). onBytes d bytes) ((λ i. record { answer = e i; after = words ++ drop (need H) (wordsOfBytes bytes) }) ∙ opened)
       where
-        opened : record { answer = openTable H (wordsOfBytes bytes) .answer; after = (H .desks ∷ H .screens ∷ H .positions ∷ replicate (need H - headerWords) 0) ++ drop (need H) (wordsOfBytes bytes) } ≡ openTable H (wordsOfBytes bytes)
+        opened : record { answer = openTable hallLimits H (wordsOfBytes bytes) .answer; after = (H .desks ∷ H .screens ∷ H .positions ∷ replicate (need H - headerWords) 0) ++ drop (need H) (wordsOfBytes bytes) } ≡ openTable hallLimits H (wordsOfBytes bytes)
         opened =
-            let found = accepted-open H (wordsOfBytes bytes) (room z .asked) in
+            let found = accepted-open hallLimits H (wordsOfBytes bytes) (room z .asked) in
             (λ i. record { answer = found i .answer; after = (H .desks ∷ H .screens ∷ H .positions ∷ replicate (need H - headerWords) 0) ++ drop (need H) (wordsOfBytes bytes) }) ∙ sym found
 
     -- the header was laid over the bytes, and then zeros up to the need
     pub opened-heard : answerOf r .number ≡ 0 → (n : ℕ) → n ≡ need H → (headed zeros : List ℕ) → headed ≡ laidOver (header H) bytes
         → zeros ≡ replicate (length (take (2 * n - 2 * headerWords) (drop (2 * headerWords) headed))) 0
-        → heard number (take (2 * headerWords) headed ++ (zeros ++ drop (2 * n - 2 * headerWords) (drop (2 * headerWords) headed))) ≡ openBytes H bytes
+        → heard number (take (2 * headerWords) headed ++ (zeros ++ drop (2 * n - 2 * headerWords) (drop (2 * headerWords) headed))) ≡ openBytes hallLimits H bytes
     opened-heard z n is headed zeros h q =
         ap (λ (l : List ℕ). heard number (take (2 * headerWords) l ++ (zeros ++ drop (2 * n - 2 * headerWords) (drop (2 * headerWords) l)))) h
         ∙ zeros-heard z n is zeros (q ∙ ap (λ (l : List ℕ). replicate (length (take (2 * n - 2 * headerWords) (drop (2 * headerWords) l))) 0) h)

@@ -3,7 +3,7 @@ use Prim.Native.Nat.{ℕ, _≤_, _*_}
 use mathlib.Core.Path.{_≡_}
 use mathlib.Core.List.{List}
 use lib.ListN.{length, take}
-use Rattle.rules.specs.Hall.{Hall}
+use Rattle.rules.specs.Hall.{Hall, hallLimits}
 use Rattle.rules.specs.Steps.{Call}
 use Rattle.rules.specs.Table.{headerWords, mostWords, need, stepTable}
 use Rattle.rules.specs.Bytes.{BytesDone, laidOver, reply, wordsOfBytes}
@@ -27,6 +27,6 @@ pub record Seen (bytes : List ℕ) (m n : ℕ) : Type 0 where
 
 -- the number that answers a step on these words of a table, and what it leaves of the bytes: nothing is written where it is refused
 pub record Told (number : ℕ) (call : Call) (words bytes after : List ℕ) : Type 0 where
-  pub answer : number ≡ reply (stepTable words call .answer)
-  pub written : stepTable words call .answer .number ≡ 0 → after ≡ laidOver (stepTable words call .after) bytes
-  pub refused : (stepTable words call .answer .number ≡ 0 → ⊥) → after ≡ bytes
+  pub answer : number ≡ reply (stepTable hallLimits words call .answer)
+  pub written : stepTable hallLimits words call .answer .number ≡ 0 → after ≡ laidOver (stepTable hallLimits words call .after) bytes
+  pub refused : (stepTable hallLimits words call .answer .number ≡ 0 → ⊥) → after ≡ bytes

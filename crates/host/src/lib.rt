@@ -10,7 +10,7 @@ use reply::packed;
 ghost use mathlib.Core.Path.{_≡_};
 ghost use Prim.Native.Nat.{_+_, _*_, _<_, _≤_};
 ghost use lib.ListN.{length, getD, replicate, take as takeWords};
-ghost use Rattle.rules.specs.Hall.{hallOf};
+ghost use Rattle.rules.specs.Hall.{hallLimits, hallOf};
 ghost use Rattle.rules.specs.Steps.{Take, Drop, Swap, Retire, Collect};
 ghost use Rattle.rules.specs.Table.{hallIn};
 ghost use Rattle.rules.specs.Bytes.{wordsOfBytes, laidOver, openBytes, stepBytes};
@@ -155,7 +155,7 @@ fn step_on_words(call: Call, n: usize, words: &mut [u16], table: &mut [u8]) -> u
 // A step on a table sent as bytes. The table of the largest hall fills the buffer: that is asked by itself, so that the
 // compiler leaves out to clear what `decode` fills.
 fn step_on_bytes(call: Call, table: &mut [u8]) -> u32
-    ensures { λ r. ⌜ heard r (now (table .exit)) ≡ stepBytes (now (table .entry)) (callOf call) ⌝ }
+    ensures { λ r. ⌜ heard r (now (table .exit)) ≡ stepBytes hallLimits (now (table .entry)) (callOf call) ⌝ }
 {
     let m = looked_at(table);
     let n = seen(table, m);
@@ -172,7 +172,7 @@ fn step_on_bytes(call: Call, table: &mut [u8]) -> u32
 // The opening of a hall of so many desks, screens per desk and positions: its header and zeros up to its need are written.
 #[no_mangle]
 pub extern "C" fn board_open(desks: u16, screens: u16, positions: u16, table: &mut [u8]) -> u32
-    ensures { λ r. ⌜ heard r (now (table .exit)) ≡ openBytes (hallOf desks screens positions) (now (table .entry)) ⌝ }
+    ensures { λ r. ⌜ heard r (now (table .exit)) ≡ openBytes hallLimits (hallOf desks screens positions) (now (table .entry)) ⌝ }
 {
     let r = opening(desks, screens, positions, table.len() / 2);
     if number(r) != 0 {
@@ -188,7 +188,7 @@ pub extern "C" fn board_open(desks: u16, screens: u16, positions: u16, table: &m
 // Take: the screen shows the position's session.
 #[no_mangle]
 pub extern "C" fn board_take(desk: u16, screen: u16, position: u16, table: &mut [u8]) -> u32
-    ensures { λ r. ⌜ heard r (now (table .exit)) ≡ stepBytes (now (table .entry)) (Take desk screen position) ⌝ }
+    ensures { λ r. ⌜ heard r (now (table .exit)) ≡ stepBytes hallLimits (now (table .entry)) (Take desk screen position) ⌝ }
 {
     step_on_bytes(Call::Take(desk, screen, position), table)
 }
@@ -196,7 +196,7 @@ pub extern "C" fn board_take(desk: u16, screen: u16, position: u16, table: &mut 
 // Drop: the screen shows nothing.
 #[no_mangle]
 pub extern "C" fn board_drop(desk: u16, screen: u16, table: &mut [u8]) -> u32
-    ensures { λ r. ⌜ heard r (now (table .exit)) ≡ stepBytes (now (table .entry)) (Drop desk screen) ⌝ }
+    ensures { λ r. ⌜ heard r (now (table .exit)) ≡ stepBytes hallLimits (now (table .entry)) (Drop desk screen) ⌝ }
 {
     step_on_bytes(Call::Drop(desk, screen), table)
 }
@@ -204,7 +204,7 @@ pub extern "C" fn board_drop(desk: u16, screen: u16, table: &mut [u8]) -> u32
 // Swap: the position holds the session, or nothing, and the desk owes the one that stood there.
 #[no_mangle]
 pub extern "C" fn board_swap(desk: u16, position: u16, session: u16, table: &mut [u8]) -> u32
-    ensures { λ r. ⌜ heard r (now (table .exit)) ≡ stepBytes (now (table .entry)) (Swap desk position session) ⌝ }
+    ensures { λ r. ⌜ heard r (now (table .exit)) ≡ stepBytes hallLimits (now (table .entry)) (Swap desk position session) ⌝ }
 {
     step_on_bytes(Call::Swap(desk, position, session), table)
 }
@@ -212,7 +212,7 @@ pub extern "C" fn board_swap(desk: u16, position: u16, session: u16, table: &mut
 // Retire: the owed session goes to the end of the desk's list.
 #[no_mangle]
 pub extern "C" fn board_retire(desk: u16, table: &mut [u8]) -> u32
-    ensures { λ r. ⌜ heard r (now (table .exit)) ≡ stepBytes (now (table .entry)) (Retire desk) ⌝ }
+    ensures { λ r. ⌜ heard r (now (table .exit)) ≡ stepBytes hallLimits (now (table .entry)) (Retire desk) ⌝ }
 {
     step_on_bytes(Call::Retire(desk), table)
 }
@@ -220,7 +220,7 @@ pub extern "C" fn board_retire(desk: u16, table: &mut [u8]) -> u32
 // Collect: two screens are read, and a session may be handed back.
 #[no_mangle]
 pub extern "C" fn board_collect(desk: u16, table: &mut [u8]) -> u32
-    ensures { λ r. ⌜ heard r (now (table .exit)) ≡ stepBytes (now (table .entry)) (Collect desk) ⌝ }
+    ensures { λ r. ⌜ heard r (now (table .exit)) ≡ stepBytes hallLimits (now (table .entry)) (Collect desk) ⌝ }
 {
     step_on_bytes(Call::Collect(desk), table)
 }

@@ -4,12 +4,12 @@ use native.Mathlib.Omega.{arith}
 use mathlib.Core.Bool.{true}
 use mathlib.Core.Path.{_≡_, sym, ap₂, _∙_}
 use borrow.Author.Needs.{needs}
-use Rattle.rules.specs.Hall.{allScreens}
+use Rattle.rules.specs.Hall.{allScreens, hallLimits}
 use Rattle.rules.specs.Steps.{inRange}
 use Rattle.rules.specs.Table.{hallIn, recordStart, sound, startFor}
 use Rattle.rules.specs.laws.Effect.{in-range}
 use Rattle.rules.specs.laws.TableSteps.{Known, known}
-use Rattle.marks.proofs.BoolLaws.{not-true, not-false}
+use Rattle.marks.proofs.BoolLaws.{not-false, not-true}
 use Rattle.board.specs.declared.Entry.{Entry}
 use Rattle.board.specs.Entry.{entryOf}
 use Rattle.board.proofs.SoundLaws.{is-in, is-out}
@@ -17,11 +17,11 @@ use Rattle.board.proofs.enter.Statement.{statement}
 use Rattle.board.proofs.enter.Tie as tie
 
 -- the table is sound
-table-is-sound : (c : tie.Else1) → sound (c .before .before .before .args .t .now) ≡ true
+table-is-sound : (c : tie.Else1) → sound hallLimits (c .before .before .before .args .t .now) ≡ true
 table-is-sound c = sym (c .before .sound .ensures) ∙ not-false (c .if1 .left)
 
 facts : (c : tie.Else1) → Known (c .before .before .before .args .t .now)
-facts c = known (c .before .before .before .args .t .now) (table-is-sound c)
+facts c = known hallLimits (c .before .before .before .args .t .now) (table-is-sound c)
 
 -- the desk is one of the hall's
 is-desk : (c : tie.Else2) → inRange (c .before .before .before .before .before .before .args .desk) (hallIn (c .before .before .before .before .before .before .args .t .now) .desks) ≡ true

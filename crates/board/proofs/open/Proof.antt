@@ -6,21 +6,21 @@ use mathlib.Core.Path.{_≡_, refl, _∙_}
 use lib.ListN.{length, take, drop, length-set}
 use borrow.Author.Needs.{needs}
 use borrow.Rule.Slice.PartMut.{same-len-mid}
-use Rattle.rules.specs.Hall.{hallOf}
+use Rattle.rules.specs.Hall.{hallLimits, hallOf}
 use Rattle.rules.specs.Steps.{firstNo}
 use Rattle.rules.specs.Table.{headerWords, need, openQuestions}
 use Rattle.rules.specs.laws.Tables.{hall-opens}
-use Rattle.board.proofs.OpenLaws.{not-opened, is-opened, opened}
+use Rattle.board.proofs.OpenLaws.{is-opened, not-opened, opened}
 use Rattle.board.proofs.open.Statement.{statement}
 use Rattle.board.proofs.open.Tie as tie
 
 -- all questions were answered yes
-all-yes : (c : tie.Else1) → firstNo (openQuestions (hallOf (c .before .before .before .before .args .desks) (c .before .before .before .before .args .screens) (c .before .before .before .before .args .positions)) (c .before .before .before .before .args .t .now)) ≡ 0
+all-yes : (c : tie.Else1) → firstNo (openQuestions hallLimits (hallOf (c .before .before .before .before .args .desks) (c .before .before .before .before .args .screens) (c .before .before .before .before .args .positions)) (c .before .before .before .before .args .t .now)) ≡ 0
 all-yes c = is-opened (hallOf (c .before .before .before .before .args .desks) (c .before .before .before .before .args .screens) (c .before .before .before .before .args .positions)) (c .before .before .before .before .args .t .now) (c .before .before .opening .result) (c .before .before .opening .ensures (c .before .before .before .before .args .t .now) refl) (omega (arith, c .before .number .ensures))
 
 -- so the table is long enough
 room : (c : tie.Else1) → need (hallOf (c .before .before .before .before .args .desks) (c .before .before .before .before .args .screens) (c .before .before .before .before .args .positions)) ≤ length (c .before .before .before .before .args .t .now)
-room c = hall-opens (hallOf (c .before .before .before .before .args .desks) (c .before .before .before .before .args .screens) (c .before .before .before .before .args .positions)) (c .before .before .before .before .args .t .now) (all-yes c) .1
+room c = hall-opens hallLimits (hallOf (c .before .before .before .before .args .desks) (c .before .before .before .before .args .screens) (c .before .before .before .before .args .positions)) (c .before .before .before .before .args .t .now) (all-yes c) .1
 
 -- the table after the clearing is as long as it was
 same : (c : tie.After-slice-known2) → length (take headerWords (c .before .before .before .before .before .before .before .before .before .args .t .now) ++ (c .before .before .clear .last .0 ++ drop (c .before .before .before .before .need .result - headerWords) (drop headerWords (c .before .before .before .before .before .before .before .before .before .args .t .now)))) ≡ length (c .before .before .before .before .before .before .before .before .before .args .t .now)

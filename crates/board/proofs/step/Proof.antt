@@ -3,6 +3,7 @@ use Prim.Native.Nat.{ℕ}
 use borrow.Author.Needs.{needs}
 use mathlib.Core.Path.{_≡_, ap, sym, _∙_}
 use mathlib.Core.List.{List}
+use Rattle.rules.specs.Hall.{hallLimits}
 use Rattle.rules.specs.Table.{TableDone, stepTable}
 use Rattle.board.specs.declared.Call.{Call}
 use Rattle.board.specs.Asked.{callOf}
@@ -10,8 +11,8 @@ use Rattle.board.proofs.step.Statement.{statement}
 use Rattle.board.proofs.step.Tie as tie
 
 -- what the step did is what the call that names it asks
-as-asked : (t : List ℕ) (call named : Call) (done : TableDone) → call ≡ named → done ≡ stepTable t (callOf named) → done ≡ stepTable t (callOf call)
-as-asked t call named done e told = told ∙ sym (ap (λ (x : Call). stepTable t (callOf x)) e)
+as-asked : (t : List ℕ) (call named : Call) (done : TableDone) → call ≡ named → done ≡ stepTable hallLimits t (callOf named) → done ≡ stepTable hallLimits t (callOf call)
+as-asked t call named done e told = told ∙ sym (ap (λ (x : Call). stepTable hallLimits t (callOf x)) e)
 
 enum-known-call : tie.Need-enum-known-call
 enum-known-call c = search needs

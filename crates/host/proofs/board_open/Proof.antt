@@ -2,17 +2,17 @@
 use native.Mathlib.Omega.{arith}
 use borrow.Author.Needs.{needs}
 use mathlib.Core.Path.{_≡_, _∙_}
-use Rattle.rules.specs.Hall.{hallOf}
+use Rattle.rules.specs.Hall.{hallLimits, hallOf}
 use Rattle.rules.specs.Bytes.{wordsOfBytes}
 use Rattle.rules.specs.Table.{openTable}
 use Rattle.reply.specs.Answer.{answerOf}
-use Rattle.host.proofs.OpenLaws.{Room, room, refusal-heard, opened-heard}
+use Rattle.host.proofs.OpenLaws.{Room, opened-heard, refusal-heard, room}
 use Rattle.host.proofs.WordLaws.{half-length}
 use Rattle.host.proofs.board_open.Statement.{statement}
 use Rattle.host.proofs.board_open.Tie as tie
 
 -- what was answered is asked of the table's words
-asked : (c : tie.After-opening) → answerOf (c .opening .result) ≡ openTable (hallOf (c .before .before .args .desks) (c .before .before .args .screens) (c .before .before .args .positions)) (wordsOfBytes (c .before .before .args .table .now)) .answer
+asked : (c : tie.After-opening) → answerOf (c .opening .result) ≡ openTable hallLimits (hallOf (c .before .before .args .desks) (c .before .before .args .screens) (c .before .before .args .positions)) (wordsOfBytes (c .before .before .args .table .now)) .answer
 asked c = c .opening .ensures (wordsOfBytes (c .before .before .args .table .now)) (half-length (c .before .before .args .table .now))
 
 -- the need is there
