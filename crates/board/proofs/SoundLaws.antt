@@ -10,14 +10,14 @@ use mathlib.Core.Path.{_≡_, refl, sym, ap, ap₂, _∙_}
 use lib.ListN.{length, take, drop, length-drop, take-append-drop}
 use lib.Seq.{drop-drop, length-take-le}
 use lib.Dec.{leb}
-use borrow.Author.Tests.{le-leb, lt-leb}
-use Rattle.rules.specs.Hall.{allScreens, hallLimits, mostAllScreens, mostDesks, mostPositions, mostScreens}
+use borrow.Author.Tests.{le-leb, lt-leb, not-false, not-true}
+use Rattle.rules.specs.Hall.{Hall, allScreens, hallLimits, mostAllScreens, mostDesks, mostPositions, mostScreens}
 use Rattle.rules.specs.Steps.{inRange}
 use Rattle.rules.specs.Table.{everyRecord, hallIn, headerWords, inLimits, need, pieces, putRecord, recordOf, recordSound, recordStart, recordWidth, recordsIn}
 use Rattle.rules.specs.Table.{screenWord, sound, widthFor}
 use Rattle.rules.specs.laws.Effect.{in-range}
 use Rattle.rules.specs.laws.TableSteps.{Known, record-sound}
-use Rattle.marks.proofs.BoolLaws.{&&-false, not-false, not-true}
+use Rattle.marks.proofs.BoolLaws.{&&-false}
 use Rattle.board.proofs.Rows.{row-ends, row-part, screen-in}
 
 -- ---- each number below n: how the loop over the records goes
@@ -58,46 +58,45 @@ module _ (g : List ℕ → Bool) (w : ℕ) where
   each-all b zero t = refl
   each-all b (suc n) t = ap₂ (λ (x y : Bool). x && y) (each-all b n t) (ap (λ (y : List ℕ). g (take w y)) (sym (drop-drop (n * w) b t))) ∙ all-last n (drop b t)
 
--- ---- soundness, question by question
-no-two : (a b : Bool) → a && (b && false) ≡ false
-no-two true b = &&-false b
-no-two false b = refl
+-- ---- a number that the code found in range, or not
+pub is-in : (b : Bool) (x n m : ℕ) → b ≡ inRange x n → n ≡ m → not b ≡ false → inRange x m ≡ true
+is-in b x n m p e q = ap (λ (k : ℕ). inRange x k) (sym e) ∙ sym p ∙ not-false b q
 
+pub is-out : (b : Bool) (x n m : ℕ) → b ≡ inRange x n → n ≡ m → not b ≡ true → inRange x m ≡ false
+is-out b x n m p e q = ap (λ (k : ℕ). inRange x k) (sym e) ∙ sym p ∙ not-true b q
+
+-- the three numbers of a hall, one after the other
+module _ (H : Hall) where
+  pub desks-out : inRange (H .desks) mostDesks ≡ false → inLimits hallLimits H ≡ false
+  desks-out q = rw q
+
+  pub screens-out : inRange (H .screens) mostScreens ≡ false → inLimits hallLimits H ≡ false
+  screens-out q = rw q (&&-false (inRange (H .desks) mostDesks))
+
+  pub by-positions : inRange (H .desks) mostDesks ≡ true → inRange (H .screens) mostScreens ≡ true
+      → inRange (H .positions) mostPositions ≡ inLimits hallLimits H
+  by-positions p q = rw (p, q)
+
+-- ---- soundness, question by question
 module _ (t : List ℕ) where
-  outside : inLimits hallLimits (hallIn t) ≡ false → sound hallLimits t ≡ false
+  pub outside : inLimits hallLimits (hallIn t) ≡ false → sound hallLimits t ≡ false
   unfolding sound
   outside q = ap (λ (b : Bool). b && (leb (need (hallIn t)) (length t) && everyRecord (recordSound (allScreens (hallIn t))) (recordsIn (hallIn t) t))) q
-
-  pub bad-desks : inRange (hallIn t .desks) mostDesks ≡ false → sound hallLimits t ≡ false
-  bad-desks q = outside (rw q)
-
-  pub bad-screens : inRange (hallIn t .screens) mostScreens ≡ false → sound hallLimits t ≡ false
-  bad-screens q = outside (rw q (&&-false (inRange (hallIn t .desks) mostDesks)))
-
-  pub bad-positions : inRange (hallIn t .positions) mostPositions ≡ false → sound hallLimits t ≡ false
-  bad-positions q = outside (rw q (no-two (inRange (hallIn t .desks) mostDesks) (inRange (hallIn t .screens) mostScreens)))
 
   pub not-long : length t < need (hallIn t) → sound hallLimits t ≡ false
   unfolding sound
   not-long h = rw (lt-leb (need (hallIn t)) (length t) h) (&&-false (inLimits hallLimits (hallIn t)))
 
-  pub by-records : inRange (hallIn t .desks) mostDesks ≡ true → inRange (hallIn t .screens) mostScreens ≡ true → inRange (hallIn t .positions) mostPositions ≡ true → need (hallIn t) ≤ length t
+  pub by-records : inLimits hallLimits (hallIn t) ≡ true → need (hallIn t) ≤ length t
       → sound hallLimits t ≡ everyRecord (recordSound (allScreens (hallIn t))) (pieces (hallIn t .desks) (recordWidth (hallIn t)) (drop (headerWords + hallIn t .positions + allScreens (hallIn t)) t))
   unfolding sound
-  by-records p q r h =
+  by-records inside h =
       let H = hallIn t in
       let L = H .positions in
       let S = allScreens H in
       let e : headerWords + (L + S) ≡ headerWords + L + S = omega arith in
-      rw (p, q, r, le-leb (need H) (length t) h)
-      (ap (λ (x : List ℕ). everyRecord (recordSound S) (pieces (H .desks) (recordWidth H) x)) (drop-drop S L (drop headerWords t) ∙ drop-drop (L + S) headerWords t ∙ ap (λ (k : ℕ). drop k t) e))
-
--- ---- a number that the code found in range, or not
-pub is-in : (b : Bool) (x n m : ℕ) → b ≡ inRange x n → n ≡ m → not b ≡ false → inRange x m ≡ true
-is-in b x n m p e q = ap (λ (k : ℕ). inRange x k) (sym e) ∙ sym p ∙ not-false q
-
-pub is-out : (b : Bool) (x n m : ℕ) → b ≡ inRange x n → n ≡ m → not b ≡ true → inRange x m ≡ false
-is-out b x n m p e q = ap (λ (k : ℕ). inRange x k) (sym e) ∙ sym p ∙ not-true q
+      (λ i. inside i && (le-leb (need H) (length t) h i && everyRecord (recordSound S) (recordsIn H t)))
+      ∙ ap (λ (x : List ℕ). everyRecord (recordSound S) (pieces (H .desks) (recordWidth H) x)) (drop-drop S L (drop headerWords t) ∙ drop-drop (L + S) headerWords t ∙ ap (λ (k : ℕ). drop k t) e)
 
 -- ---- screen i of desk d, both from 1, as the code finds it
 pub record Reach (t : List ℕ) (d i l c : ℕ) : Type 0 where

@@ -12,7 +12,7 @@ ghost use Prim.Native.Nat.{_+_, _-_, _*_, _≤_, _<_};
 ghost use lib.ListN.{length, drop as dropWords};
 ghost use Rattle.rules.specs.Hall.{hallLimits, hallOf, mostAllScreens, mostDesks, mostPositions};
 ghost use Rattle.rules.specs.Steps.{Collect, Drop, Retire, Swap, Take, inRange};
-ghost use Rattle.rules.specs.Table.{everyRecord, need as hallNeed, openTable, pieces, recordSound, sound as soundTable, stepTable};
+ghost use Rattle.rules.specs.Table.{everyRecord, inLimits, need as hallNeed, openTable, pieces, recordSound, sound as soundTable, stepTable};
 ghost use Rattle.rules.specs.Table.{headerWords, mostWords, startFor, widthFor};
 ghost use Rattle.rules.specs.laws.Window.{deskIn};
 ghost use Rattle.reply.specs.Answer.{answerOf, told};
@@ -64,6 +64,19 @@ fn in_range(n: u16, most: usize) -> bool
     1 <= x && x <= most
 }
 
+// Whether P, c and L are in range.
+pub fn in_limits(desks: u16, screens: u16, positions: u16) -> bool
+    ensures { λ r. ⌜ r ≡ inLimits hallLimits (hallOf desks screens positions) ⌝ }
+{
+    if !in_range(desks, Board::MOST_DESKS) {
+        return false;
+    }
+    if !in_range(screens, Board::MOST_SCREENS) {
+        return false;
+    }
+    in_range(positions, Board::MOST_POSITIONS)
+}
+
 // Where the record of desk d stands, with d counted from 0, in a hall of l positions and s screens.
 // It requires numbers within the limits: a sound table tells them. Desk P's end is the start of a desk after it.
 pub fn record_start(l: usize, s: usize, d: usize) -> usize
@@ -83,13 +96,7 @@ pub fn sound(t: &[u16]) -> bool
     let desks = t[DESKS];
     let screens = t[SCREENS];
     let positions = t[POSITIONS];
-    if !in_range(desks, Board::MOST_DESKS) {
-        return false;
-    }
-    if !in_range(screens, Board::MOST_SCREENS) {
-        return false;
-    }
-    if !in_range(positions, Board::MOST_POSITIONS) {
+    if !in_limits(desks, screens, positions) {
         return false;
     }
     if t.len() < Board::need(desks, screens, positions) {

@@ -54,9 +54,9 @@ module _ (d : ℕ) (words bytes : List ℕ) (done : Rewritten d (take (length wo
   pub parts : Parts d words
   parts =
       record {
-        screens = mul-le-mul (done .opens .desks .1) (done .opens .screens .1);
-        positions = done .opens .positions;
-        desk = (done .desk .0, omega (arith, done .desk .1, done .opens .desks .1));
+        screens = mul-le-mul (done .fits .desks .1) (done .fits .screens .1);
+        positions = done .fits .positions;
+        desk = (done .desk .0, omega (arith, done .desk .1, done .fits .desks .1));
         end = omega (arith, record-within (hallIn words) d (done .desk .0) (done .desk .1), done .long);
       }
 

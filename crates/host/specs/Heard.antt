@@ -1,13 +1,13 @@
 -- What the contracts of the host's functions cite beside the rules.
 use Prim.Native.Nat.{ℕ, _≤_, _*_}
 use mathlib.Core.Path.{_≡_}
+use mathlib.Core.Bool.{true}
 use mathlib.Core.List.{List}
 use lib.ListN.{length, take}
 use Rattle.rules.specs.Hall.{Hall, hallLimits}
 use Rattle.rules.specs.Steps.{Call}
-use Rattle.rules.specs.Table.{headerWords, mostWords, need, stepTable}
+use Rattle.rules.specs.Table.{headerWords, inLimits, mostWords, need, stepTable}
 use Rattle.rules.specs.Bytes.{BytesDone, laidOver, reply, wordsOfBytes}
-use Rattle.rules.specs.laws.Tables.{Fits}
 
 -- the number that answers a call, and the bytes that it leaves
 abbrev pub heard : ℕ → List ℕ → BytesDone
@@ -17,7 +17,7 @@ heard reply bytes = record { reply = reply; after = bytes }
 pub record Front (hall : Hall) (m : ℕ) : Type 0 where
   pub header : headerWords ≤ m
   pub most : m ≤ mostWords
-  pub enough : Fits hall → need hall ≤ m
+  pub enough : inLimits hallLimits hall ≡ true → need hall ≤ m
 
 -- of the first m words n are there: m, or all that the table has
 pub record Seen (bytes : List ℕ) (m n : ℕ) : Type 0 where

@@ -2,6 +2,7 @@ use board::Board;
 use board::Call;
 use board::HEADER;
 use board::desk_of;
+use board::in_limits;
 use board::opening;
 use board::record_start;
 use board::step;
@@ -22,22 +23,7 @@ ghost use Rattle.host.specs.Heard.{heard, Front, Seen, Told};
 fn front(desks: u16, screens: u16, positions: u16) -> usize
     ensures { λ m. ⌜ Front (hallOf desks screens positions) m ⌝ }
 {
-    if desks < 1 {
-        return HEADER;
-    }
-    if Board::MOST_DESKS < desks as usize {
-        return HEADER;
-    }
-    if screens < 1 {
-        return HEADER;
-    }
-    if Board::MOST_SCREENS < screens as usize {
-        return HEADER;
-    }
-    if positions < 1 {
-        return HEADER;
-    }
-    if Board::MOST_POSITIONS < positions as usize {
+    if !in_limits(desks, screens, positions) {
         return HEADER;
     }
     Board::need(desks, screens, positions)

@@ -10,17 +10,16 @@ use lib.Seq.{set-append-left, take-append-le}
 use lib.Dec.{leb}
 use borrow.Author.Tests.{le-leb}
 use Rattle.rules.specs.Hall.{Hall, Limits, State, allScreens, mostAllScreens, mostDesks}
-use Rattle.rules.specs.Steps.{Call, Collect, Drop, Retire, Swap, Take, collect, firstNo, inRange, perform, questions, retire}
-use Rattle.rules.specs.Table.{TableDone, decode, decodeDesk, encodeDesk, everyRecord, hallIn, headerWords, inLimits, mostWords, need, openQuestions}
-use Rattle.rules.specs.Table.{openTable, openedTable, pieces, positionWord, putRecord, recordOf, recordSound, recordStart, recordWidth, recordsIn}
-use Rattle.rules.specs.Table.{screenWord, sound, stepTable, widthFor, written}
-use Rattle.rules.specs.laws.Bools.{and-true}
+use Rattle.rules.specs.Steps.{Call, Collect, Drop, Retire, Swap, Take, collect, firstNo, perform, questions, retire}
+use Rattle.rules.specs.Table.{TableDone, decode, decodeDesk, encodeDesk, everyRecord, hallIn, headerWords, inLimits, mostWords, need, pieces}
+use Rattle.rules.specs.Table.{positionWord, putRecord, recordOf, recordSound, recordStart, recordWidth, recordsIn, screenWord, sound, stepTable, widthFor}
+use Rattle.rules.specs.Table.{written}
 use Rattle.rules.specs.laws.Effect.{Formed}
 use Rattle.rules.specs.laws.Links.{desk-fact, drop-facts, position-asked, swap-facts, swap-position-asked, take-facts}
 use Rattle.rules.specs.laws.ScreenIndex.{screen-in}
 use Rattle.rules.specs.laws.SoundTables.{valid}
-use Rattle.rules.specs.laws.TableSteps.{accepted-open, accepted-step, asked, known, refused-open, refused-step, unsound-step}
-use Rattle.rules.specs.laws.Tables.{Fits, hall-opens, limits-fit}
+use Rattle.rules.specs.laws.TableSteps.{accepted-step, asked, known, refused-step, unsound-step}
+use Rattle.rules.specs.laws.Tables.{Fits}
 
 pub need-at-most : (H : Hall) → Fits H → need H ≤ mostWords
 need-at-most H o =
@@ -151,7 +150,7 @@ module _ (a b : List ℕ) (three : headerWords ≤ length a) where
         ∙ put-same-rest d r (encodeDesk (allScreens H) (collect (allScreens H) (decode H a .shown) (decodeDesk (recordOf H a d)) .after))
 
 -- ---- Soundness does not look past the need.
-module _ (limits : Limits) (a b : List ℕ) (three : headerWords ≤ length a) (enough : Fits (hallIn a) → need (hallIn a) ≤ length a) where
+module _ (limits : Limits) (a b : List ℕ) (three : headerWords ≤ length a) (enough : inLimits limits (hallIn a) ≡ true → need (hallIn a) ≤ length a) where
   sound-same : sound limits (a ++ b) ≡ sound limits a
   unfolding sound
   sound-same = ap (λ (H : Hall). inLimits limits H && asks H (a ++ b)) (hall-same a b three) ∙ by-range (inLimits limits (hallIn a)) refl
@@ -161,7 +160,7 @@ module _ (limits : Limits) (a b : List ℕ) (three : headerWords ≤ length a) (
 
       by-range : (x : Bool) → inLimits limits (hallIn a) ≡ x → x && asks (hallIn a) (a ++ b) ≡ x && asks (hallIn a) a
       by-range true inside =
-          let far = enough (limits-fit limits (hallIn a) inside) in
+          let far = enough inside in
           λ i. long-before a b (hallIn a) far i && everyRecord (recordSound (allScreens (hallIn a))) (records-same a b three (hallIn a) far i)
       by-range false inside = refl
 
@@ -203,46 +202,3 @@ module _ (limits : Limits) (a b : List ℕ) (three : headerWords ≤ length a) (
               ∙ sym (ap done (accepted-step limits a c s q))
           by-number (suc n) q =
               refused-step limits (a ++ b) c n (sound-same ∙ s) (asked-same ∙ q) ∙ sym (ap done (refused-step limits a c n s q))
-
--- ---- The opening.
-module _ (limits : Limits) (a b : List ℕ) (H : Hall) (enough : Fits H → need H ≤ length a) where
-  pub open-append : openTable limits H (a ++ b) ≡ record { answer = openTable limits H a .answer; after = openTable limits H a .after ++ b }
-  open-append = by-number (firstNo (openQuestions limits H a)) refl
-    where
-      done : TableDone → TableDone
-      done r = record { answer = r .answer; after = r .after ++ b }
-
-      desks : Bool
-      desks = inRange (H .desks) (limits .desks)
-
-      screens : Bool
-      screens = inRange (H .screens) (limits .screens)
-
-      positions : Bool
-      positions = inRange (H .positions) (limits .positions)
-
-      same : firstNo (openQuestions limits H (a ++ b)) ≡ firstNo (openQuestions limits H a)
-      same = by-ranges desks screens positions refl refl refl
-        where
-          asks : Bool → Bool → Bool → List ℕ → ℕ
-          asks x y z t = cond x (cond y (cond z (cond (leb (need H) (length t)) 0 4) 3) 2) 1
-
-          by-ranges : (x y z : Bool) → desks ≡ x → screens ≡ y → positions ≡ z → asks x y z (a ++ b) ≡ asks x y z a
-          by-ranges true true true p q r =
-              ap (λ (y : Bool). cond {A = ℕ} y 0 4)
-              (long-before a b H (enough (limits-fit limits H (and-true desks (screens && positions) p (and-true screens positions q r)))))
-          by-ranges true true false p q r = refl
-          by-ranges true false z p q r = refl
-          by-ranges false y z p q r = refl
-
-      opened-append : need H ≤ length a → openedTable H (a ++ b) ≡ openedTable H a ++ b
-      opened-append h =
-          let front : List ℕ = H .desks ∷ H .screens ∷ H .positions ∷ replicate (need H - headerWords) 0 in
-          ap (λ (l : List ℕ). front ++ l) (drop-append-left (need H) a b h) ∙ sym (append-assoc front (drop (need H) a) b)
-
-      by-number : (n : ℕ) → firstNo (openQuestions limits H a) ≡ n → openTable limits H (a ++ b) ≡ done (openTable limits H a)
-      by-number zero q =
-          accepted-open limits H (a ++ b) (same ∙ q)
-          ∙ (λ i. record { answer = record { number = 0; session = 0 }; after = opened-append (hall-opens limits H a q .1) i })
-          ∙ sym (ap done (accepted-open limits H a q))
-      by-number (suc n) q = refused-open limits H (a ++ b) n (same ∙ q) ∙ sym (ap done (refused-open limits H a n q))

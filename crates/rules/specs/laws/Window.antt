@@ -43,7 +43,7 @@ pub record Outside (hall : Hall) (d i : ℕ) : Type 0 where
 
 -- the words after a step of desk d: they tell a hall that has it, and outside the two parts they are the old ones
 pub record Rewritten (d : ℕ) (old words : List ℕ) : Type 0 where
-  pub opens : Fits (hallIn words)
+  pub fits : Fits (hallIn words)
   pub long : need (hallIn words) ≤ length words
   pub desk : (1 ≤ d) × (d ≤ hallIn words .desks)
   pub kept : (i : ℕ) → Outside (hallIn words) d i → getD words i 0 ≡ getD old i 0
@@ -95,7 +95,7 @@ module _ (limits : Limits) (t : List ℕ) (small : Words16 t) (s : sound limits 
       let hall : hallIn t ≡ hallIn (written t c) =
       λ j. record { desks = header 0 (omega arith) j; screens = header 1 (omega arith) j; positions = header 2 (omega arith) j } in
       record {
-        opens = subst Fits hall (k .fits);
+        fits = subst Fits hall (k .fits);
         long = subst (λ (H : Hall). need H ≤ length (written t c)) hall (omega (arith, k .long, written-length limits t c small s e));
         desk = subst (λ (H : Hall). (1 ≤ deskIn c) × (deskIn c ≤ H .desks)) hall (desk-there c e);
         kept =
