@@ -5,14 +5,14 @@ use mathlib.Core.Path.{_≡_, refl, sym, ap, _∙_, subst}
 use mathlib.Core.List.{List, [], _∷_, _++_}
 use lib.ListN.{take, replicate}
 use borrow.Author.Tests.{eq-eqb}
-use Rattle.rules.specs.Hall.{Hall, hallLimits, hallOf}
-use Rattle.rules.specs.Steps.{Call, Collect, Drop, Event, Retire, Swap, Take}
+use Rattle.rules.specs.Hall.{Hall, Limits, hallLimits, hallOf, mostPositions}
+use Rattle.rules.specs.Steps.{Answer, Call, Collect, Drop, Event, Retire, Swap, Take}
 use Rattle.rules.specs.Table.{decodeDesk, encodeDesk, openTable, recordSound, runTable, sound, stepTable}
 use Rattle.rules.specs.History.{Deed, Disciplined, DroppedBefore, Linked, deedAt, handBacks, handBacksOf, handsBack, isRetirementOf, retirements, retires}
 use Rattle.rules.specs.History.{swaps, takes}
 use Rattle.rules.specs.Demands.{BackWithin, Guarantee, exactBound}
 use Rattle.rules.specs.Theorems.{back-sooner, demand-2, demand-3}
-use Rattle.rules.specs.Cases.{_⇒_, ok}
+use Rattle.rules.specs.Cases.{_⇒_, ok, refused}
 use Rattle.rules.specs.laws.Checks.{disciplined, isDrop, never-shown, nowhere, one-of-two, only-at, placesWhere}
 
 -- a history of a hall that is opened in a table of 9s
@@ -173,3 +173,24 @@ pairs-the-second g =
     (λ q. absurd (never-dropped (historyOf (hallOf 2 1 1) 50 outOfOrder) 7 1 5 refl refl 1
     (g .dropped 7 1 5 1 refl (subst (Linked (deedAt (historyOf (hallOf 2 1 1) 50 outOfOrder)) 1) (sym q) (linked-at-once (deedAt (historyOf (hallOf 2 1 1) 50 outOfOrder)) 1 2 1 1 5 1 5 refl refl refl)))))
     (λ q. refl) (g .pair 7) (ap (isRetirementOf 5) (g .same 7 1 5 refl)) refl
+
+-- ---- A board may be told smaller limits than the hall's: at most 4 desks, with one screen each.
+abbrev fourDesks : Limits
+fourDesks = record {
+  desks = 4;
+  screens = 1;
+  positions = mostPositions;
+  fewDesks = omega arith;
+  fewScreens = omega arith;
+  fewPositions = omega arith;
+}
+
+-- It opens 4 desks and not 5; and the table of 5 that another board opened is not sound for it.
+abbrev answersOf : Limits → List Answer
+answersOf limits =
+    let five = openTable hallLimits (hallOf 5 1 1) (replicate 124 9) .after in
+    openTable limits (hallOf 4 1 1) (replicate 92 9) .answer ∷ openTable limits (hallOf 5 1 1) (replicate 124 9) .answer ∷ stepTable limits five (Collect 1) .answer ∷ []
+
+pub smaller-limits : (answersOf fourDesks ≡ ok 0 ∷ refused 1 ∷ refused 5 ∷ []) × (answersOf hallLimits ≡ ok 0 ∷ ok 0 ∷ ok 0 ∷ [])
+unfolding openTable stepTable sound recordSound encodeDesk decodeDesk
+smaller-limits = (refl, refl)
