@@ -41,6 +41,9 @@ def names_in(text):
 
 def main():
     documents = [pathlib.Path(name) for name in sys.argv[1:]] or [ROOT / 'README.md', *sorted(ROOT.glob('docs/*.md'))]
+    for document in documents:
+        if not document.is_file():
+            sys.exit(f'documents: no file {document}')
     words = known_words()
     missing = []
     count = 0
