@@ -1,4 +1,5 @@
 -- The five steps, their questions and their answers. Document 01, "The five steps" and "Questions asked, in this order".
+-- From the parts up: collect's four, retire, the questions; then `perform`, all five in document 01's order, and `step`.
 use Prim.Native.Nat.{ℕ, zero, suc, _+_, _*_, _-_}
 use mathlib.Core.Bool.{Bool, true, false, cond, not, _&&_}
 use mathlib.Core.List.{List, [], _∷_, _++_, map}
