@@ -1,17 +1,17 @@
-# The front door.
-#   make run     runs the sheet program on an example sheet (SHEET=busy_desk names another) and says what its lines mean
-#   make host    builds and runs the example host in C
-#   make test    the gate: all proofs from nothing, the edits that must be refused, the tests outside Rattle
-#   make lib     the archive and its header, in build/
-#   make bench   the six calls and the sheet program, each against the same in Rust, same run
-#   make proved  the theorems
-#   make edits   the wrong programs and rules in edits/, each refused at its place
-#   make gallery draws the example sheets anew, in docs/gallery/
-#   make selftest  shows that the comparisons catch 31 wrong boards and 34 wrong sheet programs (minutes)
-#   make soak      the comparisons with new seeds, for MINUTES=10 (or 1)
-#   make fuzz      fuzzes the six calls, then the sheet program, each for half of MINUTES; installs clang if it is missing
+# The front door. 'make help' prints these lines.
+#   make run            runs the sheet program on an example sheet (SHEET=busy_desk names another) and says what its lines mean
+#   make host           builds and runs the example host in C
+#   make test           the gate: all proofs from nothing, the edits that must be refused, the tests outside Rattle
+#   make lib            the archive and its header, in build/
+#   make bench          the six calls and the sheet program, each against the same in Rust, same run
+#   make proved         the theorems
+#   make edits          the wrong programs and rules in edits/, each refused at its place
+#   make gallery        draws the example sheets anew, in docs/gallery/
+#   make selftest       shows that the comparisons catch 31 wrong boards and 34 wrong sheet programs (minutes)
+#   make soak           the comparisons with new seeds; MINUTES=10 says how long, 1 if not said
+#   make fuzz           fuzzes the six calls, then the sheet program, each for half of MINUTES; installs clang if it is missing
 #   make fuzz-selftest  shows that the fuzzing catches wrong boards, stray accesses and wrong programs (minutes)
-.PHONY: run host test lib bench proved edits gallery selftest soak fuzz fuzz-selftest target/bin/day_sheet
+.PHONY: run host test lib bench proved edits gallery selftest soak fuzz fuzz-selftest help target/bin/day_sheet
 
 CARGO = cargo run --quiet --offline --release --manifest-path
 export CARGO_TARGET_DIR = $(CURDIR)/target/outside
@@ -19,10 +19,14 @@ export SESSION_BOARD_LIB = $(CURDIR)/build
 SHEET = quiet_shift
 MINUTES = 1
 
-run: target/bin/day_sheet
+run: examples/$(SHEET).txt target/bin/day_sheet
 	@mkdir -p build
 	@tools/sheet encode examples/$(SHEET).txt > build/$(SHEET).sheet
 	@tools/sheet explain build/$(SHEET).sheet
+
+# Asked before anything is proved.
+examples/%.txt:
+	@echo "make: there is no $@; SHEET= is one of: $(notdir $(basename $(wildcard examples/*.txt)))" >&2; exit 2
 
 host: lib
 	@gcc -Iinclude examples/host.c build/libhost.a -o build/host_example
@@ -33,12 +37,14 @@ test:
 
 lib:
 	@mkdir -p build
+	@[ -f build/libhost.a ] || echo "Proving and building the archive: minutes, the first time." >&2
 	@rt staticlib host > build/staticlib.log 2>&1 || { cat build/staticlib.log; exit 1; }
 	@cp target/staticlib/libhost.a include/session_board.h build/
 
 # Always asked for: rt knows what has changed.
 target/bin/day_sheet:
 	@mkdir -p build
+	@[ -x target/bin/day_sheet ] || echo "Proving and building the sheet program: minutes, the first time." >&2
 	@rt check day_sheet > build/day_sheet.log 2>&1 || { cat build/day_sheet.log; exit 1; }
 
 bench: lib target/bin/day_sheet
@@ -73,3 +79,10 @@ fuzz: lib target/bin/day_sheet
 
 fuzz-selftest:
 	@tests/fuzz/selftest.sh
+
+help:
+	@sed -n 's/^#   //p' Makefile
+
+# A target that there is not.
+.DEFAULT:
+	@echo "make: there is no target '$@'; 'make help' lists them" >&2; exit 2

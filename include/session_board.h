@@ -16,8 +16,16 @@
  * has session 0 and leaves every byte of the table as it was. Tell refusals by
  * board_number() alone: an accepted call may well answer session 0.
  *
- * The board keeps nothing between calls and uses no memory but the table and
- * its stack. Send one call at a time to a table.
+ * A session's way: a swap puts it at a position, takes show it on screens; a
+ * later swap replaces it there, and the desk of that swap owes it and retires
+ * it; collects of that desk hand it back for closing, once the screens that took
+ * it there have dropped it. If no screen shows it from the retire on, it is back
+ * within 3 of these collects for each screen of the hall.
+ *
+ * The board keeps nothing between calls: the table is the whole state of the
+ * hall. It uses no memory but the table and about 6 KB of stack, and of the C
+ * library memcpy, memmove and memset. Send one call at a time to a table. Link
+ * with libhost.a, which is for x86-64.
  */
 #ifndef SESSION_BOARD_H
 #define SESSION_BOARD_H
@@ -42,7 +50,8 @@ enum board_reply {
     BOARD_BAD_SCREENS = 2,     /* are the screens of a desk 1 to 4? */
     BOARD_BAD_POSITIONS = 3,   /* are the positions 1 to 64? */
     BOARD_TABLE_SHORT = 4,     /* is the table at least the need? */
-    BOARD_UNSOUND = 5,         /* is the table sound? */
+    BOARD_UNSOUND = 5,         /* is the table sound? It is, after an opening,
+                                  unless the host itself cuts or changes it. */
     BOARD_NO_DESK = 6,         /* is there such a desk in the hall? */
     BOARD_NO_SCREEN = 7,       /* has the desk such a screen? */
     BOARD_NO_POSITION = 8,     /* is there such a position in the hall? */
@@ -51,7 +60,8 @@ enum board_reply {
     BOARD_SCREEN_EMPTY = 11,   /* does the screen show a session? */
     BOARD_OWING = 12,          /* does the desk owe nothing? */
     BOARD_OWES_NOTHING = 13,   /* does the desk owe a session? */
-    BOARD_NO_ROOM = 14         /* are fewer than 2S places of its list used? */
+    BOARD_NO_ROOM = 14         /* are fewer than 2S places of its list used?
+                                  S is the number of the hall's screens. */
 };
 
 /* The need in words of a hall within the limits; lend twice as many bytes. */
@@ -92,13 +102,15 @@ uint32_t board_swap(uint16_t desk, uint16_t position, uint16_t session,
                     uint8_t *table, size_t bytes);
 
 /* The owed session, which is the reply, goes to the end of the desk's list as
- * waiting. Asks 5, 6, 13, 14. Writes what the desk owes, its count of waiting
- * and the first unused place of its list. */
+ * waiting. Asks 5, 6, 13, 14; a desk that collects between any two of its
+ * retires never meets 14. Writes what the desk owes, its count of waiting and
+ * the first unused place of its list. */
 uint32_t board_retire(uint16_t desk, uint8_t *table, size_t bytes);
 
 /* Reads the next two screens of the hall, or the last one alone, for the
- * desk's list; the reply is a session that may now be closed, or 0. Asks 5, 6.
- * Writes the desk's screens read, counts, marks and list. */
+ * desk's list; the reply is a session that may now be closed, or 0 where there
+ * is none yet. Asks 5, 6. Writes the desk's screens read, counts, marks and
+ * list. */
 uint32_t board_collect(uint16_t desk, uint8_t *table, size_t bytes);
 
 #ifdef __cplusplus

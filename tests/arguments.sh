@@ -14,3 +14,10 @@ places() {
     program=$(cd "$(dirname "$2")" && pwd)/$(basename "$2")
     export SESSION_BOARD_LIB
 }
+
+# minutes N: how long; none would be no test, and for the fuzzer no end
+minutes() {
+    case $1 in
+    '' | *[!0-9]* | 0*) usage "MINUTES must be a whole number from 1 on, not '$1'" ;;
+    esac
+}

@@ -1,7 +1,7 @@
 #!/usr/bin/env python3
 """Asks that every name in the documents' code marks can be found in the repository: names change, and documents are read.
 
-usage: tests/documents.py [DOCUMENT ...]        docs/GUARANTEES.md and docs/ARCHITECTURE.md, if none is named
+usage: tests/documents.py [DOCUMENT ...]        README.md and those of docs/, if none is named
 
 The last part of a name (`Table.need`, `board::open`, `laws/Front`) must be a word of some file, or the name of one.
 """
@@ -10,7 +10,7 @@ import re
 import sys
 
 ROOT = pathlib.Path(__file__).resolve().parent.parent
-PLACES = ['crates', 'edits', 'tests', 'tools', 'include', 'examples', 'bench', 'docs/gallery', 'Makefile', 'README.md']
+PLACES = ['crates', 'edits', 'tests', 'tools', 'include', 'examples', 'bench', 'docs/gallery', 'Makefile']
 WORD = re.compile(r"[\w'′-]+")
 
 
@@ -40,7 +40,10 @@ def names_in(text):
 
 
 def main():
-    documents = [pathlib.Path(name) for name in sys.argv[1:]] or [ROOT / 'docs' / name for name in ('GUARANTEES.md', 'ARCHITECTURE.md')]
+    documents = [pathlib.Path(name) for name in sys.argv[1:]] or [ROOT / 'README.md', *sorted(ROOT.glob('docs/*.md'))]
+    for document in documents:
+        if not document.is_file():
+            sys.exit(f'documents: no file {document}')
     words = known_words()
     missing = []
     count = 0

@@ -19,6 +19,7 @@ name=soak words="LIBDIR PROGRAM MINUTES [FIRST_SEED]"
 . "$root/tests/arguments.sh"
 [ $# -ge 3 ] || usage "three arguments are needed"
 places "$1" "$2"
+minutes "$3"
 end=$(($(date +%s) + $3 * 60))
 first=${4:-$(date +%s)} # the time of day: another one whenever it is run
 CARGO_TARGET_DIR=${TARGET:-$root/target/outside}

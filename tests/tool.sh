@@ -132,15 +132,16 @@ bad_text ":2: there is no step 'take2'; the steps are take, drop, swap, retire, 
 bad_text ":3: 'take' has 3 numbers (desk, screen, position), here it has 2" 'hall 1 1 1\n\ntake 1 1 # short\n'
 bad_text ":2: 'retire' has 1 number (desk), here it has 2" 'hall 1 1 1\nretire 1 1\n'
 bad_text ":2: session: '-7' is not a number" 'hall 1 1 1\nswap 1 1 -7\n'
-bad_text ":2: session: 65536 is over 65,535 (16)" 'hall 1 1 1\nswap 1 1 65536\n'
-bad_text ":2: desk: 12345678901234567890... is over 65,535 (16)" 'hall 1 1 1\nretire 1234567890123456789012345\n'
-bad_text ":1: the first line must be 'hall P c L', not 'take'" 'take 1 1 1\nhall 1 1 1\n'
+bad_text ":2: session: 65536 is over 65,535 (reply number 16)" 'hall 1 1 1\nswap 1 1 65536\n'
+bad_text ":2: desk: 12345678901234567890... is over 65,535 (reply number 16)" 'hall 1 1 1\nretire 1234567890123456789012345\n'
+bad_text ":1: the first line must be 'hall DESKS SCREENS POSITIONS', not 'take'" 'take 1 1 1\nhall 1 1 1\n'
 bad_text ":2: the hall stands on the first line alone" 'hall 1 1 1\nhall 1 1 1\n'
-bad_text ": there is no line 'hall P c L', and every sheet begins with one" '# nothing but a comment\n'
-bad_text ": there is no line 'hall P c L', and every sheet begins with one" ''
+bad_text ": there is no line 'hall DESKS SCREENS POSITIONS', and every sheet begins with one" '# nothing but a comment\n'
+bad_text ": there is no line 'hall DESKS SCREENS POSITIONS', and every sheet begins with one" ''
 bad_text ":2: not UTF-8 text; is it a sheet already? then 'decode' reads it" 'hall 1 1 1\n\377\376\n'
+bad_text ":1: not plain text; is it a sheet already? then 'decode' reads it" '\001\001\001\005\001'
 awk 'BEGIN { print "hall 1 1 1"; for (i = 0; i < 32767; i++) print "collect 1" }' >long.txt
-refused 2 "long.txt:32768: the sheet is longer than 65,536 bytes with this record (18)" encode long.txt
+refused 2 "long.txt:32768: the sheet is longer than 65,536 bytes with this record (reply number 18)" encode long.txt
 
 # Sheets that cannot be read.
 bad_sheet "byte 0, in the header: 15, the sheet stops before this number is whole" ''
@@ -154,6 +155,7 @@ refused 2 "long.sheet: the reading ends with 18, a sheet has at most 65,536 byte
 refused 2 "none.txt: no such file or directory" encode none.txt
 refused 2 "none.sheet: no such file or directory" explain none.sheet --program "$program"
 refused 2 ".: is a directory" decode .
+refused 2 "d.txt: this is the text of a sheet; 'encode' makes the sheet" explain d.txt --program "$program"
 refused 2 "./none: no such file or directory" explain d.sheet --program none
 refused 2 "/bin/false: ended with status 1" explain d.sheet --program /bin/false
 refused 2 "/bin/true: the last line is not whole; are these the lines of a sheet?" explain d.sheet --program /bin/true

@@ -13,6 +13,7 @@ name=fuzz words="LIBDIR PROGRAM MINUTES"
 . "$fuzz/../arguments.sh"
 [ $# -eq 3 ] || usage "three arguments are needed"
 places "$1" "$2"
+minutes "$3"
 DAY_SHEET=$program
 seconds=$(($3 * 30))
 out=${FUZZ:-$fuzz/../../target/fuzz}

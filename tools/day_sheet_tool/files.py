@@ -1,11 +1,13 @@
 """Files in and out; whatever goes wrong with one becomes a message."""
 
+import re
 import sys
 
 from .complaint import Complaint
 from .steps import MOST_BYTES
 
 MOST_TEXT = 16 * 1024 * 1024
+A_SHEET = "is it a sheet already? then 'decode' reads it"
 
 
 def read_bytes(name, most):
@@ -23,7 +25,11 @@ def read_bytes(name, most):
 
 def read_sheet(name):
     """One byte more than the longest sheet is enough to know that it is too long."""
-    return read_bytes(name, MOST_BYTES + 1)
+    data = read_bytes(name, MOST_BYTES + 1)
+    words = (line.split(b"#", 1)[0].split() for line in data.split(b"\n"))
+    if next(filter(None, words), [b""])[0] == b"hall":  # no hall has as many desks as these letters would say
+        raise Complaint(f"{name}: this is the text of a sheet; 'encode' makes the sheet")
+    return data
 
 
 def read_text(name):
@@ -31,10 +37,15 @@ def read_text(name):
     if len(data) > MOST_TEXT:
         raise Complaint(f"{name}: longer than 16 MB, no sheet has so much text")
     try:
-        return data.decode("utf-8-sig")
+        text = data.decode("utf-8-sig")
     except UnicodeDecodeError as error:
         line = data.count(b"\n", 0, error.start) + 1
-        raise Complaint(f"{name}:{line}: not UTF-8 text; is it a sheet already? then 'decode' reads it") from None
+        raise Complaint(f"{name}:{line}: not UTF-8 text; {A_SHEET}") from None
+    control = re.search(r"[\x00-\x08\x0e-\x1f]", text)
+    if control:
+        line = text.count("\n", 0, control.start()) + 1
+        raise Complaint(f"{name}:{line}: not plain text; {A_SHEET}")
+    return text
 
 
 def write_text(name, text):

@@ -34,7 +34,7 @@ def run(data, program):
     """What the program prints for these bytes."""
     path = program or USUAL_PROGRAM
     if program is None and not os.path.exists(path):
-        raise Complaint(f"there is no {path}: 'make target/bin/day_sheet' builds it; or use --program or --lines")
+        raise Complaint(f"there is no {path}: 'make -C {ROOT} target/bin/day_sheet' builds it; or use --program or --lines")
     if os.sep not in path:
         path = os.path.join(os.curdir, path)
     try:

@@ -1,8 +1,10 @@
-"""The text form of a sheet: 'hall P c L', then one record a line."""
+"""The text form of a sheet: the hall, then one record a line."""
 
 from .complaint import Complaint, plural
 from .reading import number_bytes
 from .steps import CODES, HALL_FIELDS, MOST_BYTES, MOST_NUMBER, REASONS, STEPS
+
+HALL_LINE = "'hall DESKS SCREENS POSITIONS'"
 
 
 def encode(text, name):
@@ -18,9 +20,9 @@ def encode(text, name):
                 raise Complaint(f"{name}:{number}: {complaint}") from None
             opened = True
             if len(data) > MOST_BYTES:
-                raise Complaint(f"{name}:{number}: the sheet is longer than 65,536 bytes with this record (18)")
+                raise Complaint(f"{name}:{number}: the sheet is longer than 65,536 bytes with this record (reply number 18)")
     if not opened:
-        raise Complaint(f"{name}: there is no line 'hall P c L', and every sheet begins with one")
+        raise Complaint(f"{name}: there is no line {HALL_LINE}, and every sheet begins with one")
     return bytes(data)
 
 
@@ -29,7 +31,7 @@ def line_bytes(words, opened):
     word, rest = words[0], words[1:]
     if not opened:
         if word != "hall":
-            raise Complaint(f"the first line must be 'hall P c L', not '{shown(word)}'")
+            raise Complaint(f"the first line must be {HALL_LINE}, not '{shown(word)}'")
         return numbers_bytes(word, HALL_FIELDS, rest)
     if word == "hall":
         raise Complaint("the hall stands on the first line alone")
@@ -51,7 +53,7 @@ def number(field, word):
         raise Complaint(f"{field}: '{shown(word)}' is not a number")
     digits = word.lstrip("0") or "0"
     if len(digits) > 5 or int(digits) > MOST_NUMBER:
-        raise Complaint(f"{field}: {shown(word)} is over 65,535 (16)")
+        raise Complaint(f"{field}: {shown(word)} is over 65,535 (reply number 16)")
     return int(digits)
 
 

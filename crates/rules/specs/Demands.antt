@@ -100,7 +100,7 @@ pub record Demand2 (hall : Hall) (history : List Event) (tableAfter : ℕ → Li
 -- "for every retire accepted in such a list, by any desk: if no screen shows the session from then until that desk has collected
 -- [n] more times, it is back by the last of those collects, that is, the desk's hand-backs of that session are by then at least
 -- as many as its accepted retirements of it up to and including that one."
--- The retire is at place r, the last of those collects at place h.
+-- The retire is at place r, the last of those collects at place h, or before it with no further collect of the desk between.
 abbrev pub BackWithin : ℕ → List Event → Type 0
 BackWithin n history =
     (d s r h : ℕ) → deedAt history r ≡ retires d s

@@ -52,7 +52,7 @@ deedAt [] place = nothing
 deedAt (event ∷ history) zero = deed (event .call) (event .answer .number) (event .answer .session)
 deedAt (event ∷ history) (suc place) = deedAt history place
 
--- The reply number at a place.
+-- The reply number at a place; past the end 0.
 abbrev pub numberAt : List Event → ℕ → ℕ
 numberAt [] place = 0
 numberAt (event ∷ history) zero = event .answer .number

@@ -1,4 +1,5 @@
 -- The five steps, their questions and their answers. Document 01, "The five steps" and "Questions asked, in this order".
+-- From the parts up: collect's four, retire, the questions; then `perform`, all five in document 01's order, and `step`.
 use Prim.Native.Nat.{ℕ, zero, suc, _+_, _*_, _-_}
 use mathlib.Core.Bool.{Bool, true, false, cond, not, _&&_}
 use mathlib.Core.List.{List, [], _∷_, _++_, map}
@@ -9,6 +10,7 @@ use Rattle.rules.specs.Hall.{withShown}
 
 -- "take (desk, screen, position)", "drop (desk, screen)", "swap (desk, position, session or 0)", "retire (desk)", "collect (desk)":
 -- the acquire, release, update, retire and eject of Blelloch and Wei.
+-- In these files d, c and p are the numbers of one desk, screen and position; the hall's P, c and L are its desks, screens and positions.
 pub data Call : Type 0 where
   Take : ℕ → ℕ → ℕ → Call
   Drop : ℕ → ℕ → Call
@@ -23,7 +25,7 @@ pub record Answer : Type 0 where
 
 -- ---- Collect, in its four parts.
 
--- "(a) nothing tested but some waiting: all waiting become tested."
+-- "(a) nothing tested but some waiting: all waiting become tested." (With none waiting nothing changes.)
 abbrev pub beginAt : List TestedPlace → Desk → Desk
 beginAt [] desk = record { owed = desk .owed; scanned = desk .scanned; ready = desk .ready; tested = map unmarked (desk .waiting); waiting = [] }
 beginAt (place ∷ places) desk = desk
@@ -74,8 +76,8 @@ markedOf [] = []
 markedOf (unmarked x ∷ places) = markedOf places
 markedOf (marked x ∷ places) = x ∷ markedOf places
 
--- "(c) k equals S: unmarked tested sessions join the end of ready, marked ones become waiting ahead of those already waiting;
--- marks and k go to 0." This is the multiset difference of the retired and the announced sessions.
+-- "(c) k equals S: unmarked tested sessions join the end of ready, marked ones become waiting ahead of those already waiting,
+-- each group in its order; marks and k go to 0." This is the multiset difference of the retired and the announced sessions.
 abbrev pub settleIf : Bool → Desk → Desk
 settleIf false desk = desk
 settleIf true desk = record {
@@ -177,7 +179,8 @@ pub record Outcome : Type 0 where
 
 -- Take: "the screen shows the position's session; the reply is that session."
 -- Drop: "the screen becomes 0; the reply is what it showed."
--- Swap: "the position holds the new one; the reply is the old. If the old is not 0, the desk owes it."
+-- Swap: "the position holds the new one; the reply is the old. If the old is not 0, the desk owes it. A swap to the session
+-- already there is a swap like any other."
 -- Retire: "the reply is that session." Collect: "(desk), in this order: (a) .. (d)".
 abbrev pub perform : Hall → State → Call → Outcome
 perform hall state (Take d c p) =

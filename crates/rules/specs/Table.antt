@@ -69,7 +69,7 @@ positionWord p = headerWords + (p - 1)
 abbrev pub screenWord : Hall → ℕ → ℕ → ℕ
 screenWord hall d c = headerWords + hall .positions + screenIndex hall d c
 
--- (the record that d others stand before, in a hall of L positions and S screens)
+-- (a record with d others before it, in a hall of L positions and S screens)
 abbrev pub startFor : ℕ → ℕ → ℕ → ℕ
 startFor L S d = headerWords + L + S + d * widthFor S
 
@@ -240,6 +240,7 @@ pub record TableDone : Type 0 where
   pub after : List ℕ
 
 -- The table after an accepted step: one screen, or one position and the owed word, or the record of one desk is written.
+-- (A swap from an empty position writes 0 over an owed word that is 0: question 12.)
 abbrev pub written : List ℕ → Call → List ℕ
 written table (Take d c p) = set table (screenWord (hallIn table) d c) (getD table (positionWord p) 0)
 written table (Drop d c) = set table (screenWord (hallIn table) d c) 0

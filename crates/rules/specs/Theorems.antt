@@ -102,7 +102,7 @@ module _ (limits : Limits) (hall : Hall) (bytes : List ℕ) (are : IsBytes bytes
       of-bytes limits hall bytes are accepted calls wide (λ history tables. (i : ℕ) → numberAt history i ≡ 5 → ⊥)
       (never-unsound limits hall (wordsOfBytes bytes) (words-accepted limits hall bytes are accepted calls wide) calls)
 
-  -- The exact bound on bytes.
+  -- The sharper bound on bytes.
   pub back-sooner-on-bytes : BackWithin (exactBound (allScreens hall)) (runBytes limits (openBytes limits hall bytes .after) calls)
   back-sooner-on-bytes =
       of-bytes limits hall bytes are accepted calls wide (λ history tables. BackWithin (exactBound (allScreens hall)) history)
