@@ -6,12 +6,12 @@ use mathlib.Core.List.{List}
 use mathlib.Core.Path.{_≡_, refl, sym, ap, ap₂, _∙_}
 use lib.Dec.{eqb, leb, ltb, eqb·suc-zero}
 use lib.ListN.{length, getD, take, drop, length-drop}
-use lib.Seq.{drop-drop, take-all}
+use lib.Seq.{drop-at, drop-drop, length-take-le, take-add, take-take}
 use borrow.Author.Tests.{le-leb, lt-leb}
-use Rattle.rules.specs.Table.{listPlace, markWords, marksPlace, scanSound}
+use Rattle.rules.specs.Table.{listPlace, markWords, marksPlace, placesIn, scanSound, widthFor}
 use Rattle.marks.specs.Words.{allZero, noneZero}
 use Rattle.marks.specs.Marks.{marks, onesIn}
-use Rattle.desk.proofs.WordDesk.{used, places, markWordsIn, soundRead}
+use Rattle.desk.proofs.WordDesk.{used, markWordsIn, soundRead}
 
 -- k fits the number of tested places: the rules' clauses, as one test
 pub sound-read-is : (s t k : ℕ) → soundRead s t k ≡ scanSound s t k
@@ -30,15 +30,20 @@ module _ (s : ℕ) (r : List ℕ) (n t : ℕ) (en : n ≡ used r) (et : t ≡ ge
   pub no-room : 2 * s < n → leb (used r) (2 * s) ≡ false
   no-room h = lt-leb (used r) (2 * s) (omega arith)
 
-  pub used-part : {x v : Bool} → x ≡ noneZero (take (listPlace + n - listPlace) (drop listPlace r)) → x ≡ v → noneZero (take (used r) (places r)) ≡ v
-  used-part p q =
+  pub used-part : {x v : Bool} → n ≤ 2 * s → x ≡ noneZero (take (listPlace + n - listPlace) (drop listPlace r)) → x ≡ v → noneZero (take (used r) (placesIn s r)) ≡ v
+  used-part h p q =
       let e : used r ≡ listPlace + n - listPlace = omega arith in
-      ap (λ (k : ℕ). noneZero (take k (drop listPlace r))) e ∙ sym p ∙ q
+      ap noneZero (take-take (used r) (2 * s) (drop listPlace r) (omega arith) ∙ ap (λ (k : ℕ). take k (drop listPlace r)) e) ∙ sym p ∙ q
 
-  pub free-part : {x v : Bool} → x ≡ allZero (take (length r - (listPlace + n)) (drop (listPlace + n) r)) → x ≡ v → allZero (drop (used r) (places r)) ≡ v
-  free-part p q =
-      let h : length (drop (listPlace + n) r) ≤ length r - (listPlace + n) = omega (arith, length-drop (listPlace + n) r) in
-      ap (λ (k : ℕ). allZero (drop k (drop listPlace r))) (sym en) ∙ ap allZero (drop-drop n listPlace r ∙ sym (take-all (length r - (listPlace + n)) (drop (listPlace + n) r) h))
+  pub free-part : {x v : Bool} → n ≤ 2 * s → length r ≡ widthFor s → x ≡ allZero (take (listPlace + 2 * s - (listPlace + n)) (drop (listPlace + n) r)) → x ≡ v
+      → allZero (drop (used r) (placesIn s r)) ≡ v
+  free-part h l p q =
+      let m = listPlace + 2 * s - (listPlace + n) in
+      let e : 2 * s ≡ n + m = omega arith in
+      ap₂ (λ (k j : ℕ). allZero (drop k (take j (drop listPlace r)))) (sym en) e
+      ∙ ap (λ (x : List ℕ). allZero (drop n x)) (take-add n m (drop listPlace r))
+      ∙ ap allZero (drop-at (take n (drop listPlace r)) (take m (drop n (drop listPlace r))) n (length-take-le n (drop listPlace r) (omega (arith, length-drop listPlace r))))
+      ∙ ap (λ (x : List ℕ). allZero (take m x)) (drop-drop n listPlace r)
       ∙ sym p ∙ q
 
   pub marks-part : {x : Bool} (k : ℕ) → k ≡ getD r 1 0 → x ≡ allZero (drop t (marks (take markWords (drop marksPlace r)))) && leb (onesIn (take markWords (drop marksPlace r))) k
