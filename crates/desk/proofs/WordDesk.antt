@@ -1,36 +1,18 @@
 -- The desk in words, as the code works on it: its mark words stay words. No contract cites this; DeskTie ties it to the rules' desk.
-use Prim.Native.Nat.{ℕ, _+_, _*_, _-_, _%_, _≤_}
-use mathlib.Core.Bool.{Bool, true, _&&_, cond}
+use Prim.Native.Nat.{ℕ, _+_, _*_, _-_, _≤_}
+use mathlib.Core.Bool.{true, cond}
 use mathlib.Core.List.{List, [], _∷_, _++_}
 use mathlib.Core.Path.{_≡_}
-use lib.Dec.{eqb, leb, ltb}
+use lib.Dec.{eqb, ltb}
 use lib.ListN.{length, getD, take, drop, replicate}
 use Rattle.rules.specs.Hall.{mostAllScreens}
-use Rattle.rules.specs.Table.{listPlace, markWords, marksPlace}
-use Rattle.marks.specs.Words.{allZero, noneZero}
-use Rattle.marks.specs.Marks.{marks, onesIn, findPlace, markPlace, pick}
+use Rattle.rules.specs.Table.{listIn, markWords, marksPlace}
+use Rattle.marks.specs.Words.{allZero}
+use Rattle.marks.specs.Marks.{marks, findPlace, markPlace, pick}
 
--- the mark words of a record, and its list of places
+-- the mark words of a record
 abbrev pub markWordsIn : List ℕ → List ℕ
 markWordsIn r = take markWords (drop marksPlace r)
-
-abbrev pub places : List ℕ → List ℕ
-places r = drop listPlace r
-
--- the used places: the sum of the three counts
-abbrev pub used : List ℕ → ℕ
-used r = getD r 2 0 + getD r 3 0 + getD r 4 0
-
--- with nothing tested k is 0; otherwise k is even, at least 2 and less than s
-abbrev pub soundRead : ℕ → ℕ → ℕ → Bool
-soundRead s tested k = cond (eqb tested 0) (eqb k 0) (eqb (k % 2) 0 && leb 2 k && ltb k s)
-
-unfoldable pub soundRecord : ℕ → List ℕ → Bool
-soundRecord s r =
-    leb (used r) (2 * s) && noneZero (take (used r) (places r)) && allZero (drop (used r) (places r))
-    && allZero (drop (getD r 3 0) (marks (markWordsIn r)))
-    && soundRead s (getD r 3 0) (getD r 1 0)
-    && leb (onesIn (markWordsIn r)) (getD r 1 0)
 
 -- What a record says: the owed session, k, the three groups of the list, and the mark words.
 pub record WordDesk : Type 0 where
@@ -46,9 +28,9 @@ wordDesk r =
     record {
       owed = getD r 0 0;
       read = getD r 1 0;
-      ready = take (getD r 2 0) (places r);
-      tested = take (getD r 3 0) (drop (getD r 2 0) (places r));
-      waiting = take (getD r 4 0) (drop (getD r 3 0) (drop (getD r 2 0) (places r)));
+      ready = take (getD r 2 0) (listIn r);
+      tested = take (getD r 3 0) (drop (getD r 2 0) (listIn r));
+      waiting = take (getD r 4 0) (drop (getD r 3 0) (drop (getD r 2 0) (listIn r)));
       words = markWordsIn r;
     }
 
@@ -85,11 +67,6 @@ seeing x d =
       waiting = d .waiting;
       words = marking x (d .tested) (d .words);
     }
-
--- several, in their order
-abbrev pub reading : List ℕ → WordDesk → WordDesk
-reading [] d = d
-reading (x ∷ xs) d = reading xs (seeing x d)
 
 -- (c) unmarked tested sessions join the end of ready, marked ones become waiting ahead of those waiting; marks and k go to 0
 abbrev pub settled : WordDesk → WordDesk
