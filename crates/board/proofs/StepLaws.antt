@@ -84,9 +84,10 @@ module _ {t : List ℕ} {d : ℕ} {p : Place} (e : Entered t d p) where
       swap-desk-owes some = refuse 11 (Swap d q v) (rw (e .yes-desk, h .own, owes, ne-eqb (getD t (p .start) 0) 0 some))
 
       pub swap-accepted : getD t (p .start) 0 ≡ 0
-          → told (Accepted (getD t (positionWord q) 0)) (set (set t (positionWord q) v) (p .start) (getD t (positionWord q) 0)) ≡ stepTable hallLimits t (Swap d q v)
+          → let old = getD t (positionWord q) 0 in told (Accepted old) (set (set t (positionWord q) v) (p .start) old) ≡ stepTable hallLimits t (Swap d q v)
       swap-accepted none =
-          (λ j. record { answer = record { number = 0; session = sym (h .holds) j }; after = set (set t (positionWord q) v) (e .start-is j) (getD t (positionWord q) 0) })
+          let old = getD t (positionWord q) 0 in
+          (λ j. record { answer = record { number = 0; session = sym (h .holds) j }; after = set (set t (positionWord q) v) (e .start-is j) old })
           ∙ accept (Swap d q v) (rw (e .yes-desk, h .own, owes, none))
 
   -- ---- retire
@@ -146,7 +147,7 @@ pub record Reads (t : List ℕ) (p : Place) (k : ℕ) : Type 0 where
   pub below : k < p .all
   pub there : headerWords + p .positions + p .all < length t
   pub see-two : k + 1 < p .all
-      → getD t (headerWords + p .positions + k) 0 ∷ getD t (headerWords + p .positions + k + 1) 0 ∷ [] ≡ nextScreens (decode (hallIn t) t .shown) (decodeDesk (lentRecord t p))
+      → let at = headerWords + p .positions + k in getD t at 0 ∷ getD t (at + 1) 0 ∷ [] ≡ nextScreens (decode (hallIn t) t .shown) (decodeDesk (lentRecord t p))
   pub see-one : p .all ≤ k + 1 → getD t (headerWords + p .positions + k) 0 ∷ [] ≡ nextScreens (decode (hallIn t) t .shown) (decodeDesk (lentRecord t p))
 
 pub reads : {t : List ℕ} {d k : ℕ} {p : Place} → Entered t d p → Lent t d p → k ≡ getD t (p .start + scannedPlace) 0 → Reads t p k

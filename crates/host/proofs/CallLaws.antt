@@ -59,9 +59,10 @@ pub step-heard : {m n number : ℕ} {bytes words out : List ℕ} {call : Call} �
 step-heard {m} {n} {number} {bytes} {words} {out} {call} are front seen read done =
     let ws : List ℕ = wordsOfBytes bytes in
     let lent : words ≡ take m ws = read ∙ seen .front in
-    let long : length (stepTable hallLimits words call .after) ≡ length (take m ws) = rw lent (step-length hallLimits (take m ws) call (small-take m ws (words-are-16 bytes are))) in
-    (λ i. heard (done .answer i) (left (stepTable hallLimits words call .answer .number) refl i))
-    ∙ step-on-front hallLimits m bytes are (stepTable hallLimits words call) long (front .header) (front .enough) call (ap (λ (w : List ℕ). stepTable hallLimits w call) lent)
+    let step = stepTable hallLimits words call in
+    let long : length (step .after) ≡ length (take m ws) = rw lent (step-length hallLimits (take m ws) call (small-take m ws (words-are-16 bytes are))) in
+    (λ i. heard (done .answer i) (left (step .answer .number) refl i))
+    ∙ step-on-front hallLimits m bytes are step long (front .header) (front .enough) call (ap (λ (w : List ℕ). stepTable hallLimits w call) lent)
   where
     left : (k : ℕ) → stepTable hallLimits words call .answer .number ≡ k → out ≡ laidOver (stepTable hallLimits words call .after) bytes
     left zero q = done .written q

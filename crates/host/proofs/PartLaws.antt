@@ -27,8 +27,8 @@ pub part-lent : (a e : ℕ) (words bytes part : List ℕ) → a ≤ e → e ≤ 
     → putMid (2 * a) (2 * e - 2 * a) bytes part ≡ partLaid a e words bytes
 part-lent a e words bytes part order there room laid =
     let wide = mid-len a e words there in
-    let in-it : part ≡ laidOver (midOf a (e - a) words) (midOf (2 * a) (2 * e - 2 * a) bytes) = rw (take-take (e - a) (e - a) (drop a words) (omega arith)) at laid in
-    ap (putMid (2 * a) (2 * e - 2 * a) bytes) in-it
+    let once = take-take (e - a) (e - a) (drop a words) (omega arith) in
+    ap (putMid (2 * a) (2 * e - 2 * a) bytes) (rw once at laid)
     ∙ ap (λ (l : List ℕ). take (2 * a) bytes ++ l)
     (laid-over-part (midOf a (e - a) words) (drop (2 * a) bytes) (2 * e - 2 * a) (omega arith) (omega (arith, length-drop (2 * a) bytes)))
 
@@ -57,9 +57,11 @@ module _ (d : ℕ) (words bytes : List ℕ) (done : Rewritten d (take (length wo
       }
 
   -- one after the other
-  pub parts-laid : IsBytes bytes → 2 * length words ≤ length bytes → {records start end : ℕ} → records ≡ startFor (hallIn words .positions) (allScreens (hallIn words)) 0
+  pub parts-laid : IsBytes bytes → 2 * length words ≤ length bytes → {records start end : ℕ}
+      → records ≡ startFor (hallIn words .positions) (allScreens (hallIn words)) 0
       → start ≡ recordStart (hallIn words) d → end ≡ startFor (hallIn words .positions) (allScreens (hallIn words)) d → {first second : List ℕ}
       → first ≡ partLaid headerWords records words bytes → second ≡ partLaid start end words first → second ≡ laidOver words bytes
   parts-laid are room is-records is-start is-end one two =
-      let whole : startFor (hallIn words .positions) (allScreens (hallIn words)) 0 ≡ headerWords + hallIn words .positions + allScreens (hallIn words) = omega arith in
+      let H = hallIn words in
+      let whole : startFor (H .positions) (allScreens H) 0 ≡ headerWords + H .positions + allScreens H = omega arith in
       two ∙ rw (is-start, is-end ∙ parts .next, one, is-records ∙ whole) (rewritten-laid d words bytes are room done)

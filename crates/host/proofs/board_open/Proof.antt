@@ -40,7 +40,8 @@ packed-requires c κs = search needs
 returns : tie.Need-returns
 returns c =
     let a = c .before .before .before in
-    refusal-heard (H a) (bytes a) (a .opening .result) (asked a) (λ j. a .before .slice-known .given j .fits) (c .packed .ensures) (λ z. c .before .if1 .taken (c .before .before .number .ensures ∙ z))
+    refusal-heard (H a) (bytes a) (a .opening .result) (asked a) (λ j. a .before .slice-known .given j .fits) (c .packed .ensures)
+    (λ z. c .before .if1 .taken (c .before .before .number .ensures ∙ z))
 
 slice-aggregate-encode : tie.Need-slice-aggregate-encode
 slice-aggregate-encode c = search needs
@@ -64,7 +65,9 @@ part-clear-start : tie.Need-part-clear-start
 part-clear-start c = search needs
 
 part-clear-end : tie.Need-part-clear-end
-part-clear-end c = omega (arith, need-there (c .before .before .before .before .before .before) .there, c .need .ensures, c .before .before .before .encode .kept .1 .1 .0)
+part-clear-end c =
+    let d = c .before .before .before in
+    omega (arith, need-there (d .before .before .before) .there, c .need .ensures, d .encode .kept .1 .1 .0)
 
 clear-requires : tie.Need-clear-requires
 clear-requires c κs = search needs
@@ -81,8 +84,8 @@ returns-2 c =
     let d = n .before .before .before in
     let b = d .before .before .before .before in
     let a = b .before in
-    opened-heard (H a) (bytes a) (a .opening .result) (asked a) (λ j. a .before .slice-known .given j .fits) (c .packed2 .ensures) (omega (arith, b .number .ensures))
-    (n .need .ensures) (d .encode .ensures) (c .before .before .before .clear .ensures)
+    opened-heard (H a) (bytes a) (a .opening .result) (asked a) (λ j. a .before .slice-known .given j .fits) (c .packed2 .ensures)
+    (omega (arith, b .number .ensures)) (n .need .ensures) (d .encode .ensures) (c .before .before .before .clear .ensures)
 
 pub board-open-spec : {M : Type 1} → statement M
 board-open-spec =

@@ -41,7 +41,8 @@ returns c =
     let d = c .before .before .before .before .before .before .before in
     let s = d .before .before .before .before in
     let m = s .before .before in
-    step-heard (λ j. m .before .before .slice-known .given j .fits) (m .looked-at .ensures) (s .seen .ensures) (d .decode .ensures) (c .before .before .before .step-on-words .ensures)
+    step-heard (λ j. m .before .before .slice-known .given j .fits) (m .looked-at .ensures) (s .seen .ensures) (d .decode .ensures)
+    (c .before .before .before .step-on-words .ensures)
 
 slice-aggregate-decode-2 : tie.Need-slice-aggregate-decode-2
 slice-aggregate-decode-2 c = search needs
@@ -63,7 +64,8 @@ returns-2 c =
     let d = c .before .before .before .before .before .before .before in
     let b = d .before .before .before in
     let m = b .before .before .before in
-    step-heard (λ j. m .before .before .slice-known .given j .fits) (m .looked-at .ensures) (largest b) (d .decode2 .ensures) (c .before .before .before .step-on-words2 .ensures)
+    step-heard (λ j. m .before .before .slice-known .given j .fits) (m .looked-at .ensures) (largest b) (d .decode2 .ensures)
+    (c .before .before .before .step-on-words2 .ensures)
 
 pub step-on-bytes-spec : {M : Type 1} → statement M
 step-on-bytes-spec =

@@ -51,7 +51,8 @@ same-length c = search needs
 returns : tie.Need-returns
 returns c =
     let a = c .before .before .before .before .before in
-    refusal-told (N a) (call a) (W a) (bytes a) (left a) (a .step .result) (a .step .ensures) (c .packed .ensures) (λ z. c .before .if1 .taken (c .before .before .number .ensures ∙ z))
+    refusal-told (N a) (call a) (W a) (bytes a) (left a) (a .step .result) (a .step .ensures) (c .packed .ensures)
+    (λ z. c .before .if1 .taken (c .before .before .number .ensures ∙ z))
 
 slice-reshare-prefix-write-back : tie.Need-slice-reshare-prefix-write-back
 slice-reshare-prefix-write-back c = search needs
@@ -66,8 +67,8 @@ write-back-requires : tie.Need-write-back-requires
 write-back-requires c κs =
     let b = c .before .before .before .before in
     let a = b .before .before .before in (
-      step-rewrote (N a) (call a) (W a) (bytes a) (left a) (a .step .result) (a .step .ensures) (omega (arith, b .number .ensures)) (omega arith) (a .step .kept .0)
-          (λ j. a .before .before .before .slice-known .given j .fits) (start a .pre .2) (c .before .desk-of .ensures),
+      step-rewrote (N a) (call a) (W a) (bytes a) (left a) (a .step .result) (a .step .ensures) (omega (arith, b .number .ensures)) (omega arith)
+          (a .step .kept .0) (λ j. a .before .before .before .slice-known .given j .fits) (start a .pre .2) (c .before .desk-of .ensures),
       omega (arith, lent-length (N a) (W a) (left a) (omega arith) (a .step .kept .0)),
     )
 
@@ -85,7 +86,8 @@ returns-2 c =
     let w = c .before .before .before in
     let b = w .before .before .before .before .before in
     let a = b .before .before .before in
-    step-told (N a) (call a) (W a) (bytes a) (left a) (a .step .result) (a .step .ensures) (omega (arith, b .number .ensures)) (omega arith) (a .step .kept .0) (c .packed2 .ensures) (w .write-back .ensures)
+    step-told (N a) (call a) (W a) (bytes a) (left a) (a .step .result) (a .step .ensures) (omega (arith, b .number .ensures)) (omega arith)
+    (a .step .kept .0) (c .packed2 .ensures) (w .write-back .ensures)
 
 pub step-on-words-spec : {M : Type 1} → statement M
 step-on-words-spec =

@@ -60,8 +60,10 @@ returns c =
     let f = c .before .before .before .before .before .before in
     let e = f .before .before in
     let o = e .before .before .before .before .before .before .before .before in
-    parts-laid (o .args .desk) (o .args .words .now) (o .args .table .now) (o .pre .0) (λ j. e .before .before .before .before .before .before .slice-known .given j .fits) (o .pre .1)
-    (e .before .before .record-start .ensures .0) (e .before .record-start2 .ensures .0) (e .record-start3 .ensures .0) (f .encode-part .ensures) (c .before .before .encode-part2 .ensures)
+    let are = e .before .before .before .before .before .before .slice-known .given in
+    parts-laid (o .args .desk) (o .args .words .now) (o .args .table .now) (o .pre .0) (λ j. are j .fits) (o .pre .1)
+    (e .before .before .record-start .ensures .0) (e .before .record-start2 .ensures .0) (e .record-start3 .ensures .0)
+    (f .encode-part .ensures) (c .before .before .encode-part2 .ensures)
 
 pub write-back-spec : {M : Type 1} → statement M
 write-back-spec =
