@@ -25,16 +25,16 @@ screenAt p d i = headerWords + p .positions + ((d - 1) * p .screens + (i - 1))
 pub record AtScreen (t : List ℕ) (d i : ℕ) (p : Place) : Type 0 where
   pub desk : 1 ≤ d
   pub first : 1 ≤ i
-  pub own : inRange i (hallIn t .screens) ≡ true
+  pub yes-screen : inRange i (hallIn t .screens) ≡ true
   pub row : (d - 1) * p .screens ≤ mostAllScreens
   pub there : screenAt p d i < length t
   pub is : screenAt p d i ≡ screenWord (hallIn t) d i
   pub shows : getD (decode (hallIn t) t .shown) (screenIndex (hallIn t) d i) 0 ≡ getD t (screenAt p d i) 0
 
 pub at-screen : {t : List ℕ} {d i : ℕ} {p : Place} → Entered t d p → inRange i (p .screens) ≡ true → AtScreen t d i p
-at-screen {t} {d} {i} {p} e own =
+at-screen {t} {d} {i} {p} e inside =
     let H : Hall = hallIn t in
-    let yes-screen : inRange i (H .screens) ≡ true = ap (inRange i) (sym (e .screens-is)) ∙ own in
+    let yes-screen : inRange i (H .screens) ≡ true = ap (inRange i) (sym (e .screens-is)) ∙ inside in
     let r = in-range i (H .screens) yes-screen in
     let f = e .facts in
     let row : (d - 1) * p .screens ≡ (d - 1) * H .screens = ap (λ (c : ℕ). (d - 1) * c) (e .screens-is) in
@@ -43,7 +43,7 @@ at-screen {t} {d} {i} {p} e own =
     record {
       desk = e .range .0;
       first = r .0;
-      own = yes-screen;
+      yes-screen = yes-screen;
       row = omega (arith, row, within, f .most);
       there = omega (arith, is, within, f .long);
       is = is;
@@ -53,15 +53,15 @@ at-screen {t} {d} {i} {p} e own =
 -- ---- position q, from 1
 pub record AtPosition (t : List ℕ) (q : ℕ) : Type 0 where
   pub first : 1 ≤ q
-  pub own : inRange q (hallIn t .positions) ≡ true
+  pub yes-position : inRange q (hallIn t .positions) ≡ true
   pub there : positionWord q < length t
   pub holds : getD (decode (hallIn t) t .held) (q - 1) 0 ≡ getD t (positionWord q) 0
 
 pub at-position : {t : List ℕ} {d q : ℕ} {p : Place} → Entered t d p → inRange q (p .positions) ≡ true → AtPosition t q
-at-position {t} {d} {q} e own =
-    let yes-position : inRange q (hallIn t .positions) ≡ true = ap (inRange q) (sym (e .positions-is)) ∙ own in
+at-position {t} {d} {q} e inside =
+    let yes-position : inRange q (hallIn t .positions) ≡ true = ap (inRange q) (sym (e .positions-is)) ∙ inside in
     let r = in-range q (hallIn t .positions) yes-position in
-    record { first = r .0; own = yes-position; there = omega (arith, r .1, r .0, e .facts .long); holds = held-word t q (r .0) (r .1) }
+    record { first = r .0; yes-position = yes-position; there = omega (arith, r .1, r .0, e .facts .long); holds = held-word t q (r .0) (r .1) }
 
 -- ---- the record of the desk, as the code lends it and as it comes back
 abbrev pub lentRecord : List ℕ → Place → List ℕ

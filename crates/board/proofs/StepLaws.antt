@@ -41,13 +41,13 @@ module _ {t : List ℕ} {d : ℕ} {p : Place} (e : Entered t d p) where
 
   module _ {i : ℕ} (s : AtScreen t d i p) where
     pub drop-screen-empty : getD t (screenAt p d i) 0 ≡ 0 → told ScreenEmpty t ≡ stepTable hallLimits t (Drop d i)
-    drop-screen-empty none = refuse 10 (Drop d i) (rw (e .yes-desk, s .own, s .shows, none))
+    drop-screen-empty none = refuse 10 (Drop d i) (rw (e .yes-desk, s .yes-screen, s .shows, none))
 
     pub drop-accepted : (getD t (screenAt p d i) 0 ≡ 0 → ⊥)
         → told (Accepted (getD t (screenAt p d i) 0)) (set t (screenAt p d i) 0) ≡ stepTable hallLimits t (Drop d i)
     drop-accepted some =
         (λ j. record { answer = record { number = 0; session = sym (s .shows) j }; after = set t (s .is j) 0 })
-        ∙ accept (Drop d i) (rw (e .yes-desk, s .own, s .shows, ne-eqb (getD t (screenAt p d i) 0) 0 some))
+        ∙ accept (Drop d i) (rw (e .yes-desk, s .yes-screen, s .shows, ne-eqb (getD t (screenAt p d i) 0) 0 some))
 
   -- ---- take
   pub take-no-screen : (i q : ℕ) → inRange i (p .screens) ≡ false → told NoScreen t ≡ stepTable hallLimits t (Take d i q)
@@ -55,21 +55,21 @@ module _ {t : List ℕ} {d : ℕ} {p : Place} (e : Entered t d p) where
 
   module _ {i : ℕ} (s : AtScreen t d i p) where
     pub take-no-position : (q : ℕ) → inRange q (p .positions) ≡ false → told NoPosition t ≡ stepTable hallLimits t (Take d i q)
-    take-no-position q out = refuse 7 (Take d i q) (rw (e .yes-desk, s .own, ← e .positions-is, out))
+    take-no-position q out = refuse 7 (Take d i q) (rw (e .yes-desk, s .yes-screen, ← e .positions-is, out))
 
     module _ {q : ℕ} (h : AtPosition t q) where
       pub take-screen-in-use : (getD t (screenAt p d i) 0 ≡ 0 → ⊥) → told ScreenInUse t ≡ stepTable hallLimits t (Take d i q)
       take-screen-in-use some =
-          refuse 8 (Take d i q) (rw (e .yes-desk, s .own, h .own, s .shows, ne-eqb (getD t (screenAt p d i) 0) 0 some))
+          refuse 8 (Take d i q) (rw (e .yes-desk, s .yes-screen, h .yes-position, s .shows, ne-eqb (getD t (screenAt p d i) 0) 0 some))
 
       pub take-position-empty : getD t (screenAt p d i) 0 ≡ 0 → getD t (positionWord q) 0 ≡ 0 → told PositionEmpty t ≡ stepTable hallLimits t (Take d i q)
-      take-position-empty free none = refuse 9 (Take d i q) (rw (e .yes-desk, s .own, h .own, s .shows, free, h .holds, none))
+      take-position-empty free none = refuse 9 (Take d i q) (rw (e .yes-desk, s .yes-screen, h .yes-position, s .shows, free, h .holds, none))
 
       pub take-accepted : getD t (screenAt p d i) 0 ≡ 0 → (getD t (positionWord q) 0 ≡ 0 → ⊥)
           → told (Accepted (getD t (positionWord q) 0)) (set t (screenAt p d i) (getD t (positionWord q) 0)) ≡ stepTable hallLimits t (Take d i q)
       take-accepted free some =
           (λ j. record { answer = record { number = 0; session = sym (h .holds) j }; after = set t (s .is j) (getD t (positionWord q) 0) })
-          ∙ accept (Take d i q) (rw (e .yes-desk, s .own, h .own, s .shows, free, h .holds, ne-eqb (getD t (positionWord q) 0) 0 some))
+          ∙ accept (Take d i q) (rw (e .yes-desk, s .yes-screen, h .yes-position, s .shows, free, h .holds, ne-eqb (getD t (positionWord q) 0) 0 some))
 
   -- ---- swap
   owes : deskOf (decode (hallIn t) t) d .owed ≡ getD t (p .start) 0
@@ -81,14 +81,14 @@ module _ {t : List ℕ} {d : ℕ} {p : Place} (e : Entered t d p) where
 
     module _ (h : AtPosition t q) where
       pub swap-desk-owes : (getD t (p .start) 0 ≡ 0 → ⊥) → told DeskOwes t ≡ stepTable hallLimits t (Swap d q v)
-      swap-desk-owes some = refuse 11 (Swap d q v) (rw (e .yes-desk, h .own, owes, ne-eqb (getD t (p .start) 0) 0 some))
+      swap-desk-owes some = refuse 11 (Swap d q v) (rw (e .yes-desk, h .yes-position, owes, ne-eqb (getD t (p .start) 0) 0 some))
 
       pub swap-accepted : getD t (p .start) 0 ≡ 0
           → let old = getD t (positionWord q) 0 in told (Accepted old) (set (set t (positionWord q) v) (p .start) old) ≡ stepTable hallLimits t (Swap d q v)
       swap-accepted none =
           let old = getD t (positionWord q) 0 in
           (λ j. record { answer = record { number = 0; session = sym (h .holds) j }; after = set (set t (positionWord q) v) (e .start-is j) old })
-          ∙ accept (Swap d q v) (rw (e .yes-desk, h .own, owes, none))
+          ∙ accept (Swap d q v) (rw (e .yes-desk, h .yes-position, owes, none))
 
   -- ---- retire
   module _ (l : Lent t d p) where
