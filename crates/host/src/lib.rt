@@ -138,13 +138,21 @@ fn step_on_words(call: Call, n: usize, words: &mut [u16], table: &mut [u8]) -> u
     packed(r)
 }
 
-// A step on a table sent as bytes. The table of the largest hall fills the buffer: that is asked by itself, so that the
-// compiler leaves out to clear what `decode` fills.
+// The words of the buffer for small tables: to clear one for the largest takes longer than a step on the smallest.
+const FEW_WORDS: usize = 256;
+
+// A step on a table sent as bytes, in a buffer for few words or for all. The table of the largest hall fills its buffer: that is
+// asked by itself, so that the compiler leaves out to clear what `decode` fills.
 fn step_on_bytes(call: Call, table: &mut [u8]) -> u32
     ensures { λ r. ⌜ heard r (now (table .exit)) ≡ stepBytes hallLimits (now (table .entry)) (callOf call) ⌝ }
 {
     let m = looked_at(table);
     let n = seen(table, m);
+    if n <= FEW_WORDS {
+        let mut few = [0u16; FEW_WORDS];
+        decode(table, n, &mut few);
+        return step_on_words(call, n, &mut few, table);
+    }
     if n < Board::MOST_WORDS {
         let mut front = [0u16; Board::MOST_WORDS];
         decode(table, n, &mut front);

@@ -9,11 +9,11 @@ use Rattle.host.proofs.step_on_bytes.Statement.{statement}
 use Rattle.host.proofs.step_on_bytes.Tie as tie
 
 -- all words of the largest hall are there
-largest : (b : tie.Else1) → let m = b .before .before .before in Seen (m .before .before .before .args .table .now) (m .looked-at .result) mostWords
+largest : (b : tie.Else2) → let m = b .before .before .before .before in Seen (m .before .before .before .args .table .now) (m .looked-at .result) mostWords
 largest b =
-    let s = b .before .seen in
-    let all : s .result ≡ mostWords = omega (arith, s .ensures .fit, b .before .before .before .looked-at .ensures .most) in
-    rw all at (s .ensures)
+    let s = b .before .before in
+    let all : s .seen .result ≡ mostWords = omega (arith, s .seen .ensures .fit, s .before .before .looked-at .ensures .most) in
+    rw all at (s .seen .ensures)
 
 looked-at-requires : tie.Need-looked-at-requires
 looked-at-requires c κs = search needs
@@ -62,11 +62,34 @@ same-length-2 c = search needs
 returns-2 : tie.Need-returns-2
 returns-2 c =
     let d = c .before .before .before .before .before .before .before in
-    let b = d .before .before .before in
-    let m = b .before .before .before in
-    step-heard (λ j. m .before .before .slice-known .given j .fits) (m .looked-at .ensures) (largest b) (d .decode2 .ensures)
+    let s = d .before .before .before .before .before in
+    let m = s .before .before in
+    step-heard (λ j. m .before .before .slice-known .given j .fits) (m .looked-at .ensures) (s .seen .ensures) (d .decode2 .ensures)
     (c .before .before .before .step-on-words2 .ensures)
+
+slice-aggregate-decode-3 : tie.Need-slice-aggregate-decode-3
+slice-aggregate-decode-3 c = search needs
+
+decode-requires-3 : tie.Need-decode-requires-3
+decode-requires-3 c κs = search needs
+
+slice-aggregate-step-on-words-3 : tie.Need-slice-aggregate-step-on-words-3
+slice-aggregate-step-on-words-3 c = search needs
+
+step-on-words-requires-3 : tie.Need-step-on-words-requires-3
+step-on-words-requires-3 c κs = search needs
+
+same-length-3 : tie.Need-same-length-3
+same-length-3 c = search needs
+
+returns-3 : tie.Need-returns-3
+returns-3 c =
+    let d = c .before .before .before .before .before .before .before in
+    let b = d .before .before .before in
+    let m = b .before .before .before .before in
+    step-heard (λ j. m .before .before .slice-known .given j .fits) (m .looked-at .ensures) (largest b) (d .decode3 .ensures)
+    (c .before .before .before .step-on-words3 .ensures)
 
 pub step-on-bytes-spec : {M : Type 1} → statement M
 step-on-bytes-spec =
-    tie.close (tie.spec looked-at-requires seen-requires slice-aggregate-decode decode-requires slice-aggregate-step-on-words step-on-words-requires same-length returns slice-aggregate-decode-2 decode-requires-2 slice-aggregate-step-on-words-2 step-on-words-requires-2 same-length-2 returns-2)
+    tie.close (tie.spec looked-at-requires seen-requires slice-aggregate-decode decode-requires slice-aggregate-step-on-words step-on-words-requires same-length returns slice-aggregate-decode-2 decode-requires-2 slice-aggregate-step-on-words-2 step-on-words-requires-2 same-length-2 returns-2 slice-aggregate-decode-3 decode-requires-3 slice-aggregate-step-on-words-3 step-on-words-requires-3 same-length-3 returns-3)
