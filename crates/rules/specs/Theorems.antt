@@ -1,17 +1,19 @@
 -- The theorems. What they say is in Demands, History, Table and Bytes; their proofs are in laws/.
-use Prim.Native.Nat.{ℕ}
+use Prim.Native.Nat.{ℕ, _≤_}
+use native.Mathlib.Omega.{arith}
 use mathlib.Core.Path.{_≡_, sym, subst}
 use mathlib.Core.Bool.{true}
-use mathlib.Core.List.{List}
-use lib.ListN.{take}
+use mathlib.Core.List.{List, _++_}
+use lib.ListN.{length, take}
 use Rattle.rules.specs.Hall.{Hall, Limits, allScreens}
 use Rattle.rules.specs.Steps.{Call}
-use Rattle.rules.specs.Table.{endTable, openTable, runTable, sound, stepTable}
+use Rattle.rules.specs.Table.{hallIn, need, endTable, openTable, runTable, sound, stepTable}
 use Rattle.rules.specs.Bytes.{Agrees, Call16, Calls16, IsBytes, Words16, endBytes, openBytes, runBytes, stepBytes, wordsOfBytes}
 use Rattle.rules.specs.History.{numberAt}
 use Rattle.rules.specs.Demands.{BackWithin, BytesDemand1, Demand1, Demand2, Demand3, OpeningDemand1, exactBound}
 use Rattle.rules.specs.laws.Demand1.{demand1, never-five, opening-demand1}
 use Rattle.rules.specs.laws.Tables.{hall-opens, sound-table}
+use Rattle.rules.specs.laws.Prefix.{open-append, step-append}
 use Rattle.rules.specs.laws.TableHistories.{back-opened, demand2-opened, demand3-opened, opening-asks}
 use Rattle.rules.specs.laws.Bytes.{bytes-demand1, bytes-open, bytes-step, words-are-16}
 use Rattle.rules.specs.laws.ByteHistories.{of-bytes, same-history, words-accepted}
@@ -25,6 +27,17 @@ demand-1 limits = demand1 limits
 -- Demand 1 of an opening, of any table.
 pub demand-1-opening : (limits : Limits) (hall : Hall) (table : List ℕ) → OpeningDemand1 limits hall table
 demand-1-opening limits = opening-demand1 limits
+
+-- "Words past the need are neither read nor written": whatever stands behind a table that is long enough for its hall, a call
+-- answers the same and leaves it there.
+module _ (limits : Limits) (table behind : List ℕ) where
+  pub need-is-enough : need (hallIn table) ≤ length table → (call : Call)
+      → stepTable limits (table ++ behind) call ≡ record { answer = stepTable limits table call .answer; after = stepTable limits table call .after ++ behind }
+  need-is-enough enough = step-append limits table behind (omega (arith, enough)) (λ inside. enough)
+
+  pub need-is-enough-to-open : (hall : Hall) → need hall ≤ length table
+      → openTable limits hall (table ++ behind) ≡ record { answer = openTable limits hall table .answer; after = openTable limits hall table .after ++ behind }
+  need-is-enough-to-open hall enough = open-append limits hall table behind enough
 
 -- Of every hall, every table whose opening is accepted, and every list of calls:
 module _ (limits : Limits) (hall : Hall) (table : List ℕ) (accepted : openTable limits hall table .answer .number ≡ 0) where

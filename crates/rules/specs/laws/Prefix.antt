@@ -11,14 +11,14 @@ use lib.Dec.{leb}
 use borrow.Author.Tests.{le-leb}
 use Rattle.rules.specs.Hall.{Hall, Limits, State, allScreens, mostAllScreens, mostDesks}
 use Rattle.rules.specs.Steps.{Call, Collect, Drop, Retire, Swap, Take, collect, firstNo, perform, questions, retire}
-use Rattle.rules.specs.Table.{TableDone, decode, decodeDesk, encodeDesk, everyRecord, hallIn, headerWords, inLimits, mostWords, need, pieces}
+use Rattle.rules.specs.Table.{openedTable, openQuestions, openTable, TableDone, decode, decodeDesk, encodeDesk, everyRecord, hallIn, headerWords, inLimits, mostWords, need, pieces}
 use Rattle.rules.specs.Table.{positionWord, putRecord, recordOf, recordSound, recordStart, recordWidth, recordsIn, screenWord, sound, stepTable, widthFor}
 use Rattle.rules.specs.Table.{written}
 use Rattle.rules.specs.laws.Effect.{Formed}
 use Rattle.rules.specs.laws.Links.{desk-fact, drop-facts, position-asked, swap-facts, swap-position-asked, take-facts}
 use Rattle.rules.specs.laws.ScreenIndex.{screen-in}
 use Rattle.rules.specs.laws.SoundTables.{valid}
-use Rattle.rules.specs.laws.TableSteps.{accepted-step, asked, known, refused-step, unsound-step}
+use Rattle.rules.specs.laws.TableSteps.{accepted-open, accepted-step, asked, known, refused-open, refused-step, unsound-step}
 use Rattle.rules.specs.laws.Tables.{Fits}
 
 pub need-at-most : (H : Hall) → Fits H → need H ≤ mostWords
@@ -202,3 +202,26 @@ module _ (limits : Limits) (a b : List ℕ) (three : headerWords ≤ length a) (
               ∙ sym (ap done (accepted-step limits a c s q))
           by-number (suc n) q =
               refused-step limits (a ++ b) c n (sound-same ∙ s) (asked-same ∙ q) ∙ sym (ap done (refused-step limits a c n s q))
+
+-- ---- The opening.
+module _ (limits : Limits) (H : Hall) (a b : List ℕ) (far : need H ≤ length a) where
+  pub open-append : openTable limits H (a ++ b) ≡ record { answer = openTable limits H a .answer; after = openTable limits H a .after ++ b }
+  open-append = by-number (firstNo (openQuestions limits H a)) refl
+    where
+      done : TableDone → TableDone
+      done r = record { answer = r .answer; after = r .after ++ b }
+
+      same : firstNo (openQuestions limits H (a ++ b)) ≡ firstNo (openQuestions limits H a)
+      same = rw (long-before a b H far)
+
+      opened-append : openedTable H (a ++ b) ≡ openedTable H a ++ b
+      opened-append =
+          let front : List ℕ = H .desks ∷ H .screens ∷ H .positions ∷ replicate (need H - headerWords) 0 in
+          ap (λ (l : List ℕ). front ++ l) (drop-append-left (need H) a b far) ∙ sym (append-assoc front (drop (need H) a) b)
+
+      by-number : (n : ℕ) → firstNo (openQuestions limits H a) ≡ n → openTable limits H (a ++ b) ≡ done (openTable limits H a)
+      by-number zero q =
+          accepted-open limits H (a ++ b) (same ∙ q)
+          ∙ (λ i. record { answer = record { number = 0; session = 0 }; after = opened-append i })
+          ∙ sym (ap done (accepted-open limits H a q))
+      by-number (suc n) q = refused-open limits H (a ++ b) n (same ∙ q) ∙ sym (ap done (refused-open limits H a n q))
