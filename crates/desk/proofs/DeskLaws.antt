@@ -151,16 +151,16 @@ hand-list q (x ∷ rd) tw h g =
     ∙ ap (λ (t : List ℕ). (rd ++ tw) ++ t) (replicate-append-replicate {A = ℕ} (q - suc (length (rd ++ tw))) 1 0 ∙ ap (λ (k : ℕ). replicate k 0) e)
 
 -- what the code makes of a record x
-abbrev pub handing : List ℕ → List ℕ
-handing x = set (putMid listPlace (length x - listPlace) x (drop 1 (take (length x - listPlace) (drop listPlace x)) ++ (0 ∷ []))) 2 (getD x 2 0 - 1)
+abbrev pub handing : ℕ → List ℕ → List ℕ
+handing s x = set (putMid listPlace (listPlace + 2 * s - listPlace) x (drop 1 (take (listPlace + 2 * s - listPlace) (drop listPlace x)) ++ (0 ∷ []))) 2 (getD x 2 0 - 1)
 
-hand-words : (s : ℕ) (d : WordDesk) → Fit s d → 0 < length (d .ready) → handing (recordWords s d) ≡ recordWords s (handed d)
+hand-words : (s : ℕ) (d : WordDesk) → Fit s d → 0 < length (d .ready) → handing s (recordWords s d) ≡ recordWords s (handed d)
 unfolding recordWords
 hand-words s d f h =
     let l : List ℕ = listed d ++ replicate (2 * s - length (listed d)) 0 in
-    let n = length (recordWords s d) - listPlace in
+    let n = listPlace + 2 * s - listPlace in
     let e = f .eight in
-    let j : length l ≤ n = omega (arith, length-append (d .words) l) in
+    let j : length l ≤ n = omega (arith, f .room, length-append (listed d) (replicate (2 * s - length (listed d)) 0), length-replicate {A = ℕ} (2 * s - length (listed d)) 0) in
     let p : drop markWords (d .words ++ l) ≡ l = drop-at (d .words) l markWords e in
     let q : drop 1 (take n (drop markWords (d .words ++ l))) ++ (0 ∷ []) ≡ listed (handed d) ++ replicate (2 * s - length (listed (handed d))) 0
     = ap (λ (t : List ℕ). drop 1 t ++ (0 ∷ [])) (ap (take n) p ∙ take-all n l j)
@@ -170,10 +170,10 @@ hand-words s d f h =
     (put-all (d .owed) (d .read) (length (d .ready)) (length (d .tested)) (length (d .waiting)) (d .words) l (drop 1 (take n (drop markWords (d .words ++ l))) ++ (0 ∷ [])) n e j)
     ∙ (λ i. d .owed ∷ d .read ∷ t i ∷ length (d .tested) ∷ length (d .waiting) ∷ (d .words ++ q i))
 
-pub hand-stores : (s : ℕ) (r : List ℕ) → Formed s r → 0 < getD r 2 0 → handing r ≡ recordWords s (handed (wordDesk r))
+pub hand-stores : (s : ℕ) (r : List ℕ) → Formed s r → 0 < getD r 2 0 → handing s r ≡ recordWords s (handed (wordDesk r))
 hand-stores s r f h =
     let a = facts s r f .ready in
-    subst (λ (x : List ℕ). handing x ≡ recordWords s (handed (wordDesk r))) (sym (f .is)) (hand-words s (wordDesk r) (f .fit) (omega arith))
+    subst (λ (x : List ℕ). handing s x ≡ recordWords s (handed (wordDesk r))) (sym (f .is)) (hand-words s (wordDesk r) (f .fit) (omega arith))
 
 -- nothing ready: the state stays
 pub hand-none : (s : ℕ) (r : List ℕ) → Formed s r → getD r 2 0 ≡ 0 → r ≡ recordWords s (handed (wordDesk r))

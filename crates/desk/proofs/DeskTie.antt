@@ -10,14 +10,14 @@ use borrow.Author.Tests.{eqb-true, ltb-true}
 use Rattle.rules.specs.Hall.{TestedPlace, marked, unmarked, usedPlaces, Desk, mostAllScreens}
 use Rattle.rules.specs.Steps.{begin, beginAt, handBack, mark, markEach, markedOf, readScreens, retire, scanAt, settle, settleIf, unmarkedOf}
 use Rattle.rules.specs.Table.{bitValue, bitsOfWords, decodeDesk, encodeDesk, every, listOf, marksOf, ones, recordSound, scanSound, sessionsOf, wordsOfBits}
-use Rattle.rules.specs.Table.{allMarks, listPlace, markWords, marksPlace, widthFor}
+use Rattle.rules.specs.Table.{allMarks, listPlace, markWords, marksPlace, placesIn, widthFor}
 use Rattle.rules.specs.laws.Bools.{and-left, and-right}
 use Rattle.rules.specs.laws.Decoding.{length-places, record-again, small-drop, small-take}
 use Rattle.rules.specs.laws.Encoding.{desk-read-back, length-sessions}
 use Rattle.rules.specs.laws.Marks.{length-mark, length-mark-each, unmarked-and-marked}
 use Rattle.marks.specs.Words.{allZero}
 use Rattle.marks.specs.Marks.{pick}
-use Rattle.desk.proofs.WordDesk.{used, places, markWordsIn, soundRecord, WordDesk, wordDesk, listed, recordWords, testing, seeing, reading, settled, handed, Fit, Formed}
+use Rattle.desk.proofs.WordDesk.{used, markWordsIn, soundRecord, WordDesk, wordDesk, listed, recordWords, testing, seeing, reading, settled, handed, Fit, Formed}
 use Rattle.desk.specs.Record.{Encoded}
 use Rattle.desk.proofs.FitLaws.{lengths, Left, left}
 use Rattle.desk.proofs.DeskLaws.{facts, record-length}
@@ -124,8 +124,8 @@ six false b c d e f = refl
 pub sound-is : (s : ℕ) (r : List ℕ) → ((i : ℕ) → getD (take markWords (drop marksPlace r)) i 0 < 2 ^ 16) → soundRecord s r ≡ recordSound s r
 unfolding soundRecord recordSound
 sound-is s r h =
-    (λ i. leb (used r) (2 * s) && none-zero-is (take (used r) (places r)) i && all-zero-is (drop (used r) (places r)) i && clear-is (getD r 3 0) (markWordsIn r) i && sound-read-is s (getD r 3 0) (getD r 1 0) i && leb (count-is (markWordsIn r) h i) (getD r 1 0))
-    ∙ six (leb (used r) (2 * s)) (every (λ x. not (eqb x 0)) (take (used r) (places r))) (every (λ x. eqb x 0) (drop (used r) (places r))) (eqb (ones (drop (getD r 3 0) (bitsOfWords (markWordsIn r)))) 0) (scanSound s (getD r 3 0) (getD r 1 0)) (leb (ones (bitsOfWords (markWordsIn r))) (getD r 1 0))
+    (λ i. leb (used r) (2 * s) && none-zero-is (take (used r) (placesIn s r)) i && all-zero-is (drop (used r) (placesIn s r)) i && clear-is (getD r 3 0) (markWordsIn r) i && sound-read-is s (getD r 3 0) (getD r 1 0) i && leb (count-is (markWordsIn r) h i) (getD r 1 0))
+    ∙ six (leb (used r) (2 * s)) (every (λ x. not (eqb x 0)) (take (used r) (placesIn s r))) (every (λ x. eqb x 0) (drop (used r) (placesIn s r))) (eqb (ones (drop (getD r 3 0) (bitsOfWords (markWordsIn r)))) 0) (scanSound s (getD r 3 0) (getD r 1 0)) (leb (ones (bitsOfWords (markWordsIn r))) (getD r 1 0))
 
 pub sound-of : (s : ℕ) (r : List ℕ) → ((i : ℕ) → getD r i 0 < 2 ^ 16) → soundRecord s r ≡ recordSound s r
 sound-of s r h = sound-is s r (small-take markWords (drop marksPlace r) (small-drop marksPlace r h))
@@ -254,10 +254,10 @@ scanned-below s r h e = pass-k (getD r 3 0) (getD r 1 0) (and-left q5 q6 (and-ri
     q1 = leb (getD r 2 0 + getD r 3 0 + getD r 4 0) (2 * s)
 
     q2 : Bool
-    q2 = every (λ x. not (eqb x 0)) (take (getD r 2 0 + getD r 3 0 + getD r 4 0) (drop listPlace r))
+    q2 = every (λ x. not (eqb x 0)) (take (getD r 2 0 + getD r 3 0 + getD r 4 0) (placesIn s r))
 
     q3 : Bool
-    q3 = every (λ x. eqb x 0) (drop (getD r 2 0 + getD r 3 0 + getD r 4 0) (drop listPlace r))
+    q3 = every (λ x. eqb x 0) (drop (getD r 2 0 + getD r 3 0 + getD r 4 0) (placesIn s r))
 
     q4 : Bool
     q4 = eqb (ones (drop (getD r 3 0) (bitsOfWords (take markWords (drop marksPlace r))))) 0

@@ -8,17 +8,17 @@ use lib.Dec.{leb}
 use lib.ListN.{length, getD, take, drop, set, replicate, length-append, length-drop}
 use lib.Seq.{length-take-le, set-at}
 use borrow.Author.Tests.{leb-true}
-use Rattle.rules.specs.Table.{listPlace, markWords, widthFor}
+use Rattle.rules.specs.Table.{listIn, listPlace, markWords, placesIn, widthFor}
 use Rattle.marks.proofs.BoolLaws.{set-append-add, &&-left, &&-right}
 use Rattle.marks.specs.Words.{allZero, noneZero}
 use Rattle.marks.specs.Marks.{marks, onesIn}
-use Rattle.desk.proofs.WordDesk.{used, places, markWordsIn, soundRead, soundRecord, WordDesk, wordDesk, listed, recordWords, retired}
+use Rattle.desk.proofs.WordDesk.{used, markWordsIn, soundRead, soundRecord, WordDesk, wordDesk, listed, recordWords, retired}
 
 -- ---- what soundness says of a record
 pub record SoundRec (s : ℕ) (r : List ℕ) : Type 0 where
   pub room : used r ≤ 2 * s
-  pub full : noneZero (take (used r) (places r)) ≡ true
-  pub free : allZero (drop (used r) (places r)) ≡ true
+  pub full : noneZero (take (used r) (placesIn s r)) ≡ true
+  pub free : allZero (drop (used r) (placesIn s r)) ≡ true
   pub unmarked : allZero (drop (getD r 3 0) (marks (markWordsIn r))) ≡ true
   pub reading : soundRead s (getD r 3 0) (getD r 1 0) ≡ true
   pub few : onesIn (markWordsIn r) ≤ getD r 1 0
@@ -27,8 +27,8 @@ pub record-facts : (s : ℕ) (r : List ℕ) → soundRecord s r ≡ true → Sou
 unfolding soundRecord
 record-facts s r e =
     let a1 = leb (used r) (2 * s) in
-    let a2 = noneZero (take (used r) (places r)) in
-    let a3 = allZero (drop (used r) (places r)) in
+    let a2 = noneZero (take (used r) (placesIn s r)) in
+    let a3 = allZero (drop (used r) (placesIn s r)) in
     let a4 = allZero (drop (getD r 3 0) (marks (markWordsIn r))) in
     let a5 = soundRead s (getD r 3 0) (getD r 1 0) in
     let a6 = leb (onesIn (markWordsIn r)) (getD r 1 0) in
@@ -47,29 +47,29 @@ record-facts s r e =
 
 -- ---- a sound record is what its desk's state says
 module _ (s : ℕ) (r : List ℕ) (len : length r ≡ widthFor s) (f : SoundRec s r) where
-  places-length : length (places r) ≡ 2 * s
-  places-length = let e = length-drop listPlace r in omega arith
+  list-length : length (listIn r) ≡ 2 * s
+  list-length = let e = length-drop listPlace r in omega arith
 
   pub ready-length : length (wordDesk r .ready) ≡ getD r 2 0
   unfolding wordDesk
-  ready-length = let e = places-length in let h = f .room in length-take-le (getD r 2 0) (places r) (omega arith)
+  ready-length = let e = list-length in let h = f .room in length-take-le (getD r 2 0) (listIn r) (omega arith)
 
   pub tested-length : length (wordDesk r .tested) ≡ getD r 3 0
   unfolding wordDesk
   tested-length =
-      let e = places-length in
+      let e = list-length in
       let h = f .room in
-      let g = length-drop (getD r 2 0) (places r) in
-      length-take-le (getD r 3 0) (drop (getD r 2 0) (places r)) (omega arith)
+      let g = length-drop (getD r 2 0) (listIn r) in
+      length-take-le (getD r 3 0) (drop (getD r 2 0) (listIn r)) (omega arith)
 
   pub waiting-length : length (wordDesk r .waiting) ≡ getD r 4 0
   unfolding wordDesk
   waiting-length =
-      let e = places-length in
+      let e = list-length in
       let h = f .room in
-      let g = length-drop (getD r 2 0) (places r) in
-      let k = length-drop (getD r 3 0) (drop (getD r 2 0) (places r)) in
-      length-take-le (getD r 4 0) (drop (getD r 3 0) (drop (getD r 2 0) (places r))) (omega arith)
+      let g = length-drop (getD r 2 0) (listIn r) in
+      let k = length-drop (getD r 3 0) (drop (getD r 2 0) (listIn r)) in
+      length-take-le (getD r 4 0) (drop (getD r 3 0) (drop (getD r 2 0) (listIn r))) (omega arith)
 
 -- ---- a store at place n of the list
 pub set-place : (o k a b c : ℕ) (m l : List ℕ) (n v : ℕ) → length m ≡ markWords

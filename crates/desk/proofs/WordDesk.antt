@@ -6,16 +6,13 @@ use mathlib.Core.Path.{_≡_}
 use lib.Dec.{eqb, leb, ltb}
 use lib.ListN.{length, getD, take, drop, replicate}
 use Rattle.rules.specs.Hall.{mostAllScreens}
-use Rattle.rules.specs.Table.{listPlace, markWords, marksPlace}
+use Rattle.rules.specs.Table.{listIn, markWords, marksPlace, placesIn}
 use Rattle.marks.specs.Words.{allZero, noneZero}
 use Rattle.marks.specs.Marks.{marks, onesIn, findPlace, markPlace, pick}
 
--- the mark words of a record, and its list of places
+-- the mark words of a record
 abbrev pub markWordsIn : List ℕ → List ℕ
 markWordsIn r = take markWords (drop marksPlace r)
-
-abbrev pub places : List ℕ → List ℕ
-places r = drop listPlace r
 
 -- the used places: the sum of the three counts
 abbrev pub used : List ℕ → ℕ
@@ -27,7 +24,7 @@ soundRead s tested k = cond (eqb tested 0) (eqb k 0) (eqb (k % 2) 0 && leb 2 k &
 
 unfoldable pub soundRecord : ℕ → List ℕ → Bool
 soundRecord s r =
-    leb (used r) (2 * s) && noneZero (take (used r) (places r)) && allZero (drop (used r) (places r))
+    leb (used r) (2 * s) && noneZero (take (used r) (placesIn s r)) && allZero (drop (used r) (placesIn s r))
     && allZero (drop (getD r 3 0) (marks (markWordsIn r)))
     && soundRead s (getD r 3 0) (getD r 1 0)
     && leb (onesIn (markWordsIn r)) (getD r 1 0)
@@ -46,9 +43,9 @@ wordDesk r =
     record {
       owed = getD r 0 0;
       read = getD r 1 0;
-      ready = take (getD r 2 0) (places r);
-      tested = take (getD r 3 0) (drop (getD r 2 0) (places r));
-      waiting = take (getD r 4 0) (drop (getD r 3 0) (drop (getD r 2 0) (places r)));
+      ready = take (getD r 2 0) (listIn r);
+      tested = take (getD r 3 0) (drop (getD r 2 0) (listIn r));
+      waiting = take (getD r 4 0) (drop (getD r 3 0) (drop (getD r 2 0) (listIn r)));
       words = markWordsIn r;
     }
 

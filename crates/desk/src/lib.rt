@@ -38,7 +38,7 @@ pub const WAITING: usize = 4;
 // The 8 mark words.
 pub const MARKS: usize = 5;
 
-// The list of 2S places, up to the end.
+// The list of 2S places: it ends at LIST + 2S.
 pub const LIST: usize = 13;
 
 // The eight mark words of a record, by value.
@@ -79,7 +79,7 @@ pub fn sound_record(r: &[u16], s: usize) -> bool
     if !none_zero(&r[LIST..LIST + n]) {
         return false;
     }
-    if !all_zero(&r[LIST + n..]) {
+    if !all_zero(&r[LIST + n..LIST + 2 * s]) {
         return false;
     }
     let k = word(r, SCANNED);
@@ -201,7 +201,7 @@ fn hand_back(r: &mut [u16], s: usize) -> u16
         return 0;
     }
     let x = r[LIST];
-    move_up(&mut r[LIST..]);
+    move_up(&mut r[LIST..LIST + 2 * s]);
     r[READY] = n - 1;
     x
 }

@@ -149,15 +149,19 @@ encodeDesk S desk =
     ∷ (wordsOfBits markWords (marksOf (desk .tested) ++ replicate (allMarks - length (desk .tested)) false)
     ++ (listOf desk ++ replicate (2 * S - length (listOf desk)) 0))
 
--- the counts, the mark bits and the list places of a record
+-- the used places and the mark bits of a record
 abbrev pub usedIn : List ℕ → ℕ
 usedIn words = getD words readyPlace 0 + getD words testedPlace 0 + getD words waitingPlace 0
 
 abbrev pub marksIn : List ℕ → List Bool
 marksIn words = bitsOfWords (take markWords (drop marksPlace words))
 
+-- its words from the list on, and of these "a list of 2S places", in a hall of S screens
 abbrev pub listIn : List ℕ → List ℕ
 listIn words = drop listPlace words
+
+abbrev pub placesIn : ℕ → List ℕ → List ℕ
+placesIn S words = take (2 * S) (listIn words)
 
 -- and read from words
 unfoldable pub decodeDesk : List ℕ → Desk
@@ -185,8 +189,8 @@ scanSound S (suc tested) k = eqb (k % 2) 0 && (leb 2 k && ltb k S)
 unfoldable pub recordSound : ℕ → List ℕ → Bool
 recordSound S words =
     leb (usedIn words) (2 * S)
-    && (every isSession (take (usedIn words) (listIn words))
-    && (every isNone (drop (usedIn words) (listIn words))
+    && (every isSession (take (usedIn words) (placesIn S words))
+    && (every isNone (drop (usedIn words) (placesIn S words))
     && (eqb (ones (drop (getD words testedPlace 0) (marksIn words))) 0
     && (scanSound S (getD words testedPlace 0) (getD words scannedPlace 0)
     && leb (ones (marksIn words)) (getD words scannedPlace 0)))))

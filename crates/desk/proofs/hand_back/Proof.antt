@@ -1,9 +1,9 @@
 -- `desk::hand_back` meets its contract.
-use Prim.Native.Nat.{ℕ, _-_}
+use Prim.Native.Nat.{ℕ, _+_, _-_, _*_}
 use native.Mathlib.Omega.{arith}
 use mathlib.Core.List.{List}
 use mathlib.Core.Path.{ap, _∙_}
-use lib.ListN.{getD, set, length, drop, length-take, length-drop}
+use lib.ListN.{getD, set, drop, length-take, length-drop}
 use borrow.Author.Needs.{needs}
 use borrow.Rule.Slice.PartMut.{putMid, same-len-mid}
 use Rattle.rules.specs.Table.{listPlace}
@@ -13,36 +13,52 @@ use Rattle.desk.proofs.hand_back.Statement.{statement}
 use Rattle.desk.proofs.hand_back.Tie as tie
 
 slice-read-n : tie.Need-slice-read-n
-slice-read-n c = let a = facts (c .before .before .args .s) (c .before .before .args .r .now) (formed-of (c .before .before .args .s) (c .before .before .args .r .now) (c .before .before .pre)) in omega arith
+slice-read-n c = omega arith
 
 returns : tie.Need-returns
-returns c = (none-ready (c .before .before .before .args .r .now) (c .if1 .taken) ∙ first-handed (c .before .before .before .args .s) (c .before .before .before .args .r .now) (c .before .before .before .pre), hand-none (c .before .before .before .args .s) (c .before .before .before .args .r .now) (formed-of (c .before .before .before .args .s) (c .before .before .before .args .r .now) (c .before .before .before .pre)) (c .if1 .taken) ∙ handed-encoded (c .before .before .before .args .s) (c .before .before .before .args .r .now) (c .before .before .before .pre))
+returns c =
+    let s = c .before .before .before .args .s in
+    let r = c .before .before .before .args .r .now in
+    let e = c .before .before .before .pre in
+    (none-ready r (c .if1 .taken) ∙ first-handed s r e, hand-none s r (formed-of s r e) (c .if1 .taken) ∙ handed-encoded s r e)
 
 slice-read-x : tie.Need-slice-read-x
-slice-read-x c = let a = facts (c .before .before .before .before .args .s) (c .before .before .before .before .args .r .now) (formed-of (c .before .before .before .before .args .s) (c .before .before .before .before .args .r .now) (c .before .before .before .before .pre)) in let z = c .before .if1 .left in omega arith
+slice-read-x c =
+    let a = facts (c .before .before .before .before .args .s) (c .before .before .before .before .args .r .now) (formed-of (c .before .before .before .before .args .s) (c .before .before .before .before .args .r .now) (c .before .before .before .before .pre)) in
+    let z = c .before .if1 .left in
+    omega arith
+
+mul-move-up : tie.Need-mul-move-up
+mul-move-up c = omega arith
+
+add-move-up : tie.Need-add-move-up
+add-move-up c = omega arith
 
 sub-move-up : tie.Need-sub-move-up
-sub-move-up c = let a = facts (c .before .before .before .before .args .s) (c .before .before .before .before .args .r .now) (formed-of (c .before .before .before .before .args .s) (c .before .before .before .before .args .r .now) (c .before .before .before .before .pre)) in omega arith
+sub-move-up c = omega arith
 
 part-move-up-start : tie.Need-part-move-up-start
-part-move-up-start c = let a = facts (c .before .before .before .before .args .s) (c .before .before .before .before .args .r .now) (formed-of (c .before .before .before .before .args .s) (c .before .before .before .before .args .r .now) (c .before .before .before .before .pre)) in omega arith
+part-move-up-start c = omega arith
 
 part-move-up-end : tie.Need-part-move-up-end
-part-move-up-end c = search needs
+part-move-up-end c = omega arith
 
 move-up-requires : tie.Need-move-up-requires
 move-up-requires c κs =
-    let a = facts (c .before .before .before .before .before .args .s) (c .before .before .before .before .before .args .r .now) (formed-of (c .before .before .before .before .before .args .s) (c .before .before .before .before .before .args .r .now) (c .before .before .before .before .before .pre)) in
+    let s = c .before .before .before .before .before .args .s in
+    let r = c .before .before .before .before .before .args .r .now in
+    let a = facts s r (formed-of s r (c .before .before .before .before .before .pre)) in
     let z = c .before .before .if1 .left in
-    omega (arith, length-take (length (c .before .before .before .before .before .args .r .now) - listPlace) (drop listPlace (c .before .before .before .before .before .args .r .now)), length-drop listPlace (c .before .before .before .before .before .args .r .now))
+    omega (arith, length-take (listPlace + 2 * s - listPlace) (drop listPlace r), length-drop listPlace r)
 
 sub-r : tie.Need-sub-r
 sub-r c = search needs
 
 slice-write-r : tie.Need-slice-write-r
 slice-write-r c =
-    let a = facts (c .before .before .before .before .before .before .before .before .args .s) (c .before .before .before .before .before .before .before .before .args .r .now) (formed-of (c .before .before .before .before .before .before .before .before .args .s) (c .before .before .before .before .before .before .before .before .args .r .now) (c .before .before .before .before .before .before .before .before .pre)) in
-    let e = same-len-mid {X = ℕ} listPlace (length (c .before .before .before .before .before .before .before .before .args .r .now) - listPlace) (c .before .before .before .before .before .before .before .before .args .r .now) (c .before .before .move-up .last .0) (c .before .before .move-up .kept .0) in
+    let s = c .before .before .before .before .before .before .before .before .args .s in
+    let r = c .before .before .before .before .before .before .before .before .args .r .now in
+    let e = same-len-mid {X = ℕ} listPlace (listPlace + 2 * s - listPlace) r (c .before .before .move-up .last .0) (c .before .before .move-up .kept .0) in
     omega arith
 
 same-length : tie.Need-same-length
@@ -50,10 +66,11 @@ same-length c = search needs
 
 returns-2 : tie.Need-returns-2
 returns-2 c =
+    let s = c .before .before .before .before .before .before .before .before .args .s in
     let r = c .before .before .before .before .before .before .before .before .args .r .now in
-    let a = facts (c .before .before .before .before .before .before .before .before .args .s) r (formed-of (c .before .before .before .before .before .before .before .before .args .s) (c .before .before .before .before .before .before .before .before .args .r .now) (c .before .before .before .before .before .before .before .before .pre)) in
+    let e = c .before .before .before .before .before .before .before .before .pre in
     let z = c .before .before .before .before .before .if1 .left in
-    (first-ready r (omega arith) ∙ first-handed (c .before .before .before .before .before .before .before .before .args .s) (c .before .before .before .before .before .before .before .before .args .r .now) (c .before .before .before .before .before .before .before .before .pre), ap (λ (y : List ℕ). set (putMid listPlace (length r - listPlace) r y) 2 (getD r 2 0 - 1)) (c .before .before .move-up .ensures) ∙ hand-stores (c .before .before .before .before .before .before .before .before .args .s) r (formed-of (c .before .before .before .before .before .before .before .before .args .s) (c .before .before .before .before .before .before .before .before .args .r .now) (c .before .before .before .before .before .before .before .before .pre)) (omega arith) ∙ handed-encoded (c .before .before .before .before .before .before .before .before .args .s) (c .before .before .before .before .before .before .before .before .args .r .now) (c .before .before .before .before .before .before .before .before .pre))
+    (first-ready r (omega arith) ∙ first-handed s r e, ap (λ (y : List ℕ). set (putMid listPlace (listPlace + 2 * s - listPlace) r y) 2 (getD r 2 0 - 1)) (c .before .before .move-up .ensures) ∙ hand-stores s r (formed-of s r e) (omega arith) ∙ handed-encoded s r e)
 
 pub hand-back-spec : {M : Type 1} → statement M
 hand-back-spec =
@@ -62,6 +79,8 @@ hand-back-spec =
     slice-read-n
     returns
     slice-read-x
+    mul-move-up
+    add-move-up
     sub-move-up
     part-move-up-start
     part-move-up-end

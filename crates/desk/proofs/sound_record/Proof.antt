@@ -64,13 +64,19 @@ returns-2 c =
     let n = c .before .before .before .before .before .word2 .result + c .before .before .before .before .before .before .word .result + c .before .before .before .before .word3 .result in
     let et : t ≡ getD r 3 0 = c .before .before .before .before .before .before .word .ensures .0 in
     let en : n ≡ used r = omega (arith, c .before .before .before .before .before .before .word .ensures .0, c .before .before .before .before .before .word2 .ensures .0, c .before .before .before .before .word3 .ensures .0) in
-    rw (← sound-of s r (λ i. c .before .before .before .before .before .before .before .shared-slice-known .given i .fits)) (simp (room s r n t en et (c .before .before .before .if1 .left), used-part s r n t en et (c .before .none-zero .ensures) (not-true (c .if2 .taken))))
+    rw (← sound-of s r (λ i. c .before .before .before .before .before .before .before .shared-slice-known .given i .fits)) (simp (room s r n t en et (c .before .before .before .if1 .left), used-part s r n t en et (c .before .before .before .if1 .left) (c .before .none-zero .ensures) (not-true (c .if2 .taken))))
 
 add-all-zero : tie.Need-add-all-zero
 add-all-zero c = search needs
 
 mul-all-zero : tie.Need-mul-all-zero
 mul-all-zero c = search needs
+
+add-all-zero-2 : tie.Need-add-all-zero-2
+add-all-zero-2 c = search needs
+
+mul-all-zero-2 : tie.Need-mul-all-zero-2
+mul-all-zero-2 c = search needs
 
 sub-all-zero : tie.Need-sub-all-zero
 sub-all-zero c = search needs
@@ -93,7 +99,7 @@ returns-3 c =
     let n = c .before .before .before .before .before .before .before .before .word2 .result + c .before .before .before .before .before .before .before .before .before .word .result + c .before .before .before .before .before .before .before .word3 .result in
     let et : t ≡ getD r 3 0 = c .before .before .before .before .before .before .before .before .before .word .ensures .0 in
     let en : n ≡ used r = omega (arith, c .before .before .before .before .before .before .before .before .before .word .ensures .0, c .before .before .before .before .before .before .before .before .word2 .ensures .0, c .before .before .before .before .before .before .before .word3 .ensures .0) in
-    rw (← sound-of s r (λ i. c .before .before .before .before .before .before .before .before .before .before .shared-slice-known .given i .fits)) (simp (room s r n t en et (c .before .before .before .before .before .before .if1 .left), used-part s r n t en et (c .before .before .before .before .none-zero .ensures) (not-false (c .before .before .before .if2 .left)), free-part s r n t en et (c .before .all-zero .ensures) (not-true (c .if3 .taken))))
+    rw (← sound-of s r (λ i. c .before .before .before .before .before .before .before .before .before .before .shared-slice-known .given i .fits)) (simp (room s r n t en et (c .before .before .before .before .before .before .if1 .left), used-part s r n t en et (c .before .before .before .before .before .before .if1 .left) (c .before .before .before .before .none-zero .ensures) (not-false (c .before .before .before .if2 .left)), free-part s r n t en et (c .before .before .before .before .before .before .if1 .left) (c .before .before .before .before .before .before .before .before .before .before .before .pre .1) (c .before .all-zero .ensures) (not-true (c .if3 .taken))))
 
 word-requires-4 : tie.Need-word-requires-4
 word-requires-4 c κs = search needs
@@ -110,7 +116,7 @@ returns-4 c =
     let n = c .before .before .before .before .before .before .before .before .before .before .before .word2 .result + c .before .before .before .before .before .before .before .before .before .before .before .before .word .result + c .before .before .before .before .before .before .before .before .before .before .word3 .result in
     let et : t ≡ getD r 3 0 = c .before .before .before .before .before .before .before .before .before .before .before .before .word .ensures .0 in
     let en : n ≡ used r = omega (arith, c .before .before .before .before .before .before .before .before .before .before .before .before .word .ensures .0, c .before .before .before .before .before .before .before .before .before .before .before .word2 .ensures .0, c .before .before .before .before .before .before .before .before .before .before .word3 .ensures .0) in
-    rw (← sound-of s r (λ i. c .before .before .before .before .before .before .before .before .before .before .before .before .before .shared-slice-known .given i .fits)) (simp (room s r n t en et (c .before .before .before .before .before .before .before .before .before .if1 .left), used-part s r n t en et (c .before .before .before .before .before .before .before .none-zero .ensures) (not-false (c .before .before .before .before .before .before .if2 .left)), free-part s r n t en et (c .before .before .before .before .all-zero .ensures) (not-false (c .before .before .before .if3 .left)), read-part s r n t en et (c .before .before .word4 .result) (c .before .before .word4 .ensures .0) (c .before .sound-scan .ensures) (not-true (c .if4 .taken)), &&-false))
+    rw (← sound-of s r (λ i. c .before .before .before .before .before .before .before .before .before .before .before .before .before .shared-slice-known .given i .fits)) (simp (room s r n t en et (c .before .before .before .before .before .before .before .before .before .if1 .left), used-part s r n t en et (c .before .before .before .before .before .before .before .before .before .if1 .left) (c .before .before .before .before .before .before .before .none-zero .ensures) (not-false (c .before .before .before .before .before .before .if2 .left)), free-part s r n t en et (c .before .before .before .before .before .before .before .before .before .if1 .left) (c .before .before .before .before .before .before .before .before .before .before .before .before .before .before .pre .1) (c .before .before .before .before .all-zero .ensures) (not-false (c .before .before .before .if3 .left)), read-part s r n t en et (c .before .before .word4 .result) (c .before .before .word4 .ensures .0) (c .before .sound-scan .ensures) (not-true (c .if4 .taken)), &&-false))
 
 sub-few-marks : tie.Need-sub-few-marks
 sub-few-marks c = search needs
@@ -133,8 +139,8 @@ returns-5 c =
     let n = c .before .before .before .before .before .before .before .before .before .before .before .before .before .word2 .result + c .before .before .before .before .before .before .before .before .before .before .before .before .before .before .word .result + c .before .before .before .before .before .before .before .before .before .before .before .before .word3 .result in
     let et : t ≡ getD r 3 0 = c .before .before .before .before .before .before .before .before .before .before .before .before .before .before .word .ensures .0 in
     let en : n ≡ used r = omega (arith, c .before .before .before .before .before .before .before .before .before .before .before .before .before .before .word .ensures .0, c .before .before .before .before .before .before .before .before .before .before .before .before .before .word2 .ensures .0, c .before .before .before .before .before .before .before .before .before .before .before .before .word3 .ensures .0) in
-    rw (← sound-of s r (λ i. c .before .before .before .before .before .before .before .before .before .before .before .before .before .before .before .shared-slice-known .given i .fits)) (simp (room s r n t en et (c .before .before .before .before .before .before .before .before .before .before .before .if1 .left), used-part s r n t en et (c .before .before .before .before .before .before .before .before .before .none-zero .ensures) (not-false (c .before .before .before .before .before .before .before .before .if2 .left)), free-part s r n t en et (c .before .before .before .before .before .before .all-zero .ensures) (not-false (c .before .before .before .before .before .if3 .left)), read-part s r n t en et (c .before .before .before .before .word4 .result) (c .before .before .before .before .word4 .ensures .0) (c .before .before .before .sound-scan .ensures) (not-false (c .before .before .if4 .left)), &&-true) (marks-part s r n t en et (c .before .before .before .before .word4 .result) (c .before .before .before .before .word4 .ensures .0) (c .few-marks .ensures)))
+    rw (← sound-of s r (λ i. c .before .before .before .before .before .before .before .before .before .before .before .before .before .before .before .shared-slice-known .given i .fits)) (simp (room s r n t en et (c .before .before .before .before .before .before .before .before .before .before .before .if1 .left), used-part s r n t en et (c .before .before .before .before .before .before .before .before .before .before .before .if1 .left) (c .before .before .before .before .before .before .before .before .before .none-zero .ensures) (not-false (c .before .before .before .before .before .before .before .before .if2 .left)), free-part s r n t en et (c .before .before .before .before .before .before .before .before .before .before .before .if1 .left) (c .before .before .before .before .before .before .before .before .before .before .before .before .before .before .before .before .pre .1) (c .before .before .before .before .before .before .all-zero .ensures) (not-false (c .before .before .before .before .before .if3 .left)), read-part s r n t en et (c .before .before .before .before .word4 .result) (c .before .before .before .before .word4 .ensures .0) (c .before .before .before .sound-scan .ensures) (not-false (c .before .before .if4 .left)), &&-true) (marks-part s r n t en et (c .before .before .before .before .word4 .result) (c .before .before .before .before .word4 .ensures .0) (c .few-marks .ensures)))
 
 pub sound-record-spec : {M : Type 1} → statement M
 sound-record-spec =
-    tie.close (tie.spec word-requires word-requires-2 add-n word-requires-3 add-n-2 mul-if1 returns add-none-zero sub-none-zero part-none-zero-start part-none-zero-end none-zero-requires returns-2 add-all-zero mul-all-zero sub-all-zero part-all-zero-start part-all-zero-end all-zero-requires returns-3 word-requires-4 sound-scan-requires returns-4 sub-few-marks part-few-marks-start part-few-marks-end few-marks-requires returns-5)
+    tie.close (tie.spec word-requires word-requires-2 add-n word-requires-3 add-n-2 mul-if1 returns add-none-zero sub-none-zero part-none-zero-start part-none-zero-end none-zero-requires returns-2 add-all-zero mul-all-zero add-all-zero-2 mul-all-zero-2 sub-all-zero part-all-zero-start part-all-zero-end all-zero-requires returns-3 word-requires-4 sound-scan-requires returns-4 sub-few-marks part-few-marks-start part-few-marks-end few-marks-requires returns-5)

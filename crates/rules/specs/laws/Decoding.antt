@@ -6,7 +6,7 @@ use mathlib.Core.Path.{_≡_, refl, sym, ap, ap₂, _∙_, subst}
 use mathlib.Core.Bool.{Bool, true, false, not, _&&_}
 use mathlib.Core.List.{List, [], _∷_, _++_, map, append-assoc}
 use lib.ListN.{length, getD, take, drop, replicate, length-append, length-drop, take-append-drop}
-use lib.Seq.{take-add, length-take-le, drop-drop, drop-cons, getD-drop, take-at, drop-at}
+use lib.Seq.{take-add, take-all, take-take, length-take-le, drop-drop, drop-cons, getD-drop, take-at, drop-at}
 use lib.Dec.{leb, eqb}
 use borrow.Author.Tests.{eqb-true, eqb-false, leb-true}
 use Rattle.rules.specs.Hall.{Hall, TestedPlace, allScreens, mostAllScreens, mostDesks, mostPositions, mostScreens}
@@ -77,7 +77,7 @@ zeros (x ∷ xs) h = by-cases (eqb x 0) refl h (zeros xs)
     by-cases false q e ih = let z : _≡_ {A = ℕ} 0 1 = cc in absurd (omega arith)
 
 -- A desk's record, in its parts: a ready, b tested and c waiting sessions on the list l, and the mark bits u.
-module _ (S a b c : ℕ) (l : List ℕ) (u : List Bool) (hl : length l ≡ 2 * S) (hu : length u ≡ allMarks) (hS : S ≤ mostAllScreens) (h : a + b + c ≤ 2 * S) where
+module _ (S a b c : ℕ) (l : List ℕ) (u : List Bool) (hl : 2 * S ≤ length l) (hu : length u ≡ allMarks) (hS : S ≤ mostAllScreens) (h : a + b + c ≤ 2 * S) where
   abbrev rd : List ℕ
   rd = take a l
 
@@ -109,31 +109,34 @@ module _ (S a b c : ℕ) (l : List ℕ) (u : List Bool) (hl : length l ≡ 2 * S
       ap (λ (x : List ℕ). rd ++ (x ++ wd)) (sessions-of-places (take b (drop a l)) (take b u))
       ∙ sym (take-add (a + b) c l ∙ ap (λ (x : List ℕ). x ++ wd) (take-add a b l) ∙ append-assoc (take a l) (take b (drop a l)) wd)
 
-  list-again : every (λ x. eqb x 0) (drop (a + b + c) l) ≡ true
-      → (rd ++ (sessionsOf td ++ wd)) ++ replicate (2 * S - length (rd ++ (sessionsOf td ++ wd))) 0 ≡ l
+  list-again : every (λ x. eqb x 0) (drop (a + b + c) (take (2 * S) l)) ≡ true
+      → (rd ++ (sessionsOf td ++ wd)) ++ replicate (2 * S - length (rd ++ (sessionsOf td ++ wd))) 0 ≡ take (2 * S) l
   list-again e =
-      let n : length (drop (a + b + c) l) ≡ 2 * S - length (rd ++ (sessionsOf td ++ wd)) =
-      omega (arith, length-drop (a + b + c) l, ap length list-parts, length-take-le (a + b + c) l (omega arith)) in
-      ap₂ {C = List ℕ} (λ x y. x ++ y) list-parts (ap (λ (m : ℕ). replicate {A = ℕ} m 0) (sym n) ∙ sym (zeros (drop (a + b + c) l) e))
-      ∙ take-append-drop (a + b + c) l
+      let p : List ℕ = take (2 * S) l in
+      let n : length (drop (a + b + c) p) ≡ 2 * S - length (rd ++ (sessionsOf td ++ wd)) =
+      omega (arith, length-drop (a + b + c) p, length-take-le (2 * S) l hl, ap length list-parts, length-take-le (a + b + c) l (omega arith)) in
+      ap₂ {C = List ℕ} (λ x y. x ++ y) (list-parts ∙ sym (take-take (a + b + c) (2 * S) l h)) (ap (λ (m : ℕ). replicate {A = ℕ} m 0) (sym n) ∙ sym (zeros (drop (a + b + c) p) e))
+      ∙ take-append-drop (a + b + c) p
 
 pub record-encoded-again : (S o k a b c m0 m1 m2 m3 m4 m5 m6 m7 : ℕ) (l : List ℕ) → length l ≡ 2 * S → S ≤ mostAllScreens → Small (m0 ∷ m1 ∷ m2 ∷ m3 ∷ m4 ∷ m5 ∷ m6 ∷ m7 ∷ [])
     → recordSound S (o ∷ k ∷ a ∷ b ∷ c ∷ m0 ∷ m1 ∷ m2 ∷ m3 ∷ m4 ∷ m5 ∷ m6 ∷ m7 ∷ l) ≡ true
     → encodeDesk S (decodeDesk (o ∷ k ∷ a ∷ b ∷ c ∷ m0 ∷ m1 ∷ m2 ∷ m3 ∷ m4 ∷ m5 ∷ m6 ∷ m7 ∷ l)) ≡ o ∷ k ∷ a ∷ b ∷ c ∷ m0 ∷ m1 ∷ m2 ∷ m3 ∷ m4 ∷ m5 ∷ m6 ∷ m7 ∷ l
 unfolding encodeDesk decodeDesk recordSound
-record-encoded-again S o k a b c m0 m1 m2 m3 m4 m5 m6 m7 l hl hS sm h =
+record-encoded-again S o k a b c m0 m1 m2 m3 m4 m5 m6 m7 l el hS sm h =
+    let hl : 2 * S ≤ length l = omega arith in
+    let p : List ℕ = take (2 * S) l in
     let ws : List ℕ = m0 ∷ m1 ∷ m2 ∷ m3 ∷ m4 ∷ m5 ∷ m6 ∷ m7 ∷ [] in
     let h0 : a + b + c ≤ 2 * S = leb-true (a + b + c) (2 * S) (and-left (leb (a + b + c) (2 * S)) (n1 ws) h) in
     let h1 : n1 ws ≡ true = and-right (leb (a + b + c) (2 * S)) (n1 ws) h in
-    let h2 : n2 ws ≡ true = and-right (every (λ x. not (eqb x 0)) (take (a + b + c) l)) (n2 ws) h1 in
-    let hz : every (λ x. eqb x 0) (drop (a + b + c) l) ≡ true = and-left (every (λ x. eqb x 0) (drop (a + b + c) l)) (n3 ws) h2 in
-    let h3 : n3 ws ≡ true = and-right (every (λ x. eqb x 0) (drop (a + b + c) l)) (n3 ws) h2 in
+    let h2 : n2 ws ≡ true = and-right (every (λ x. not (eqb x 0)) (take (a + b + c) p)) (n2 ws) h1 in
+    let hz : every (λ x. eqb x 0) (drop (a + b + c) p) ≡ true = and-left (every (λ x. eqb x 0) (drop (a + b + c) p)) (n3 ws) h2 in
+    let h3 : n3 ws ≡ true = and-right (every (λ x. eqb x 0) (drop (a + b + c) p)) (n3 ws) h2 in
     let ho : ones (drop b (bitsOfWords ws)) ≡ 0 =
     eqb-true (ones (drop b (bitsOfWords ws))) 0 (and-left (eqb (ones (drop b (bitsOfWords ws))) 0) (n4 ws) h3) in
     let hu : length (bitsOfWords ws) ≡ allMarks = length-bits-of-words ws in
     let q : wordsOfBits markWords (bitsOfWords ws) ≡ ws = words-of-bits-of-words ws sm in
     (λ i. o ∷ k ∷ ready-length S a b c l (bitsOfWords ws) hl hu hS h0 i ∷ tested-length S a b c l (bitsOfWords ws) hl hu hS h0 i ∷ waiting-length S a b c l (bitsOfWords ws) hl hu hS h0 i ∷ (wordsOfBits markWords (marks-again S a b c l (bitsOfWords ws) hl hu hS h0 ho i) ++ list-again S a b c l (bitsOfWords ws) hl hu hS h0 hz i))
-    ∙ ap {B = List ℕ} (λ x. o ∷ k ∷ a ∷ b ∷ c ∷ (x ++ l)) q
+    ∙ ap₂ {C = List ℕ} (λ x y. o ∷ k ∷ a ∷ b ∷ c ∷ (x ++ y)) q (take-all (2 * S) l (omega arith))
   where
     n4 : List ℕ → Bool
     n4 v = scanSound S b k && leb (ones (bitsOfWords v)) k
@@ -142,10 +145,10 @@ record-encoded-again S o k a b c m0 m1 m2 m3 m4 m5 m6 m7 l hl hS sm h =
     n3 v = eqb (ones (drop b (bitsOfWords v))) 0 && n4 v
 
     n2 : List ℕ → Bool
-    n2 v = every (λ x. eqb x 0) (drop (a + b + c) l) && n3 v
+    n2 v = every (λ x. eqb x 0) (drop (a + b + c) (take (2 * S) l)) && n3 v
 
     n1 : List ℕ → Bool
-    n1 v = every (λ x. not (eqb x 0)) (take (a + b + c) l) && n2 v
+    n1 v = every (λ x. not (eqb x 0)) (take (a + b + c) (take (2 * S) l)) && n2 v
 
 parts : (r : List ℕ) → listPlace ≤ length r
     → r ≡ getD r 0 0 ∷ getD r 1 0 ∷ getD r 2 0 ∷ getD r 3 0 ∷ getD r 4 0 ∷ getD r 5 0 ∷ getD r 6 0 ∷ getD r 7 0 ∷ getD r 8 0 ∷ getD r 9 0 ∷ getD r 10 0 ∷ getD r 11 0 ∷ getD r 12 0 ∷ drop listPlace r

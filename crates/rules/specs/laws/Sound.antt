@@ -4,8 +4,8 @@ use native.Mathlib.Omega.{arith}
 use mathlib.Core.Path.{_≡_, refl, ap, _∙_}
 use mathlib.Core.Bool.{Bool, true, false, not, _&&_}
 use mathlib.Core.List.{List, [], _∷_, _++_, map}
-use lib.ListN.{length, drop, replicate, length-append}
-use lib.Seq.{take-at, drop-at}
+use lib.ListN.{length, take, drop, replicate, length-append, length-replicate}
+use lib.Seq.{take-all, take-at, drop-at}
 use lib.Dec.{leb, ltb, eqb}
 use borrow.Author.Tests.{eq-eqb, ne-eqb, le-leb, lt-ltb}
 use Rattle.rules.specs.Hall.{Desk, TestedPlace, marked, mostAllScreens, unmarked, usedPlaces}
@@ -141,14 +141,17 @@ pub encoded-sound : (S : ℕ) (D : Desk) → S ≤ mostAllScreens → Sound S D 
 unfolding encodeDesk recordSound
 encoded-sound S D h s =
     and-true _ _ (le-leb (usedPlaces D) (2 * S) (s .total))
-    (and-true _ _ (ap (every (λ x. not (eqb x 0))) (take-at (listOf D) pad (usedPlaces D) (length-list D)) ∙ every-real (listOf D) (copies-list 0 D ∙ s .real))
-    (and-true _ _ (ap (every (λ x. eqb x 0)) (drop-at (listOf D) pad (usedPlaces D) (length-list D)) ∙ every-zero (2 * S - length (listOf D)))
+    (and-true _ _ (ap (every (λ x. not (eqb x 0))) (ap (take (usedPlaces D)) all ∙ take-at (listOf D) pad (usedPlaces D) (length-list D)) ∙ every-real (listOf D) (copies-list 0 D ∙ s .real))
+    (and-true _ _ (ap (every (λ x. eqb x 0)) (ap (drop (usedPlaces D)) all ∙ drop-at (listOf D) pad (usedPlaces D) (length-list D)) ∙ every-zero (2 * S - length (listOf D)))
     (and-true _ _ (eq-eqb _ 0 (ap (λ (b : List Bool). ones (drop (length (D .tested)) b)) mk ∙ ap ones (drop-at (marksOf (D .tested)) (replicate (allMarks - length (D .tested)) false) (length (D .tested)) (length-marks (D .tested))) ∙ ones-none (allMarks - length (D .tested))))
     (and-true _ _ (pass-true S (D .scanned) (D .tested) (s .pass))
     (le-leb _ (D .scanned) (rw (ap ones mk) few))))))
   where
     pad : List ℕ
     pad = replicate (2 * S - length (listOf D)) 0
+
+    all : take (2 * S) (listOf D ++ pad) ≡ listOf D ++ pad
+    all = take-all (2 * S) (listOf D ++ pad) (omega (arith, s .total, length-list D, length-append (listOf D) pad, length-replicate {A = ℕ} (2 * S - length (listOf D)) 0))
 
     mk : bitsOfWords (wordsOfBits markWords (marksOf (D .tested) ++ replicate (allMarks - length (D .tested)) false)) ≡ marksOf (D .tested) ++ replicate (allMarks - length (D .tested)) false
     mk = marks-read-back (D .tested) (omega (arith, s .total))

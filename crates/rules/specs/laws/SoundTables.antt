@@ -5,7 +5,7 @@ use mathlib.Core.Path.{_≡_, refl, sym, ap, _∙_}
 use mathlib.Core.Bool.{Bool, true, false, not, _&&_}
 use mathlib.Core.List.{List, [], _∷_, _++_, map}
 use lib.ListN.{length, getD, take, drop, length-drop, length-map, take-append-drop}
-use lib.Seq.{length-take-le}
+use lib.Seq.{length-take-le, take-take}
 use lib.Dec.{leb, ltb, eqb, T}
 use borrow.Author.Tests.{leb-true, eqb-true, eqb-false, ltb-true}
 use Rattle.rules.specs.Hall.{Hall, TestedPlace, allScreens, mostAllScreens}
@@ -51,8 +51,8 @@ desk-sound S r lr hS e =
     let l : List ℕ = drop listPlace r in
     let u : List Bool = bitsOfWords (take markWords (drop marksPlace r)) in
     let q1 = leb (a + b + c) (2 * S) in
-    let q2 = every (λ x. not (eqb x 0)) (take (a + b + c) l) in
-    let q3 = every (λ x. eqb x 0) (drop (a + b + c) l) in
+    let q2 = every (λ x. not (eqb x 0)) (take (a + b + c) (take (2 * S) l)) in
+    let q3 = every (λ x. eqb x 0) (drop (a + b + c) (take (2 * S) l)) in
     let q4 = eqb (ones (drop b u)) 0 in
     let q5 = scanSound S b k in
     let q6 = leb (ones u) k in
@@ -61,7 +61,7 @@ desk-sound S r lr hS e =
     let e3 = and-right q3 (q4 && (q5 && q6)) e2 in
     let e4 = and-right q4 (q5 && q6) e3 in
     let h0 : a + b + c ≤ 2 * S = leb-true (a + b + c) (2 * S) (and-left q1 (q2 && (q3 && (q4 && (q5 && q6)))) e) in
-    let hl : length l ≡ 2 * S = omega (arith, length-drop listPlace r) in
+    let hl : 2 * S ≤ length l = omega (arith, length-drop listPlace r) in
     let hu : length u ≡ allMarks = omega (arith, length-bits-of-words (take markWords (drop marksPlace r)), length-take-le markWords (drop marksPlace r) (omega (arith, length-drop marksPlace r))) in
     let T : List TestedPlace = placesOf (take b (drop a l)) (take b u) in
     let f =
@@ -72,8 +72,8 @@ desk-sound S r lr hS e =
     record {
       total = omega (arith, ready-length S a b c l u hl hu hS h0, tested-length S a b c l u hl hu hS h0, waiting-length S a b c l u hl hu hS h0);
       real =
-          sym (copies-list 0 (decodeDesk r)) ∙ ap (copies 0) (list-parts S a b c l u hl hu hS h0)
-          ∙ real-cnt (take (a + b + c) l) (and-left q2 (q3 && (q4 && (q5 && q6))) e1);
+          sym (copies-list 0 (decodeDesk r)) ∙ ap (copies 0) (list-parts S a b c l u hl hu hS h0 ∙ sym (take-take (a + b + c) (2 * S) l h0))
+          ∙ real-cnt (take (a + b + c) (take (2 * S) l)) (and-left q2 (q3 && (q4 && (q5 && q6))) e1);
       pass = pass-of S b k T (tested-length S a b c l u hl hu hS h0) (and-left q5 q6 e4) m;
     }
 
