@@ -2,7 +2,7 @@
 use Prim.Native.Nat.{ℕ, zero, suc, _+_, _*_, _-_, _/_, _%_, _^_, _≤_, _<_}
 use native.Mathlib.Omega.{arith}
 use native.Mathlib.Nat.{mul-le-mul}
-use mathlib.Core.Path.{_≡_, refl, sym, ap, ap₂, _∙_, subst}
+use mathlib.Core.Path.{_≡_, refl, sym, ap, ap₂, _∙_}
 use mathlib.Core.Bool.{Bool, true, false, not, _&&_}
 use mathlib.Core.List.{List, [], _∷_, _++_, map, append-assoc}
 use lib.ListN.{length, getD, take, drop, replicate, length-append, length-drop, take-append-drop}
@@ -13,7 +13,8 @@ use Rattle.rules.specs.Hall.{Hall, TestedPlace, allScreens, mostAllScree
 use Rattle.rules.specs.Steps.{inRange}
 use Rattle.rules.specs.Table.{allMarks, bitValue, bitsOfWord, bitsOfWords, decode, decodeDesk, encode, encodeDesk, every, everyRecord, hallIn, joined}
 use Rattle.rules.specs.Table.{marksOf, need, ones, pieces, placesOf, recordSound, recordWidth, recordsIn, scanSound, sessionsOf, sound}
-use Rattle.rules.specs.Table.{headerWords, listPlace, markWords, widthFor, wordOfBits, wordsOfBits}
+use Rattle.rules.specs.Table.{headerWords, listIn, listPlace, markWords, marksIn, marksPlace, placesIn, scannedPlace, testedPlace, usedIn, widthFor}
+use Rattle.rules.specs.Table.{wordOfBits, wordsOfBits}
 use Rattle.rules.specs.laws.Bools.{and-left, and-right}
 use Rattle.rules.specs.laws.Effect.{in-range}
 
@@ -27,7 +28,7 @@ length-bits : (n w : ℕ) → length (bitsOfWord n w) ≡ n
 length-bits zero w = refl
 length-bits (suc n) w = ap suc (length-bits n (w / 2))
 
-pub length-bits-of-words : (ws : List ℕ) → length (bitsOfWords ws) ≡ length ws * 16
+length-bits-of-words : (ws : List ℕ) → length (bitsOfWords ws) ≡ length ws * 16
 length-bits-of-words [] = refl
 length-bits-of-words (w ∷ ws) = omega (arith, length-append (bitsOfWord 16 w) (bitsOfWords ws), length-bits 16 w, length-bits-of-words ws)
 
@@ -39,14 +40,10 @@ word-bits (suc n) w h = by-cases (eqb (w % 2) 1) refl (word-bits n (w / 2) (omeg
     by-cases true q e = omega (arith, eqb-true (w % 2) 1 q)
     by-cases false q e = omega (arith, eqb-false (w % 2) 1 q)
 
-abbrev Small : List ℕ → Type 0
-Small [] = Unit {0}
-Small (w ∷ ws) = (w < 65536) × Small ws
-
-words-of-bits-of-words : (ws : List ℕ) → Small ws → wordsOfBits (length ws) (bitsOfWords ws) ≡ ws
+words-of-bits-of-words : (ws : List ℕ) → ((i : ℕ) → getD ws i 0 < 65536) → wordsOfBits (length ws) (bitsOfWords ws) ≡ ws
 words-of-bits-of-words [] h = refl
 words-of-bits-of-words (w ∷ ws) h =
-    λ i. (ap wordOfBits (take-at (bitsOfWord 16 w) (bitsOfWords ws) 16 (length-bits 16 w)) ∙ word-bits 16 w (h .0)) i ∷ (ap (wordsOfBits (length ws)) (drop-at (bitsOfWord 16 w) (bitsOfWords ws) 16 (length-bits 16 w)) ∙ words-of-bits-of-words ws (h .1)) i
+    λ i. (ap wordOfBits (take-at (bitsOfWord 16 w) (bitsOfWords ws) 16 (length-bits 16 w)) ∙ word-bits 16 w (h 0)) i ∷ (ap (wordsOfBits (length ws)) (drop-at (bitsOfWord 16 w) (bitsOfWords ws) 16 (length-bits 16 w)) ∙ words-of-bits-of-words ws (λ j. h (suc j))) i
 
 -- places
 sessions-of-places : (xs : List ℕ) (bs : List Bool) → sessionsOf (placesOf xs bs) ≡ xs
@@ -118,52 +115,36 @@ module _ (S a b c : ℕ) (l : List ℕ) (u : List Bool) (hl : 2 * S ≤ length l
       ap₂ {C = List ℕ} (λ x y. x ++ y) (list-parts ∙ sym (take-take (a + b + c) (2 * S) l h)) (ap (λ (m : ℕ). replicate {A = ℕ} m 0) (sym n) ∙ sym (zeros (drop (a + b + c) p) e))
       ∙ take-append-drop (a + b + c) p
 
-pub record-encoded-again : (S o k a b c m0 m1 m2 m3 m4 m5 m6 m7 : ℕ) (l : List ℕ) → length l ≡ 2 * S → S ≤ mostAllScreens → Small (m0 ∷ m1 ∷ m2 ∷ m3 ∷ m4 ∷ m5 ∷ m6 ∷ m7 ∷ [])
-    → recordSound S (o ∷ k ∷ a ∷ b ∷ c ∷ m0 ∷ m1 ∷ m2 ∷ m3 ∷ m4 ∷ m5 ∷ m6 ∷ m7 ∷ l) ≡ true
-    → encodeDesk S (decodeDesk (o ∷ k ∷ a ∷ b ∷ c ∷ m0 ∷ m1 ∷ m2 ∷ m3 ∷ m4 ∷ m5 ∷ m6 ∷ m7 ∷ l)) ≡ o ∷ k ∷ a ∷ b ∷ c ∷ m0 ∷ m1 ∷ m2 ∷ m3 ∷ m4 ∷ m5 ∷ m6 ∷ m7 ∷ l
-unfolding encodeDesk decodeDesk recordSound
-record-encoded-again S o k a b c m0 m1 m2 m3 m4 m5 m6 m7 l el hS sm h =
-    let hl : 2 * S ≤ length l = omega arith in
-    let p : List ℕ = take (2 * S) l in
-    let ws : List ℕ = m0 ∷ m1 ∷ m2 ∷ m3 ∷ m4 ∷ m5 ∷ m6 ∷ m7 ∷ [] in
-    let h0 : a + b + c ≤ 2 * S = leb-true (a + b + c) (2 * S) (and-left (leb (a + b + c) (2 * S)) (n1 ws) h) in
-    let h1 : n1 ws ≡ true = and-right (leb (a + b + c) (2 * S)) (n1 ws) h in
-    let h2 : n2 ws ≡ true = and-right (every (λ x. not (eqb x 0)) (take (a + b + c) p)) (n2 ws) h1 in
-    let hz : every (λ x. eqb x 0) (drop (a + b + c) p) ≡ true = and-left (every (λ x. eqb x 0) (drop (a + b + c) p)) (n3 ws) h2 in
-    let h3 : n3 ws ≡ true = and-right (every (λ x. eqb x 0) (drop (a + b + c) p)) (n3 ws) h2 in
-    let ho : ones (drop b (bitsOfWords ws)) ≡ 0 =
-    eqb-true (ones (drop b (bitsOfWords ws))) 0 (and-left (eqb (ones (drop b (bitsOfWords ws))) 0) (n4 ws) h3) in
-    let hu : length (bitsOfWords ws) ≡ allMarks = length-bits-of-words ws in
-    let q : wordsOfBits markWords (bitsOfWords ws) ≡ ws = words-of-bits-of-words ws sm in
-    (λ i. o ∷ k ∷ ready-length S a b c l (bitsOfWords ws) hl hu hS h0 i ∷ tested-length S a b c l (bitsOfWords ws) hl hu hS h0 i ∷ waiting-length S a b c l (bitsOfWords ws) hl hu hS h0 i ∷ (wordsOfBits markWords (marks-again S a b c l (bitsOfWords ws) hl hu hS h0 ho i) ++ list-again S a b c l (bitsOfWords ws) hl hu hS h0 hz i))
-    ∙ ap₂ {C = List ℕ} (λ x y. o ∷ k ∷ a ∷ b ∷ c ∷ (x ++ y)) q (take-all (2 * S) l (omega arith))
-  where
-    n4 : List ℕ → Bool
-    n4 v = scanSound S b k && leb (ones (bitsOfWords v)) k
+-- ---- A record that passes the test.
+pub record Passed (S : ℕ) (r : List ℕ) : Type 0 where
+  pub room : usedIn r ≤ 2 * S
+  pub full : every (λ x. not (eqb x 0)) (take (usedIn r) (placesIn S r)) ≡ true
+  pub free : every (λ x. eqb x 0) (drop (usedIn r) (placesIn S r)) ≡ true
+  pub unmarked : ones (drop (getD r testedPlace 0) (marksIn r)) ≡ 0
+  pub scan : scanSound S (getD r testedPlace 0) (getD r scannedPlace 0) ≡ true
+  pub few : ones (marksIn r) ≤ getD r scannedPlace 0
 
-    n3 : List ℕ → Bool
-    n3 v = eqb (ones (drop b (bitsOfWords v))) 0 && n4 v
-
-    n2 : List ℕ → Bool
-    n2 v = every (λ x. eqb x 0) (drop (a + b + c) (take (2 * S) l)) && n3 v
-
-    n1 : List ℕ → Bool
-    n1 v = every (λ x. not (eqb x 0)) (take (a + b + c) (take (2 * S) l)) && n2 v
-
-parts : (r : List ℕ) → listPlace ≤ length r
-    → r ≡ getD r 0 0 ∷ getD r 1 0 ∷ getD r 2 0 ∷ getD r 3 0 ∷ getD r 4 0 ∷ getD r 5 0 ∷ getD r 6 0 ∷ getD r 7 0 ∷ getD r 8 0 ∷ getD r 9 0 ∷ getD r 10 0 ∷ getD r 11 0 ∷ getD r 12 0 ∷ drop listPlace r
-parts r h =
-    drop-cons r 0 0 (omega arith)
-    ∙ ap {B = List ℕ} (λ x. getD r 0 0 ∷ x)
-    (drop-cons r 1 0 (omega arith) ∙ ap {B = List ℕ} (λ x. getD r 1 0 ∷ x) (drop-cons r 2 0 (omega arith) ∙ ap {B = List ℕ} (λ x. getD r 2 0 ∷ x) (drop-cons r 3 0 (omega arith) ∙ ap {B = List ℕ} (λ x. getD r 3 0 ∷ x) (drop-cons r 4 0 (omega arith) ∙ ap {B = List ℕ} (λ x. getD r 4 0 ∷ x) (drop-cons r 5 0 (omega arith) ∙ ap {B = List ℕ} (λ x. getD r 5 0 ∷ x) (drop-cons r 6 0 (omega arith) ∙ ap {B = List ℕ} (λ x. getD r 6 0 ∷ x) (drop-cons r 7 0 (omega arith) ∙ ap {B = List ℕ} (λ x. getD r 7 0 ∷ x) (drop-cons r 8 0 (omega arith) ∙ ap {B = List ℕ} (λ x. getD r 8 0 ∷ x) (drop-cons r 9 0 (omega arith) ∙ ap {B = List ℕ} (λ x. getD r 9 0 ∷ x) (drop-cons r 10 0 (omega arith) ∙ ap {B = List ℕ} (λ x. getD r 10 0 ∷ x) (drop-cons r 11 0 (omega arith) ∙ ap {B = List ℕ} (λ x. getD r 11 0 ∷ x) (drop-cons r 12 0 (omega arith)))))))))))))
-
--- Any record of 16-bit words that passes the test.
-pub record-again : (S : ℕ) (r : List ℕ) → length r ≡ widthFor S → S ≤ mostAllScreens → ((i : ℕ) → getD r i 0 < 65536) → recordSound S r ≡ true
-    → encodeDesk S (decodeDesk r) ≡ r
-record-again S r hl hS sm h =
-    let p = parts r (omega arith) in
-    subst (λ (x : List ℕ). encodeDesk S (decodeDesk x) ≡ x) (sym p)
-    (record-encoded-again S (getD r 0 0) (getD r 1 0) (getD r 2 0) (getD r 3 0) (getD r 4 0) (getD r 5 0) (getD r 6 0) (getD r 7 0) (getD r 8 0) (getD r 9 0) (getD r 10 0) (getD r 11 0) (getD r 12 0) (drop listPlace r) (omega (arith, length-drop listPlace r)) hS (sm 5, (sm 6, (sm 7, (sm 8, (sm 9, (sm 10, (sm 11, (sm 12, tt)))))))) (subst (λ (x : List ℕ). recordSound S x ≡ true) p h))
+pub passed : (S : ℕ) (r : List ℕ) → recordSound S r ≡ true → Passed S r
+unfolding recordSound
+passed S r e =
+    let q1 = leb (usedIn r) (2 * S) in
+    let q2 = every (λ x. not (eqb x 0)) (take (usedIn r) (placesIn S r)) in
+    let q3 = every (λ x. eqb x 0) (drop (usedIn r) (placesIn S r)) in
+    let q4 = eqb (ones (drop (getD r testedPlace 0) (marksIn r))) 0 in
+    let q5 = scanSound S (getD r testedPlace 0) (getD r scannedPlace 0) in
+    let q6 = leb (ones (marksIn r)) (getD r scannedPlace 0) in
+    let e1 = and-right q1 (q2 && (q3 && (q4 && (q5 && q6)))) e in
+    let e2 = and-right q2 (q3 && (q4 && (q5 && q6))) e1 in
+    let e3 = and-right q3 (q4 && (q5 && q6)) e2 in
+    let e4 = and-right q4 (q5 && q6) e3 in
+    record {
+      room = leb-true (usedIn r) (2 * S) (and-left q1 (q2 && (q3 && (q4 && (q5 && q6)))) e);
+      full = and-left q2 (q3 && (q4 && (q5 && q6))) e1;
+      free = and-left q3 (q4 && (q5 && q6)) e2;
+      unmarked = eqb-true (ones (drop (getD r testedPlace 0) (marksIn r))) 0 (and-left q4 (q5 && q6) e3);
+      scan = and-left q5 q6 e4;
+      few = leb-true (ones (marksIn r)) (getD r scannedPlace 0) (and-right q5 q6 e4);
+    }
 
 pub small-drop : (n : ℕ) (r : List ℕ) → ((i : ℕ) → getD r i 0 < 65536) → (i : ℕ) → getD (drop n r) i 0 < 65536
 small-drop n r h i = rw (getD-drop n r i 0) (h (n + i))
@@ -173,6 +154,36 @@ small-take zero r h i = omega arith
 small-take (suc n) [] h i = omega arith
 small-take (suc n) (x ∷ r) h zero = h 0
 small-take (suc n) (x ∷ r) h (suc i) = small-take n r (λ j. h (suc j)) i
+
+pub length-marks-in : (S : ℕ) (r : List ℕ) → length r ≡ widthFor S → length (marksIn r) ≡ allMarks
+length-marks-in S r h = omega (arith, length-bits-of-words (take markWords (drop marksPlace r)), length-take-le markWords (drop marksPlace r) (omega (arith, length-drop marksPlace r)))
+
+-- its words: five, the mark words and the rest
+parts : (r : List ℕ) → marksPlace ≤ length r → r ≡ getD r 0 0 ∷ getD r 1 0 ∷ getD r 2 0 ∷ getD r 3 0 ∷ getD r 4 0 ∷ (take markWords (drop marksPlace r) ++ listIn r)
+parts r h =
+    drop-cons r 0 0 (omega arith)
+    ∙ ap {B = List ℕ} (λ x. getD r 0 0 ∷ x)
+    (drop-cons r 1 0 (omega arith) ∙ ap {B = List ℕ} (λ x. getD r 1 0 ∷ x) (drop-cons r 2 0 (omega arith) ∙ ap {B = List ℕ} (λ x. getD r 2 0 ∷ x) (drop-cons r 3 0 (omega arith) ∙ ap {B = List ℕ} (λ x. getD r 3 0 ∷ x) (drop-cons r 4 0 (omega arith) ∙ ap {B = List ℕ} (λ x. getD r 4 0 ∷ x) (sym (ap {B = List ℕ} (λ x. take markWords (drop marksPlace r) ++ x) (sym (drop-drop markWords marksPlace r)) ∙ take-append-drop markWords (drop marksPlace r)))))))
+
+-- Of 16-bit words, it is the record of the desk that it is read as.
+pub record-again : (S : ℕ) (r : List ℕ) → length r ≡ widthFor S → S ≤ mostAllScreens → ((i : ℕ) → getD r i 0 < 65536) → recordSound S r ≡ true
+    → encodeDesk S (decodeDesk r) ≡ r
+unfolding encodeDesk decodeDesk
+record-again S r lr hS sm e =
+    let p = passed S r e in
+    let a = getD r 2 0 in
+    let b = getD r 3 0 in
+    let c = getD r 4 0 in
+    let ws : List ℕ = take markWords (drop marksPlace r) in
+    let l : List ℕ = listIn r in
+    let ll : length l ≡ 2 * S = omega (arith, length-drop listPlace r) in
+    let hl : 2 * S ≤ length l = omega arith in
+    let hu = length-marks-in S r lr in
+    let lw : length ws ≡ markWords = length-take-le markWords (drop marksPlace r) (omega (arith, length-drop marksPlace r)) in
+    let q = words-of-bits-of-words ws (small-take markWords (drop marksPlace r) (small-drop marksPlace r sm)) in
+    (λ i. getD r 0 0 ∷ getD r 1 0 ∷ ready-length S a b c l (marksIn r) hl hu hS (p .room) i ∷ tested-length S a b c l (marksIn r) hl hu hS (p .room) i ∷ waiting-length S a b c l (marksIn r) hl hu hS (p .room) i ∷ (wordsOfBits (sym lw i) (marks-again S a b c l (marksIn r) hl hu hS (p .room) (p .unmarked) i) ++ list-again S a b c l (marksIn r) hl hu hS (p .room) (p .free) i))
+    ∙ ap₂ {C = List ℕ} (λ x y. getD r 0 0 ∷ getD r 1 0 ∷ a ∷ b ∷ c ∷ (x ++ y)) q (take-all (2 * S) l (omega arith))
+    ∙ sym (parts r (omega arith))
 
 records-back : (S n : ℕ) (x : List ℕ) → S ≤ mostAllScreens → n * widthFor S ≤ length x → ((i : ℕ) → getD x i 0 < 65536)
     → everyRecord (recordSound S) (pieces n (widthFor S) x) ≡ true

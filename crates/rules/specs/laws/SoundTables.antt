@@ -11,10 +11,10 @@ use borrow.Author.Tests.{leb-true, eqb-true, eqb-false, ltb-true}
 use Rattle.rules.specs.Hall.{Hall, TestedPlace, allScreens, mostAllScreens}
 use Rattle.rules.specs.History.{copies}
 use Rattle.rules.specs.Steps.{Call, perform}
-use Rattle.rules.specs.Table.{allMarks, bitsOfWords, decode, decodeDesk, encode, every, everyRecord, hallIn, need, ones, pieces, placesOf, recordSound}
-use Rattle.rules.specs.Table.{headerWords, listPlace, markWords, marksPlace, recordWidth, recordsIn, scanSound, sound, widthFor, written}
+use Rattle.rules.specs.Table.{decode, decodeDesk, encode, every, everyRecord, hallIn, need, ones, pieces, placesOf, recordSound}
+use Rattle.rules.specs.Table.{headerWords, listIn, listPlace, marksIn, placesIn, recordWidth, recordsIn, scanSound, sound, widthFor, written}
 use Rattle.rules.specs.laws.Bools.{and-left, and-right}
-use Rattle.rules.specs.laws.Decoding.{length-bits-of-words, list-parts, marks-of-places, ready-length, same-table, tested-length}
+use Rattle.rules.specs.laws.Decoding.{length-marks-in, list-parts, marks-of-places, passed, ready-length, same-table, tested-length}
 use Rattle.rules.specs.laws.Decoding.{waiting-length}
 use Rattle.rules.specs.laws.Encoding.{ones-marks}
 use Rattle.rules.specs.laws.Lists.{matches, matches-other}
@@ -42,39 +42,27 @@ pass-of S (suc b) k (p ∷ T) l h m =
 
 -- a record that passes the test is of a sound desk
 pub desk-sound : (S : ℕ) (r : List ℕ) → length r ≡ widthFor S → S ≤ mostAllScreens → recordSound S r ≡ true → Sound S (decodeDesk r)
-unfolding decodeDesk recordSound
+unfolding decodeDesk
 desk-sound S r lr hS e =
+    let p = passed S r e in
     let a = getD r 2 0 in
     let b = getD r 3 0 in
     let c = getD r 4 0 in
-    let k = getD r 1 0 in
-    let l : List ℕ = drop listPlace r in
-    let u : List Bool = bitsOfWords (take markWords (drop marksPlace r)) in
-    let q1 = leb (a + b + c) (2 * S) in
-    let q2 = every (λ x. not (eqb x 0)) (take (a + b + c) (take (2 * S) l)) in
-    let q3 = every (λ x. eqb x 0) (drop (a + b + c) (take (2 * S) l)) in
-    let q4 = eqb (ones (drop b u)) 0 in
-    let q5 = scanSound S b k in
-    let q6 = leb (ones u) k in
-    let e1 = and-right q1 (q2 && (q3 && (q4 && (q5 && q6)))) e in
-    let e2 = and-right q2 (q3 && (q4 && (q5 && q6))) e1 in
-    let e3 = and-right q3 (q4 && (q5 && q6)) e2 in
-    let e4 = and-right q4 (q5 && q6) e3 in
-    let h0 : a + b + c ≤ 2 * S = leb-true (a + b + c) (2 * S) (and-left q1 (q2 && (q3 && (q4 && (q5 && q6)))) e) in
+    let l : List ℕ = listIn r in
+    let u : List Bool = marksIn r in
     let hl : 2 * S ≤ length l = omega (arith, length-drop listPlace r) in
-    let hu : length u ≡ allMarks = omega (arith, length-bits-of-words (take markWords (drop marksPlace r)), length-take-le markWords (drop marksPlace r) (omega (arith, length-drop marksPlace r))) in
+    let hu = length-marks-in S r lr in
     let T : List TestedPlace = placesOf (take b (drop a l)) (take b u) in
     let f =
     marks-of-places (take b (drop a l)) (take b u)
-    (omega (arith, length-take-le b (drop a l) (omega (arith, length-drop a l)), length-take-le b u (omega arith))) in
-    let few : ones u ≤ k = leb-true (ones u) k (and-right q5 q6 e4) in
-    let m : markCount T ≤ k = omega (arith, ones-marks T, ap ones f, ones-append (take b u) (drop b u), ap ones (take-append-drop b u)) in
+    (omega (arith, p .room, length-take-le b (drop a l) (omega (arith, p .room, length-drop a l)), length-take-le b u (omega (arith, p .room)))) in
+    let m : markCount T ≤ getD r 1 0 = omega (arith, p .few, ones-marks T, ap ones f, ones-append (take b u) (drop b u), ap ones (take-append-drop b u)) in
     record {
-      total = omega (arith, ready-length S a b c l u hl hu hS h0, tested-length S a b c l u hl hu hS h0, waiting-length S a b c l u hl hu hS h0);
+      total = omega (arith, p .room, ready-length S a b c l u hl hu hS (p .room), tested-length S a b c l u hl hu hS (p .room), waiting-length S a b c l u hl hu hS (p .room));
       real =
-          sym (copies-list 0 (decodeDesk r)) ∙ ap (copies 0) (list-parts S a b c l u hl hu hS h0 ∙ sym (take-take (a + b + c) (2 * S) l h0))
-          ∙ real-cnt (take (a + b + c) (take (2 * S) l)) (and-left q2 (q3 && (q4 && (q5 && q6))) e1);
-      pass = pass-of S b k T (tested-length S a b c l u hl hu hS h0) (and-left q5 q6 e4) m;
+          sym (copies-list 0 (decodeDesk r)) ∙ ap (copies 0) (list-parts S a b c l u hl hu hS (p .room) ∙ sym (take-take (a + b + c) (2 * S) l (p .room)))
+          ∙ real-cnt (take (a + b + c) (placesIn S r)) (p .full);
+      pass = pass-of S b (getD r 1 0) T (tested-length S a b c l u hl hu hS (p .room)) (p .scan) m;
     }
 
 module _ (S : ℕ) (hS : S ≤ mostAllScreens) where
