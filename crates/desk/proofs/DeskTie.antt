@@ -1,29 +1,29 @@
 -- The desk in words, with its mark words, and the desk of the rules: the record is the same, and each part of a collect does the same.
 use Prim.Native.Nat.{ℕ, zero, suc, _+_, _-_, _*_, _%_, _^_, _≤_, _<_}
 use native.Mathlib.Omega.{arith}
-use mathlib.Core.Bool.{Bool, true, false, not, _&&_, cond}
+use mathlib.Core.Bool.{Bool, true, false, _&&_, cond}
 use mathlib.Core.List.{List, [], _∷_, _++_, map}
 use mathlib.Core.Path.{_≡_, refl, sym, ap, ap₂, _∙_}
 use lib.Dec.{eqb, leb, ltb, eqb·suc-zero}
-use lib.ListN.{length-take, length, getD, take, drop, set, replicate, length-append, length-map, replicate-append-replicate}
+use lib.ListN.{length, getD, drop, set, replicate, length-append, length-map, replicate-append-replicate}
 use borrow.Author.Tests.{eqb-true, ltb-true}
 use Rattle.rules.specs.Hall.{TestedPlace, marked, unmarked, usedPlaces, Desk, mostAllScreens}
 use Rattle.rules.specs.Steps.{begin, beginAt, handBack, mark, markEach, markedOf, readScreens, retire, scanAt, settle, settleIf, unmarkedOf}
-use Rattle.rules.specs.Table.{bitValue, bitsOfWords, decodeDesk, encodeDesk, every, listOf, marksOf, ones, recordSound, scanSound, sessionsOf, wordsOfBits}
-use Rattle.rules.specs.Table.{allMarks, listPlace, markWords, marksPlace, placesIn, widthFor}
-use Rattle.rules.specs.laws.Bools.{and-left, and-right}
-use Rattle.rules.specs.laws.Decoding.{length-places, record-again, small-drop, small-take}
+use Rattle.rules.specs.Table.{bitValue, decodeDesk, encodeDesk, listOf, marksOf, recordSound, scanSound, sessionsOf, wordsOfBits}
+use Rattle.rules.specs.Table.{allMarks, listPlace, markWords, widthFor}
+use Rattle.rules.specs.laws.Bools.{and-right}
+use Rattle.rules.specs.laws.Decoding.{passed, record-again}
 use Rattle.rules.specs.laws.Encoding.{desk-read-back, length-sessions}
 use Rattle.rules.specs.laws.Marks.{length-mark, length-mark-each, unmarked-and-marked}
+use Rattle.rules.specs.laws.SoundTables.{desk-sound}
 use Rattle.marks.specs.Words.{allZero}
 use Rattle.marks.specs.Marks.{pick}
-use Rattle.desk.proofs.WordDesk.{used, markWordsIn, soundRecord, WordDesk, wordDesk, listed, recordWords, testing, seeing, reading, settled, handed, Fit, Formed}
+use Rattle.desk.proofs.WordDesk.{WordDesk, wordDesk, listed, recordWords, testing, seeing, reading, settled, handed, Fit, Formed}
 use Rattle.desk.specs.Record.{Encoded}
 use Rattle.desk.proofs.FitLaws.{lengths, Left, left}
 use Rattle.desk.proofs.DeskLaws.{facts, record-length}
-use Rattle.desk.proofs.RecordLaws.{retire-words, owed-is, record-facts, ready-length, tested-length, waiting-length}
-use Rattle.desk.proofs.SoundRecordLaws.{sound-read-is}
-use Rattle.desk.proofs.MarkTie.{markBits, mark-bits, pick-unmarked, pick-marked, marking-is, none-zero-is, all-zero-is, clear-is, count-is}
+use Rattle.desk.proofs.RecordLaws.{retire-words, owed-is}
+use Rattle.desk.proofs.MarkTie.{markBits, mark-bits, pick-unmarked, pick-marked, marking-is}
 
 -- a desk of the rules, in words
 abbrev pub inWords : Desk → WordDesk
@@ -114,31 +114,15 @@ settled-is D h =
     (λ i. record { owed = D .owed; read = 0; ready = D .ready ++ a i; tested = []; waiting = b i ++ D .waiting; words = replicate markWords 0 })
 
 -- ---- soundness
-six : (a b c d e f : Bool) → a && b && c && d && e && f ≡ a && (b && (c && (d && (e && f))))
-six true true true true e f = refl
-six true true true false e f = refl
-six true true false d e f = refl
-six true false c d e f = refl
-six false b c d e f = refl
-
-pub sound-is : (s : ℕ) (r : List ℕ) → ((i : ℕ) → getD (take markWords (drop marksPlace r)) i 0 < 2 ^ 16) → soundRecord s r ≡ recordSound s r
-unfolding soundRecord recordSound
-sound-is s r h =
-    (λ i. leb (used r) (2 * s) && none-zero-is (take (used r) (placesIn s r)) i && all-zero-is (drop (used r) (placesIn s r)) i && clear-is (getD r 3 0) (markWordsIn r) i && sound-read-is s (getD r 3 0) (getD r 1 0) i && leb (count-is (markWordsIn r) h i) (getD r 1 0))
-    ∙ six (leb (used r) (2 * s)) (every (λ x. not (eqb x 0)) (take (used r) (placesIn s r))) (every (λ x. eqb x 0) (drop (used r) (placesIn s r))) (eqb (ones (drop (getD r 3 0) (bitsOfWords (markWordsIn r)))) 0) (scanSound s (getD r 3 0) (getD r 1 0)) (leb (ones (bitsOfWords (markWordsIn r))) (getD r 1 0))
-
-pub sound-of : (s : ℕ) (r : List ℕ) → ((i : ℕ) → getD r i 0 < 2 ^ 16) → soundRecord s r ≡ recordSound s r
-sound-of s r h = sound-is s r (small-take markWords (drop marksPlace r) (small-drop marksPlace r h))
-
 pub sound-encoded : (s : ℕ) (r : List ℕ) → s ≤ mostAllScreens → length r ≡ widthFor s → ((i : ℕ) → getD r i 0 < 2 ^ 16) → recordSound s r ≡ true → Encoded s r
-unfolding decodeDesk
-sound-encoded s r h l sm e =
-    let g = record-facts s r (sound-of s r sm ∙ e) in
-    let u = g .room in
-    let a = ready-length s r l g in
-    let b = tested-length s r l g in
-    let c = waiting-length s r l g in
-    record { most = h; long = l; is = sym (record-again s r l h sm e); room = omega (arith, length-take (getD r 2 0) (drop listPlace r), length-places (take (getD r 3 0) (drop (getD r 2 0) (drop listPlace r))) (take (getD r 3 0) (bitsOfWords (take markWords (drop marksPlace r)))), length-take (getD r 3 0) (drop (getD r 2 0) (drop listPlace r)), length-take (getD r 4 0) (drop (getD r 2 0 + getD r 3 0) (drop listPlace r))) }
+sound-encoded s r h l small e = record { most = h; long = l; is = sym (record-again s r l h small e); room = desk-sound s r l h e .total }
+
+pub scanned-below : (s : ℕ) (r : List ℕ) → 1 ≤ s → recordSound s r ≡ true → getD r 1 0 < s
+scanned-below s r h e = go (getD r 3 0) (getD r 1 0) (passed s r e .scan)
+  where
+    go : (t k : ℕ) → scanSound s t k ≡ true → k < s
+    go zero k q = omega (arith, eqb-true k 0 q)
+    go (suc t) k q = ltb-true k s (and-right (leb 2 k) (ltb k s) (and-right (eqb (k % 2) 0) (leb 2 k && ltb k s) q))
 
 -- ---- retire: what the code finds in the words, and its three stores
 pub record Finds (s : ℕ) (r : List ℕ) : Type 0 where
@@ -244,33 +228,6 @@ scan-some (p ∷ T) vs D h = refl
 pub scan-none : (T : List TestedPlace) (vs : List ℕ) (D : Desk) → length T ≡ 0 → D ≡ scanAt T vs D
 scan-none [] vs D h = refl
 scan-none (p ∷ T) vs D h = absurd (omega arith)
-
--- ---- k is less than the number of screens
-pub scanned-below : (s : ℕ) (r : List ℕ) → 1 ≤ s → recordSound s r ≡ true → getD r 1 0 < s
-unfolding recordSound
-scanned-below s r h e = pass-k (getD r 3 0) (getD r 1 0) (and-left q5 q6 (and-right q4 (q5 && q6) (and-right q3 (q4 && (q5 && q6)) (and-right q2 (q3 && (q4 && (q5 && q6))) (and-right q1 (q2 && (q3 && (q4 && (q5 && q6)))) e)))))
-  where
-    q1 : Bool
-    q1 = leb (getD r 2 0 + getD r 3 0 + getD r 4 0) (2 * s)
-
-    q2 : Bool
-    q2 = every (λ x. not (eqb x 0)) (take (getD r 2 0 + getD r 3 0 + getD r 4 0) (placesIn s r))
-
-    q3 : Bool
-    q3 = every (λ x. eqb x 0) (drop (getD r 2 0 + getD r 3 0 + getD r 4 0) (placesIn s r))
-
-    q4 : Bool
-    q4 = eqb (ones (drop (getD r 3 0) (bitsOfWords (take markWords (drop marksPlace r))))) 0
-
-    q5 : Bool
-    q5 = scanSound s (getD r 3 0) (getD r 1 0)
-
-    q6 : Bool
-    q6 = leb (ones (bitsOfWords (take markWords (drop marksPlace r)))) (getD r 1 0)
-
-    pass-k : (n k : ℕ) → scanSound s n k ≡ true → k < s
-    pass-k zero k q = let z = eqb-true k 0 q in omega arith
-    pass-k (suc n) k q = ltb-true k s (and-right (leb 2 k) (ltb k s) (and-right (eqb (k % 2) 0) (leb 2 k && ltb k s) q))
 
 -- ---- two screens, one after the other
 pub read-places : (vs : List ℕ) (D : Desk) → usedPlaces (readScreens vs D) ≡ usedPlaces D

@@ -1,75 +1,13 @@
--- A sound record is what its desk's state says, word for word; and the words of a record after a store.
-use Prim.Native.Nat.{ℕ, suc, _+_, _-_, _*_, _≤_, _<_}
+-- The words of a record after a retire's stores.
+use Prim.Native.Nat.{ℕ, suc, _+_, _-_, _*_, _<_}
 use native.Mathlib.Omega.{arith}
-use mathlib.Core.Bool.{true, _&&_}
 use mathlib.Core.List.{List, [], _∷_, _++_, append-assoc}
 use mathlib.Core.Path.{_≡_, refl, sym, ap, ap₂, _∙_}
-use lib.Dec.{leb}
-use lib.ListN.{length, getD, take, drop, set, replicate, length-append, length-drop}
-use lib.Seq.{length-take-le, set-at}
-use borrow.Author.Tests.{leb-true}
-use Rattle.rules.specs.Table.{listIn, listPlace, markWords, placesIn, widthFor}
-use Rattle.marks.proofs.BoolLaws.{set-append-add, &&-left, &&-right}
-use Rattle.marks.specs.Words.{allZero, noneZero}
-use Rattle.marks.specs.Marks.{marks, onesIn}
-use Rattle.desk.proofs.WordDesk.{used, markWordsIn, soundRead, soundRecord, WordDesk, wordDesk, listed, recordWords, retired}
-
--- ---- what soundness says of a record
-pub record SoundRec (s : ℕ) (r : List ℕ) : Type 0 where
-  pub room : used r ≤ 2 * s
-  pub full : noneZero (take (used r) (placesIn s r)) ≡ true
-  pub free : allZero (drop (used r) (placesIn s r)) ≡ true
-  pub unmarked : allZero (drop (getD r 3 0) (marks (markWordsIn r))) ≡ true
-  pub reading : soundRead s (getD r 3 0) (getD r 1 0) ≡ true
-  pub few : onesIn (markWordsIn r) ≤ getD r 1 0
-
-pub record-facts : (s : ℕ) (r : List ℕ) → soundRecord s r ≡ true → SoundRec s r
-unfolding soundRecord
-record-facts s r e =
-    let a1 = leb (used r) (2 * s) in
-    let a2 = noneZero (take (used r) (placesIn s r)) in
-    let a3 = allZero (drop (used r) (placesIn s r)) in
-    let a4 = allZero (drop (getD r 3 0) (marks (markWordsIn r))) in
-    let a5 = soundRead s (getD r 3 0) (getD r 1 0) in
-    let a6 = leb (onesIn (markWordsIn r)) (getD r 1 0) in
-    let b5 = &&-left (a1 && a2 && a3 && a4 && a5) a6 e in
-    let b4 = &&-left (a1 && a2 && a3 && a4) a5 b5 in
-    let b3 = &&-left (a1 && a2 && a3) a4 b4 in
-    let b2 = &&-left (a1 && a2) a3 b3 in
-    record {
-      room = leb-true (used r) (2 * s) (&&-left a1 a2 b2);
-      full = &&-right a1 a2 b2;
-      free = &&-right (a1 && a2) a3 b3;
-      unmarked = &&-right (a1 && a2 && a3) a4 b4;
-      reading = &&-right (a1 && a2 && a3 && a4) a5 b5;
-      few = leb-true (onesIn (markWordsIn r)) (getD r 1 0) (&&-right (a1 && a2 && a3 && a4 && a5) a6 e);
-    }
-
--- ---- a sound record is what its desk's state says
-module _ (s : ℕ) (r : List ℕ) (len : length r ≡ widthFor s) (f : SoundRec s r) where
-  list-length : length (listIn r) ≡ 2 * s
-  list-length = let e = length-drop listPlace r in omega arith
-
-  pub ready-length : length (wordDesk r .ready) ≡ getD r 2 0
-  unfolding wordDesk
-  ready-length = let e = list-length in let h = f .room in length-take-le (getD r 2 0) (listIn r) (omega arith)
-
-  pub tested-length : length (wordDesk r .tested) ≡ getD r 3 0
-  unfolding wordDesk
-  tested-length =
-      let e = list-length in
-      let h = f .room in
-      let g = length-drop (getD r 2 0) (listIn r) in
-      length-take-le (getD r 3 0) (drop (getD r 2 0) (listIn r)) (omega arith)
-
-  pub waiting-length : length (wordDesk r .waiting) ≡ getD r 4 0
-  unfolding wordDesk
-  waiting-length =
-      let e = list-length in
-      let h = f .room in
-      let g = length-drop (getD r 2 0) (listIn r) in
-      let k = length-drop (getD r 3 0) (drop (getD r 2 0) (listIn r)) in
-      length-take-le (getD r 4 0) (drop (getD r 3 0) (drop (getD r 2 0) (listIn r))) (omega arith)
+use lib.ListN.{length, getD, set, replicate, length-append}
+use lib.Seq.{set-at}
+use Rattle.rules.specs.Table.{listPlace, markWords}
+use Rattle.marks.proofs.BoolLaws.{set-append-add}
+use Rattle.desk.proofs.WordDesk.{WordDesk, wordDesk, listed, recordWords, retired}
 
 -- ---- a store at place n of the list
 pub set-place : (o k a b c : ℕ) (m l : List ℕ) (n v : ℕ) → length m ≡ markWords

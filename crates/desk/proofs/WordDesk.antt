@@ -1,33 +1,18 @@
 -- The desk in words, as the code works on it: its mark words stay words. No contract cites this; DeskTie ties it to the rules' desk.
-use Prim.Native.Nat.{ℕ, _+_, _*_, _-_, _%_, _≤_}
-use mathlib.Core.Bool.{Bool, true, _&&_, cond}
+use Prim.Native.Nat.{ℕ, _+_, _*_, _-_, _≤_}
+use mathlib.Core.Bool.{true, cond}
 use mathlib.Core.List.{List, [], _∷_, _++_}
 use mathlib.Core.Path.{_≡_}
-use lib.Dec.{eqb, leb, ltb}
+use lib.Dec.{eqb, ltb}
 use lib.ListN.{length, getD, take, drop, replicate}
 use Rattle.rules.specs.Hall.{mostAllScreens}
-use Rattle.rules.specs.Table.{listIn, markWords, marksPlace, placesIn}
-use Rattle.marks.specs.Words.{allZero, noneZero}
-use Rattle.marks.specs.Marks.{marks, onesIn, findPlace, markPlace, pick}
+use Rattle.rules.specs.Table.{listIn, markWords, marksPlace}
+use Rattle.marks.specs.Words.{allZero}
+use Rattle.marks.specs.Marks.{marks, findPlace, markPlace, pick}
 
 -- the mark words of a record
 abbrev pub markWordsIn : List ℕ → List ℕ
 markWordsIn r = take markWords (drop marksPlace r)
-
--- the used places: the sum of the three counts
-abbrev pub used : List ℕ → ℕ
-used r = getD r 2 0 + getD r 3 0 + getD r 4 0
-
--- with nothing tested k is 0; otherwise k is even, at least 2 and less than s
-abbrev pub soundRead : ℕ → ℕ → ℕ → Bool
-soundRead s tested k = cond (eqb tested 0) (eqb k 0) (eqb (k % 2) 0 && leb 2 k && ltb k s)
-
-unfoldable pub soundRecord : ℕ → List ℕ → Bool
-soundRecord s r =
-    leb (used r) (2 * s) && noneZero (take (used r) (placesIn s r)) && allZero (drop (used r) (placesIn s r))
-    && allZero (drop (getD r 3 0) (marks (markWordsIn r)))
-    && soundRead s (getD r 3 0) (getD r 1 0)
-    && leb (onesIn (markWordsIn r)) (getD r 1 0)
 
 -- What a record says: the owed session, k, the three groups of the list, and the mark words.
 pub record WordDesk : Type 0 where

@@ -1,15 +1,49 @@
--- `desk::sound_record` meets its contract.
-use Prim.Native.Nat.{_+_}
+-- `desk::sound_record` meets its contract: each test answers a part of the rules' test.
+use Prim.Native.Nat.{ℕ, _+_, _*_}
 use native.Mathlib.Omega.{arith}
-use mathlib.Core.Path.{_≡_}
-use lib.ListN.{getD}
+use mathlib.Core.Bool.{Bool, true}
+use mathlib.Core.List.{List}
+use mathlib.Core.Path.{_≡_, sym, ap₂, _∙_}
+use lib.Dec.{leb}
+use lib.ListN.{getD, take, drop}
 use borrow.Author.Needs.{needs}
-use Rattle.marks.proofs.BoolLaws.{&&-false, &&-true, not-true, not-false}
-use Rattle.desk.proofs.DeskTie.{sound-of}
-use Rattle.desk.proofs.WordDesk.{used, soundRecord}
-use Rattle.desk.proofs.SoundRecordLaws.{room, no-room, used-part, free-part, marks-part, read-part}
+use borrow.Author.Tests.{le-leb, lt-leb}
+use Rattle.rules.specs.Steps.{isNone, isSession}
+use Rattle.rules.specs.Table.{every, placesIn, recordSound, scanSound, usedIn}
+use Rattle.marks.proofs.BoolLaws.{&&-false, not-true, not-false}
+use Rattle.desk.proofs.SoundRecordLaws.{free-part, marks-part, used-part}
 use Rattle.desk.proofs.sound_record.Statement.{statement}
 use Rattle.desk.proofs.sound_record.Tie as tie
+
+-- the hall's screens, the record, and its used places as the code counts them
+abbrev S : tie.After-word3 → ℕ
+S a = a .before .before .before .before .args .s
+
+abbrev R : tie.After-word3 → List ℕ
+R a = a .before .before .before .before .args .r .now
+
+abbrev N : tie.After-word3 → ℕ
+N a = a .before .word2 .result + a .before .before .word .result + a .word3 .result
+
+counted : (a : tie.After-word3) → N a ≡ usedIn (R a)
+counted a = omega (arith, a .before .before .word .ensures .0, a .before .word2 .ensures .0, a .word3 .ensures .0)
+
+room : (b : tie.Else1) → leb (usedIn (R (b .before))) (2 * S (b .before)) ≡ true
+room b = le-leb (usedIn (R (b .before))) (2 * S (b .before)) (omega (arith, b .if1 .left, counted (b .before)))
+
+used : (c : tie.After-none-zero) {v : Bool} → c .none-zero .result ≡ v → every isSession (take (usedIn (R (c .before .before .before))) (placesIn (S (c .before .before .before)) (R (c .before .before .before)))) ≡ v
+used c q = let b = c .before .before in let a = b .before in sym (c .none-zero .ensures ∙ used-part (S a) (R a) (N a) (counted a) (b .if1 .left)) ∙ q
+
+free : (d : tie.After-all-zero) {v : Bool} → d .all-zero .result ≡ v → every isNone (drop (usedIn (R (d .before .before .before .before .before .before))) (placesIn (S (d .before .before .before .before .before .before)) (R (d .before .before .before .before .before .before)))) ≡ v
+free d q =
+    let b = d .before .before .before .before .before in
+    let a = b .before in
+    sym (d .all-zero .ensures ∙ free-part (S a) (R a) (N a) (counted a) (b .if1 .left) (a .before .before .before .before .pre .1)) ∙ q
+
+scanned : (e : tie.After-sound-scan) {v : Bool} → e .sound-scan .result ≡ v → scanSound (S (e .before .before .before .before .before .before .before .before .before)) (getD (R (e .before .before .before .before .before .before .before .before .before)) 3 0) (getD (R (e .before .before .before .before .before .before .before .before .before)) 1 0) ≡ v
+scanned e q =
+    let a = e .before .before .before .before .before .before .before .before .before in
+    sym (e .sound-scan .ensures ∙ ap₂ (scanSound (S a)) (a .before .before .word .ensures .0) (e .before .word4 .ensures .0)) ∙ q
 
 word-requires : tie.Need-word-requires
 word-requires c κs = search needs
@@ -30,15 +64,8 @@ mul-if1 : tie.Need-mul-if1
 mul-if1 c = search needs
 
 returns : tie.Need-returns
-unfolding soundRecord
-returns c =
-    let s = c .before .before .before .before .before .args .s in
-    let r = c .before .before .before .before .before .args .r .now in
-    let t = c .before .before .before .word .result in
-    let n = c .before .before .word2 .result + c .before .before .before .word .result + c .before .word3 .result in
-    let et : t ≡ getD r 3 0 = c .before .before .before .word .ensures .0 in
-    let en : n ≡ used r = omega (arith, c .before .before .before .word .ensures .0, c .before .before .word2 .ensures .0, c .before .word3 .ensures .0) in
-    rw (← sound-of s r (λ i. c .before .before .before .before .shared-slice-known .given i .fits)) (simp (no-room s r n t en et (c .if1 .taken)))
+unfolding recordSound
+returns c = let a = c .before in simp (lt-leb (usedIn (R a)) (2 * S a) (omega (arith, c .if1 .taken, counted a)))
 
 add-none-zero : tie.Need-add-none-zero
 add-none-zero c = search needs
@@ -56,15 +83,8 @@ none-zero-requires : tie.Need-none-zero-requires
 none-zero-requires c κs = search needs
 
 returns-2 : tie.Need-returns-2
-unfolding soundRecord
-returns-2 c =
-    let s = c .before .before .before .before .before .before .before .before .args .s in
-    let r = c .before .before .before .before .before .before .before .before .args .r .now in
-    let t = c .before .before .before .before .before .before .word .result in
-    let n = c .before .before .before .before .before .word2 .result + c .before .before .before .before .before .before .word .result + c .before .before .before .before .word3 .result in
-    let et : t ≡ getD r 3 0 = c .before .before .before .before .before .before .word .ensures .0 in
-    let en : n ≡ used r = omega (arith, c .before .before .before .before .before .before .word .ensures .0, c .before .before .before .before .before .word2 .ensures .0, c .before .before .before .before .word3 .ensures .0) in
-    rw (← sound-of s r (λ i. c .before .before .before .before .before .before .before .shared-slice-known .given i .fits)) (simp (room s r n t en et (c .before .before .before .if1 .left), used-part s r n t en et (c .before .before .before .if1 .left) (c .before .none-zero .ensures) (not-true (c .if2 .taken))))
+unfolding recordSound
+returns-2 c = simp (room (c .before .before .before), used (c .before) (not-true (c .if2 .taken)))
 
 add-all-zero : tie.Need-add-all-zero
 add-all-zero c = search needs
@@ -91,15 +111,10 @@ all-zero-requires : tie.Need-all-zero-requires
 all-zero-requires c κs = search needs
 
 returns-3 : tie.Need-returns-3
-unfolding soundRecord
+unfolding recordSound
 returns-3 c =
-    let s = c .before .before .before .before .before .before .before .before .before .before .before .args .s in
-    let r = c .before .before .before .before .before .before .before .before .before .before .before .args .r .now in
-    let t = c .before .before .before .before .before .before .before .before .before .word .result in
-    let n = c .before .before .before .before .before .before .before .before .word2 .result + c .before .before .before .before .before .before .before .before .before .word .result + c .before .before .before .before .before .before .before .word3 .result in
-    let et : t ≡ getD r 3 0 = c .before .before .before .before .before .before .before .before .before .word .ensures .0 in
-    let en : n ≡ used r = omega (arith, c .before .before .before .before .before .before .before .before .before .word .ensures .0, c .before .before .before .before .before .before .before .before .word2 .ensures .0, c .before .before .before .before .before .before .before .word3 .ensures .0) in
-    rw (← sound-of s r (λ i. c .before .before .before .before .before .before .before .before .before .before .shared-slice-known .given i .fits)) (simp (room s r n t en et (c .before .before .before .before .before .before .if1 .left), used-part s r n t en et (c .before .before .before .before .before .before .if1 .left) (c .before .before .before .before .none-zero .ensures) (not-false (c .before .before .before .if2 .left)), free-part s r n t en et (c .before .before .before .before .before .before .if1 .left) (c .before .before .before .before .before .before .before .before .before .before .before .pre .1) (c .before .all-zero .ensures) (not-true (c .if3 .taken))))
+    let b = c .before .before .before in
+    simp (room (b .before .before .before), used (b .before) (not-false (b .if2 .left)), free (c .before) (not-true (c .if3 .taken)))
 
 word-requires-4 : tie.Need-word-requires-4
 word-requires-4 c κs = search needs
@@ -108,15 +123,11 @@ sound-scan-requires : tie.Need-sound-scan-requires
 sound-scan-requires c κs = search needs
 
 returns-4 : tie.Need-returns-4
-unfolding soundRecord
+unfolding recordSound
 returns-4 c =
-    let s = c .before .before .before .before .before .before .before .before .before .before .before .before .before .before .args .s in
-    let r = c .before .before .before .before .before .before .before .before .before .before .before .before .before .before .args .r .now in
-    let t = c .before .before .before .before .before .before .before .before .before .before .before .before .word .result in
-    let n = c .before .before .before .before .before .before .before .before .before .before .before .word2 .result + c .before .before .before .before .before .before .before .before .before .before .before .before .word .result + c .before .before .before .before .before .before .before .before .before .before .word3 .result in
-    let et : t ≡ getD r 3 0 = c .before .before .before .before .before .before .before .before .before .before .before .before .word .ensures .0 in
-    let en : n ≡ used r = omega (arith, c .before .before .before .before .before .before .before .before .before .before .before .before .word .ensures .0, c .before .before .before .before .before .before .before .before .before .before .before .word2 .ensures .0, c .before .before .before .before .before .before .before .before .before .before .word3 .ensures .0) in
-    rw (← sound-of s r (λ i. c .before .before .before .before .before .before .before .before .before .before .before .before .before .shared-slice-known .given i .fits)) (simp (room s r n t en et (c .before .before .before .before .before .before .before .before .before .if1 .left), used-part s r n t en et (c .before .before .before .before .before .before .before .before .before .if1 .left) (c .before .before .before .before .before .before .before .none-zero .ensures) (not-false (c .before .before .before .before .before .before .if2 .left)), free-part s r n t en et (c .before .before .before .before .before .before .before .before .before .if1 .left) (c .before .before .before .before .before .before .before .before .before .before .before .before .before .before .pre .1) (c .before .before .before .before .all-zero .ensures) (not-false (c .before .before .before .if3 .left)), read-part s r n t en et (c .before .before .word4 .result) (c .before .before .word4 .ensures .0) (c .before .sound-scan .ensures) (not-true (c .if4 .taken)), &&-false))
+    let d = c .before .before .before in
+    let b = d .before .before .before in
+    simp (room (b .before .before .before), used (b .before) (not-false (b .if2 .left)), free (d .before) (not-false (d .if3 .left)), scanned (c .before) (not-true (c .if4 .taken)), &&-false)
 
 sub-few-marks : tie.Need-sub-few-marks
 sub-few-marks c = search needs
@@ -131,15 +142,14 @@ few-marks-requires : tie.Need-few-marks-requires
 few-marks-requires c κs = search needs
 
 returns-5 : tie.Need-returns-5
-unfolding soundRecord
+unfolding recordSound
 returns-5 c =
-    let s = c .before .before .before .before .before .before .before .before .before .before .before .before .before .before .before .before .args .s in
-    let r = c .before .before .before .before .before .before .before .before .before .before .before .before .before .before .before .before .args .r .now in
-    let t = c .before .before .before .before .before .before .before .before .before .before .before .before .before .before .word .result in
-    let n = c .before .before .before .before .before .before .before .before .before .before .before .before .before .word2 .result + c .before .before .before .before .before .before .before .before .before .before .before .before .before .before .word .result + c .before .before .before .before .before .before .before .before .before .before .before .before .word3 .result in
-    let et : t ≡ getD r 3 0 = c .before .before .before .before .before .before .before .before .before .before .before .before .before .before .word .ensures .0 in
-    let en : n ≡ used r = omega (arith, c .before .before .before .before .before .before .before .before .before .before .before .before .before .before .word .ensures .0, c .before .before .before .before .before .before .before .before .before .before .before .before .before .word2 .ensures .0, c .before .before .before .before .before .before .before .before .before .before .before .before .word3 .ensures .0) in
-    rw (← sound-of s r (λ i. c .before .before .before .before .before .before .before .before .before .before .before .before .before .before .before .shared-slice-known .given i .fits)) (simp (room s r n t en et (c .before .before .before .before .before .before .before .before .before .before .before .if1 .left), used-part s r n t en et (c .before .before .before .before .before .before .before .before .before .before .before .if1 .left) (c .before .before .before .before .before .before .before .before .before .none-zero .ensures) (not-false (c .before .before .before .before .before .before .before .before .if2 .left)), free-part s r n t en et (c .before .before .before .before .before .before .before .before .before .before .before .if1 .left) (c .before .before .before .before .before .before .before .before .before .before .before .before .before .before .before .before .pre .1) (c .before .before .before .before .before .before .all-zero .ensures) (not-false (c .before .before .before .before .before .if3 .left)), read-part s r n t en et (c .before .before .before .before .word4 .result) (c .before .before .before .before .word4 .ensures .0) (c .before .before .before .sound-scan .ensures) (not-false (c .before .before .if4 .left)), &&-true) (marks-part s r n t en et (c .before .before .before .before .word4 .result) (c .before .before .before .before .word4 .ensures .0) (c .few-marks .ensures)))
+    let e = c .before .before in
+    let d = e .before .before .before in
+    let b = d .before .before .before in
+    let a = b .before .before .before .before in
+    simp (room (b .before .before .before), used (b .before) (not-false (b .if2 .left)), free (d .before) (not-false (d .if3 .left)), scanned (e .before) (not-false (e .if4 .left)))
+    (c .few-marks .ensures ∙ marks-part (R a) _ _ (a .before .before .word .ensures .0) (e .before .before .word4 .ensures .0) (λ i. a .before .before .before .shared-slice-known .given i .fits))
 
 pub sound-record-spec : {M : Type 1} → statement M
 sound-record-spec =
