@@ -1,16 +1,16 @@
 -- Records and desk states: from a state to its record and back, and the words of a record after a part of it was replaced.
-use Prim.Native.Nat.{ℕ, zero, suc, _+_, _-_, _*_, _^_, _≤_, _<_}
+use Prim.Native.Nat.{ℕ, suc, _+_, _-_, _*_, _^_, _≤_, _<_}
 use native.Mathlib.Nat.{not-suc-le-zero}
 use native.Mathlib.Omega.{arith}
 use mathlib.Core.List.{List, [], _∷_, _++_, append-assoc, append-nil}
 use mathlib.Core.Path.{_≡_, refl, sym, ap, ap₂, _∙_, subst}
-use lib.Dec.{lit<}
 use lib.ListN.{length, getD, take, drop, set, replicate, length-append, length-drop, length-replicate, drop-of-length-le, replicate-append-replicate}
 use lib.Seq.{drop-cons, getD-take, getD-drop, take-all, drop-drop, take-append-seam, drop-append-seam, take-at, drop-at, take-append-add, drop-append-add}
 use borrow.Author.Tests.{eq-eqb, ne-eqb, lt-ltb, le-ltb}
 use borrow.Rule.Slice.PartMut.{putMid}
 use Rattle.rules.specs.Hall.{mostAllScreens}
 use Rattle.rules.specs.Table.{listPlace, markWords, marksPlace, widthFor}
+use Rattle.rules.specs.laws.Decoding.{small-drop, small-take}
 use Rattle.marks.specs.Marks.{marks, onesIn, findPlace, markPlace, pick}
 use Rattle.marks.proofs.MarkLaws.{marks-length, mark-small}
 use Rattle.marks.proofs.PlaceLaws.{found-unmarked, marked-count, pick-all}
@@ -286,13 +286,6 @@ settle-words s d i n a w p q e ei en h ea ew =
     ∙ (λ j. d .owed ∷ 0 ∷ ea j ∷ 0 ∷ ew j ∷ (replicate markWords 0 ++ (g j)))
     ∙ ap (λ (k : ℕ). d .owed ∷ 0 ∷ length (d .ready ++ p) ∷ 0 ∷ length (q ++ d .waiting) ∷ (replicate markWords 0 ++ (((d .ready ++ p) ++ (q ++ d .waiting)) ++ replicate (2 * s - k) 0))) c
 
--- the words of a part are words
-take-small : (n : ℕ) (l : List ℕ) → ((i : ℕ) → getD l i 0 < 2 ^ 16) → (i : ℕ) → getD (take n l) i 0 < 2 ^ 16
-take-small zero l h i = lit< tt
-take-small (suc n) [] h i = lit< tt
-take-small (suc n) (x ∷ l) h zero = h 0
-take-small (suc n) (x ∷ l) h (suc i) = take-small n l (λ j. h (suc j)) i
-
 -- as the code has them: the three counts, the mark words and their count
 pub record Counted (s : ℕ) (r : List ℕ) (a b w k : ℕ) (m : List ℕ) : Type 0 where
   pub ready : a ≡ length (wordDesk r .ready)
@@ -303,6 +296,7 @@ pub record Counted (s : ℕ) (r : List ℕ) (a b w k : ℕ) (m : List ℕ) : Typ
   pub kept : k ≡ length (pick 1 (marks (wordDesk r .words)) (wordDesk r .tested))
   pub all : length (pick 0 (marks (wordDesk r .words)) (wordDesk r .tested)) + length (pick 1 (marks (wordDesk r .words)) (wordDesk r .tested)) ≡ length (wordDesk r .tested)
   pub eight : length m ≡ markWords
+  pub room : a + b + w ≤ 2 * s
 
 pub counted : (s : ℕ) (r : List ℕ) → Formed s r → ((i : ℕ) → getD r i 0 < 2 ^ 16) → (a b w k : ℕ) (m : List ℕ)
     → a ≡ getD r 2 0 → b ≡ getD r 3 0 → w ≡ getD r 4 0 → m ≡ take markWords (drop marksPlace r) → k ≡ onesIn m → Counted s r a b w k m
@@ -312,8 +306,7 @@ counted s r f h a b w k m ea eb ew em ek =
     let e = f .fit .eight in
     let n : length (d .tested) ≤ 16 * length (d .words) = omega arith in
     let small : (i : ℕ) → getD (d .words) i 0 < 2 ^ 16
-    = subst (λ (l : List ℕ). (i : ℕ) → getD l i 0 < 2 ^ 16) (words-of r)
-    (take-small markWords (drop marksPlace r) (λ i. subst (λ (x : ℕ). x < 2 ^ 16) (sym (getD-drop marksPlace r i 0)) (h (marksPlace + i)))) in
+    = subst (λ (l : List ℕ). (i : ℕ) → getD l i 0 < 2 ^ 16) (words-of r) (small-take markWords (drop marksPlace r) (small-drop marksPlace r h)) in
     record {
       ready = ea ∙ c .ready;
       tested = eb ∙ c .tested;
@@ -323,6 +316,7 @@ counted s r f h a b w k m ea eb ew em ek =
       kept = ek ∙ ap onesIn (em ∙ words-of r) ∙ marked-count (d .words) (d .tested) small n (f .fit .clear);
       all = pick-all (marks (d .words)) (d .tested) (λ i. mark-small (d .words) i) (omega (arith, marks-length (d .words)));
       eight = ap length (em ∙ words-of r) ∙ e;
+      room = omega (arith, c .ready, c .tested, c .waiting, c .sum);
     }
 
 pub settle-stores : (s : ℕ) (r : List ℕ) → Formed s r → (a b w k : ℕ) (m : List ℕ) → Counted s r a b w k m → (ys zs : List ℕ)
