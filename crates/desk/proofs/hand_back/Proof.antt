@@ -1,5 +1,5 @@
 -- `desk::hand_back` meets its contract.
-use Prim.Native.Nat.{ℕ, _+_, _-_, _*_}
+use Prim.Native.Nat.{ℕ, _+_, _-_, _*_, _<_}
 use native.Mathlib.Omega.{arith}
 use mathlib.Core.List.{List}
 use mathlib.Core.Path.{ap, _∙_}
@@ -12,6 +12,14 @@ use Rattle.desk.proofs.DeskLaws.{facts, hand-stores, hand-none, first-r
 use Rattle.desk.proofs.hand_back.Statement.{statement}
 use Rattle.desk.proofs.hand_back.Tie as tie
 
+-- a session is ready, so the list has places
+some : (c : tie.Else1) → 0 < 2 * c .before .before .before .args .s
+some c =
+    let o = c .before .before .before in
+    let f = facts (o .args .s) (o .args .r .now) (formed-of (o .args .s) (o .args .r .now) (o .pre)) in
+    let z = c .if1 .left in
+    omega (arith, f .ready, f .sum)
+
 slice-read-n : tie.Need-slice-read-n
 slice-read-n c = omega arith
 
@@ -23,10 +31,7 @@ returns c =
     (none-ready r (c .if1 .taken) ∙ first-handed s r e, hand-none s r (formed-of s r e) (c .if1 .taken) ∙ handed-encoded s r e)
 
 slice-read-x : tie.Need-slice-read-x
-slice-read-x c =
-    let a = facts (c .before .before .before .before .args .s) (c .before .before .before .before .args .r .now) (formed-of (c .before .before .before .before .args .s) (c .before .before .before .before .args .r .now) (c .before .before .before .before .pre)) in
-    let z = c .before .if1 .left in
-    omega arith
+slice-read-x c = omega (arith, some (c .before))
 
 mul-move-up : tie.Need-mul-move-up
 mul-move-up c = omega arith
@@ -45,11 +50,8 @@ part-move-up-end c = omega arith
 
 move-up-requires : tie.Need-move-up-requires
 move-up-requires c κs =
-    let s = c .before .before .before .before .before .args .s in
-    let r = c .before .before .before .before .before .args .r .now in
-    let a = facts s r (formed-of s r (c .before .before .before .before .before .pre)) in
-    let z = c .before .before .if1 .left in
-    omega (arith, length-take (listPlace + 2 * s - listPlace) (drop listPlace r), length-drop listPlace r)
+    let o = c .before .before .before .before .before in
+    omega (arith, some (c .before .before), length-take (listPlace + 2 * o .args .s - listPlace) (drop listPlace (o .args .r .now)), length-drop listPlace (o .args .r .now))
 
 sub-r : tie.Need-sub-r
 sub-r c = search needs

@@ -1,15 +1,37 @@
 -- `desk::retire_record` meets its contract.
-use Prim.Native.Nat.{_+_, _*_}
+use Prim.Native.Nat.{ℕ, _+_, _*_}
 use native.Mathlib.Omega.{arith}
+use mathlib.Core.Bool.{false}
+use mathlib.Core.List.{List}
 use mathlib.Core.Path.{_≡_, refl, sym, _∙_}
+use lib.Dec.{eqb}
 use lib.ListN.{length-set}
 use borrow.Author.Needs.{needs}
 use borrow.Author.Tests.{eq-eqb, ne-eqb, lt-ltb, le-ltb}
 use Rattle.rules.specs.Hall.{usedPlaces}
 use Rattle.rules.specs.Table.{decodeDesk}
-use Rattle.desk.proofs.DeskTie.{finds}
+use Rattle.desk.proofs.DeskTie.{Finds, finds}
 use Rattle.desk.proofs.retire_record.Statement.{statement}
 use Rattle.desk.proofs.retire_record.Tie as tie
+
+-- the call, the record as it found it, and its used places as the code counts them
+abbrev start : tie.After-word3 → tie.Start
+start a = a .before .before .before .before .before .before .before .before .before .before
+
+abbrev R : tie.After-word3 → List ℕ
+R a = start a .args .r .now
+
+abbrev N : tie.After-word3 → ℕ
+N a = a .before .before .before .before .word .result + a .before .before .word2 .result + a .word3 .result
+
+known : (a : tie.After-word3) → Finds (start a .args .s) (R a)
+known a = finds (start a .args .s) (R a) (start a .pre)
+
+counted : (a : tie.After-word3) → N a ≡ usedPlaces (decodeDesk (R a))
+counted a = omega (arith, a .before .before .before .before .word .ensures .0, a .before .before .word2 .ensures .0, a .word3 .ensures .0, known a .count)
+
+owes : (a : tie.After-word3) → eqb (decodeDesk (R a) .owed) 0 ≡ false
+owes a = ne-eqb (decodeDesk (R a) .owed) 0 (λ z. a .before .before .before .before .before .before .before .if1 .left (known a .owed ∙ z))
 
 slice-read-owed : tie.Need-slice-read-owed
 slice-read-owed c = search needs
@@ -47,14 +69,8 @@ same-length c = search needs
 
 returns-2 : tie.Need-returns-2
 returns-2 c =
-    let r = c .before .before .before .before .before .before .before .before .before .before .before .args .r .now in
-    let s = c .before .before .before .before .before .before .before .before .before .before .before .args .s in
-    let f = finds s r (c .before .before .before .before .before .before .before .before .before .before .before .pre) in
-    let n = c .before .before .before .before .before .word .result + c .before .before .before .word2 .result + c .before .word3 .result in
-    let en : n ≡ usedPlaces (decodeDesk r) = omega (arith, c .before .before .before .before .before .word .ensures .0, c .before .before .before .word2 .ensures .0, c .before .word3 .ensures .0, f .count) in
-    let e1 = ne-eqb (decodeDesk r .owed) 0 (λ z. c .before .before .before .before .before .before .before .before .if1 .left (f .owed ∙ z)) in
-    let e2 = le-ltb (usedPlaces (decodeDesk r)) (2 * s) (omega (arith, c .if2 .taken)) in
-    record { number = simp (e1, e2); session = refl; after = refl }
+    let a = c .before in
+    record { number = simp (owes a, le-ltb (usedPlaces (decodeDesk (R a))) (2 * start a .args .s) (omega (arith, counted a, c .if2 .taken))); session = refl; after = refl }
 
 add-r : tie.Need-add-r
 add-r c = search needs
@@ -79,14 +95,12 @@ same-length-2 c = simp length-set
 
 returns-3 : tie.Need-returns-3
 returns-3 c =
-    let r = c .before .before .before .before .before .before .before .before .before .before .before .args .r .now in
-    let s = c .before .before .before .before .before .before .before .before .before .before .before .args .s in
-    let f = finds s r (c .before .before .before .before .before .before .before .before .before .before .before .pre) in
-    let n = c .before .before .before .before .before .word .result + c .before .before .before .word2 .result + c .before .word3 .result in
-    let en : n ≡ usedPlaces (decodeDesk r) = omega (arith, c .before .before .before .before .before .word .ensures .0, c .before .before .before .word2 .ensures .0, c .before .word3 .ensures .0, f .count) in
-    let e1 = ne-eqb (decodeDesk r .owed) 0 (λ z. c .before .before .before .before .before .before .before .before .if1 .left (f .owed ∙ z)) in
-    let e2 = lt-ltb (usedPlaces (decodeDesk r)) (2 * s) (omega (arith, c .if2 .left)) in
-    record { number = simp (e1, e2); session = f .owed; after = f .stores n en (c .if2 .left) }
+    let a = c .before in
+    record {
+      number = simp (owes a, lt-ltb (usedPlaces (decodeDesk (R a))) (2 * start a .args .s) (omega (arith, counted a, c .if2 .left)));
+      session = known a .owed;
+      after = known a .stores (N a) (counted a) (c .if2 .left);
+    }
 
 pub retire-record-spec : {M : Type 1} → statement M
 retire-record-spec =
