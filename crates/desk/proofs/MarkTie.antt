@@ -2,7 +2,7 @@
 use Prim.Native.Nat.{ℕ, zero, suc, _+_, _-_, _*_, _/_, _%_, _^_, _≤_, _<_}
 use native.Mathlib.Nat.{not-suc-le-zero, le-of-suc-le-suc, pow-suc}
 use native.Mathlib.Omega.{arith}
-use mathlib.Core.Bool.{Bool, true, false, not, _&&_, cond}
+use mathlib.Core.Bool.{Bool, true, false, _&&_, and-false, cond}
 use mathlib.Core.List.{List, [], _∷_, _++_, map, map-append}
 use mathlib.Core.Path.{_≡_, refl, sym, ap, ap₂, _∙_}
 use lib.Dec.{eqb, ltb}
@@ -14,9 +14,8 @@ use Rattle.rules.specs.Steps.{mark, markedOf, unmarkedOf}
 use Rattle.rules.specs.Table.{allMarks, bitValue, bitsOfWord, bitsOfWords, every, markWords, marksOf, ones, sessionsOf, wordOfBits, wordsOfBits}
 use Rattle.rules.specs.laws.Encoding.{length-marks, length-sessions, marks-read-back}
 use Rattle.rules.specs.laws.Marks.{length-mark}
-use Rattle.marks.specs.Words.{allZero, noneZero}
+use Rattle.marks.specs.Words.{allZero, every as everyWord}
 use Rattle.marks.specs.Marks.{digits, marks, onesIn, findPlace, markPlace, pick}
-use Rattle.marks.proofs.BoolLaws.{&&-false}
 use Rattle.marks.proofs.PlaceLaws.{sum, marks-sum}
 use Rattle.desk.proofs.WordDesk.{marking}
 
@@ -69,7 +68,7 @@ found x (marked y ∷ T) bs h = go (found x T bs)
   where
     go : (at x T bs < length T → Found x T bs) → Found x (marked y ∷ T) bs
     go ih =
-        let e = &&-false (eqb y x) in
+        let e = and-false (eqb y x) in
         let f = ih (le-of-suc-le-suc (rw e at h)) in
         record { free-at = rw e (f .free-at); set-at = rw e (ap {B = List Bool} (λ l. true ∷ l) (f .set-at)) }
 found x (unmarked y ∷ T) bs h = go (found x T bs) (eqb y x) refl
@@ -87,7 +86,7 @@ none x [] bs h = refl
 none x (marked y ∷ T) bs h = go (none x T bs)
   where
     go : (length T ≤ at x T bs → mark x T ≡ T) → mark x (marked y ∷ T) ≡ marked y ∷ T
-    go ih = ap {B = List TestedPlace} (λ l. marked y ∷ l) (ih (le-of-suc-le-suc (rw (&&-false (eqb y x)) at h)))
+    go ih = ap {B = List TestedPlace} (λ l. marked y ∷ l) (ih (le-of-suc-le-suc (rw (and-false (eqb y x)) at h)))
 none x (unmarked y ∷ T) bs h = go (none x T bs) (eqb y x) refl
   where
     go : (length T ≤ at x T bs → mark x T ≡ T) → (b : Bool) → eqb y x ≡ b → mark x (unmarked y ∷ T) ≡ unmarked y ∷ T
@@ -144,13 +143,9 @@ marking-is x T h = ap (λ (m : List ℕ). put (findPlace x (sessionsOf T) m)) (m
         ap (λ (t : List TestedPlace). wordsOfBits markWords (markBits t)) (sym (none x T pad (omega arith)))
 
 -- ---- the tests of soundness
-pub none-zero-is : (l : List ℕ) → noneZero l ≡ every (λ x. not (eqb x 0)) l
-none-zero-is [] = refl
-none-zero-is (x ∷ l) = ap (λ (b : Bool). not (eqb x 0) && b) (none-zero-is l)
-
-pub all-zero-is : (l : List ℕ) → allZero l ≡ every (λ x. eqb x 0) l
-all-zero-is [] = refl
-all-zero-is (x ∷ l) = ap (λ (b : Bool). eqb x 0 && b) (all-zero-is l)
+pub every-is : (test : ℕ → Bool) (l : List ℕ) → everyWord test l ≡ every test l
+every-is test [] = refl
+every-is test (x ∷ l) = ap (λ (b : Bool). test x && b) (every-is test l)
 
 zero-bits : (bs : List Bool) → allZero (map bitValue bs) ≡ eqb (ones bs) 0
 zero-bits [] = refl

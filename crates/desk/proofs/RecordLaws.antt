@@ -6,7 +6,7 @@ use mathlib.Core.Path.{_≡_, refl, sym, ap, ap₂, _∙_}
 use lib.ListN.{length, getD, set, replicate, length-append}
 use lib.Seq.{set-at}
 use Rattle.rules.specs.Table.{listPlace, markWords}
-use Rattle.marks.proofs.BoolLaws.{set-append-add}
+use Rattle.rules.specs.laws.Parts.{set-append-add}
 use Rattle.desk.proofs.WordDesk.{WordDesk, wordDesk, listed, recordWords, retired}
 
 -- ---- a store at place n of the list

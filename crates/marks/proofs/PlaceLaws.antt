@@ -3,7 +3,7 @@ use Prim.Native.Nat.{ℕ, zero, suc, _+_, _*_, _/_, _%_, _^_, _≤_, _<_}
 use native.Mathlib.Nat.{not-suc-le-zero, le-of-suc-le-suc, pow-suc}
 use native.Mathlib.Numerals.{add-one}
 use native.Mathlib.Omega.{arith}
-use mathlib.Core.Bool.{Bool, true, false, _&&_, cond}
+use mathlib.Core.Bool.{Bool, true, false, _&&_, and-false, cond}
 use mathlib.Core.List.{List, [], _∷_, _++_}
 use mathlib.Core.Path.{_≡_, refl, sym, ap, _∙_}
 use lib.Count.{ones, ones-step, ones-le}
@@ -15,17 +15,13 @@ use Rattle.marks.specs.Words.{allZero}
 use Rattle.marks.proofs.BoolLaws.{&&-left, &&-right}
 use Rattle.marks.specs.Marks.{digits, marks, onesIn, findPlace, pick}
 use Rattle.marks.proofs.Scan.{rest, ended}
-use Rattle.marks.proofs.MarkLaws.{marks-length, marks-cat, mark-small}
+use Rattle.marks.proofs.MarkLaws.{digit-of, marks-length, mark-small}
 
 -- ---- finding: what is left at j
 
 find-here : (x : ℕ) (l fs : List ℕ) (j : ℕ) → j < length l → j < length fs
     → findPlace x (drop j l) (drop j fs) ≡ cond (eqb (getD l j 0) x && eqb (getD fs j 0) 0) 0 (suc (findPlace x (drop (j + 1) l) (drop (j + 1) fs)))
 find-here x l fs j h g = rw (rest l j h, rest fs j g)
-
-&&-no : (b : Bool) → b && false ≡ false
-&&-no true = refl
-&&-no false = refl
 
 module _ (x n : ℕ) (l fs : List ℕ) (j : ℕ) (h : j < length l) (g : j < length fs) (p : n ≡ j + findPlace x (drop j l) (drop j fs)) where
   pub find-other : (getD l j 0 ≡ x → ⊥) → n ≡ (j + 1) + findPlace x (drop (j + 1) l) (drop (j + 1) fs)
@@ -35,7 +31,7 @@ module _ (x n : ℕ) (l fs : List ℕ) (j : ℕ) (h : j < length l) (g : j < len
 
   pub find-marked : (getD fs j 0 ≡ 0 → ⊥) → n ≡ (j + 1) + findPlace x (drop (j + 1) l) (drop (j + 1) fs)
   find-marked e =
-      let q = rw (ne-eqb (getD fs j 0) 0 e, &&-no (eqb (getD l j 0) x)) at (find-here x l fs j h g) in
+      let q = rw (ne-eqb (getD fs j 0) 0 e, and-false (eqb (getD l j 0) x)) at (find-here x l fs j h g) in
       omega (arith, p, q)
 
   pub find-found : getD l j 0 ≡ x → getD fs j 0 ≡ 0 → j ≡ n
@@ -49,7 +45,7 @@ find-end x n l fs j h p = let e : findPlace x (drop j l) (drop j fs) ≡ 0 = rw 
 -- ---- marking: a digit that is 0 becomes 1
 
 -- and the word still fits
-pub mark-fits : (n w b : ℕ) → b < n → w < 2 ^ n → getD (digits n w) b 0 ≡ 0 → w + 2 ^ b < 2 ^ n
+mark-fits : (n w b : ℕ) → b < n → w < 2 ^ n → getD (digits n w) b 0 ≡ 0 → w + 2 ^ b < 2 ^ n
 mark-fits zero w b h l e = absurd (not-suc-le-zero h)
 mark-fits (suc n) w zero h l e = let s = pow-suc 2 n in omega arith
 mark-fits (suc n) w (suc b) h l e =
@@ -58,12 +54,6 @@ mark-fits (suc n) w (suc b) h l e =
     let k : w / 2 < 2 ^ n = omega arith in
     let i = mark-fits n (w / 2) b (le-of-suc-le-suc h) k e in
     omega arith
-
--- the digit of place j
-digit-of : (ws : List ℕ) (j : ℕ) → j < 16 * length ws → getD (marks ws) j 0 ≡ getD (digits 16 (getD ws (j / 16) 0)) (j % 16) 0
-digit-of ws j h =
-    let e : j ≡ 16 * (j / 16) + j % 16 = omega arith in
-    ap (λ (k : ℕ). getD (marks ws) k 0) e ∙ marks-cat ws (j / 16) (j % 16) (omega arith) (omega arith)
 
 -- what the code adds is the bit, and the sum fits
 pub bit-is : (b : ℕ) → b < 16 → (1 * 2 ^ b) % 2 ^ 16 ≡ 2 ^ b

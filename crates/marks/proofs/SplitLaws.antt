@@ -12,7 +12,7 @@ use Rattle.marks.proofs.PlaceLaws.{pick-more}
 use Rattle.marks.proofs.Scan.{rest, ended}
 
 -- one element more at the front of a list that is filled from the front
-pub fill-next : (l : List ℕ) (u x : ℕ) → u < length l → take (u + 1) (set l u x) ≡ take u l ++ (x ∷ [])
+fill-next : (l : List ℕ) (u x : ℕ) → u < length l → take (u + 1) (set l u x) ≡ take u l ++ (x ∷ [])
 fill-next l u x h = rw add-one (take-suc-set l u x h)
 
 -- after j places, of which u are not marked
@@ -31,7 +31,7 @@ going-none l fs kept =
 
 module _ (l₀ fs kept₀ l kept : List ℕ) (j u : ℕ) (g : Going l₀ fs kept₀ l kept j u) (h : j < length l₀) (hf : length l₀ ≤ length fs) (hk : length l₀ ≤ length kept₀) where
   -- the place that is read is as it was
-  pub read-is : getD l j 0 ≡ getD l₀ j 0
+  read-is : getD l j 0 ≡ getD l₀ j 0
   read-is =
       let e : j ≡ j + 0 = omega arith in
       ap (λ (k : ℕ). getD l k 0) e ∙ sym (getD-drop j l 0 0) ∙ ap (λ (t : List ℕ). getD t 0 0) (g .ahead) ∙ getD-drop j l₀ 0 0
@@ -91,7 +91,7 @@ copy-next d s i h g e =
     fill-next d i (getD s i 0) h ∙ ap (λ (t : List ℕ). t ++ (getD s i 0 ∷ [])) e ∙ sym (rw add-one (take-suc s i 0 g))
 
 -- ---- moving up: one word more
-pub moved-length : (l : List ℕ) (i : ℕ) → i < length l → length (take i (drop 1 l)) ≡ i
+moved-length : (l : List ℕ) (i : ℕ) → i < length l → length (take i (drop 1 l)) ≡ i
 moved-length l i h = length-take-le i (drop 1 l) (omega (arith, length-drop 1 l))
 
 pub move-next : (l₀ l : List ℕ) (i : ℕ) → i + 1 < length l₀ → l ≡ take i (drop 1 l₀) ++ drop i l₀

@@ -1,7 +1,7 @@
 -- `desk::sound_record` meets its contract: each test answers a part of the rules' test.
 use Prim.Native.Nat.{ℕ, _+_, _*_}
 use native.Mathlib.Omega.{arith}
-use mathlib.Core.Bool.{Bool, true}
+use mathlib.Core.Bool.{Bool, true, and-false}
 use mathlib.Core.List.{List}
 use mathlib.Core.Path.{_≡_, sym, ap₂, _∙_}
 use lib.Dec.{leb}
@@ -10,7 +10,7 @@ use borrow.Author.Needs.{needs}
 use borrow.Author.Tests.{le-leb, lt-leb}
 use Rattle.rules.specs.Steps.{isNone, isSession}
 use Rattle.rules.specs.Table.{every, placesIn, recordSound, scanSound, usedIn}
-use Rattle.marks.proofs.BoolLaws.{&&-false, not-true, not-false}
+use Rattle.marks.proofs.BoolLaws.{not-true, not-false}
 use Rattle.desk.proofs.SoundRecordLaws.{free-part, marks-part, used-part}
 use Rattle.desk.proofs.sound_record.Statement.{statement}
 use Rattle.desk.proofs.sound_record.Tie as tie
@@ -127,7 +127,7 @@ unfolding recordSound
 returns-4 c =
     let d = c .before .before .before in
     let b = d .before .before .before in
-    simp (room (b .before .before .before), used (b .before) (not-false (b .if2 .left)), free (d .before) (not-false (d .if3 .left)), scanned (c .before) (not-true (c .if4 .taken)), &&-false)
+    simp (room (b .before .before .before), used (b .before) (not-false (b .if2 .left)), free (d .before) (not-false (d .if3 .left)), scanned (c .before) (not-true (c .if4 .taken)), and-false)
 
 sub-few-marks : tie.Need-sub-few-marks
 sub-few-marks c = search needs

@@ -5,8 +5,8 @@ use mathlib.Core.Logic.{⊎-elim}
 use mathlib.Core.Path.{ap, _≡_}
 use lib.ListN.{length, drop, getD}
 use borrow.Author.Needs.{needs}
-use Rattle.marks.proofs.Scan.{ended}
-use Rattle.marks.proofs.MarkLaws.{ones-small, ones-of-none, onesIn-rest}
+use Rattle.marks.proofs.Scan.{ended, rest}
+use Rattle.marks.proofs.MarkLaws.{ones-small, ones-of-none}
 use Rattle.marks.specs.Marks.{onesIn}
 use Rattle.marks.proofs.ones.Statement.{statement}
 use Rattle.marks.proofs.ones.Tie as tie
@@ -44,7 +44,7 @@ loop-again c =
     let m = c .before .before .before .before .args .m .now in
     let i = c .before .before .before .loop .i in
     let h = ones-small _ (c .before .shared-slice-known .given i) in
-    let rest = onesIn-rest m i (omega arith) in
+    let e = ap onesIn (rest m i (omega arith)) in
     ⊎-elim (λ w. (omega arith, omega arith, omega arith)) (λ w. (omega arith, omega arith, omega (arith, ones-of-none (getD m i 0) (w .0 .left)))) (c .if1 .came)
 
 returns : tie.Need-returns Inv-loop μ-loop

@@ -2,10 +2,11 @@
 use Prim.Native.Nat.{_-_}
 use native.Mathlib.Omega.{arith}
 use mathlib.Core.Path.{sym, _∙_}
-use lib.ListN.{length}
+use lib.ListN.{getD, length}
 use borrow.Author.Needs.{needs}
+use borrow.Author.Tests.{eqb-true}
 use Rattle.marks.proofs.SplitLaws.{Going, going-none, going-unmarked, going-marked, going-end}
-use Rattle.marks.proofs.MarkLaws.{marks-length, is-unmarked, is-marked}
+use Rattle.marks.proofs.MarkLaws.{marks-length, is-unmarked}
 use Rattle.marks.specs.Marks.{marks}
 use Rattle.marks.proofs.split.Statement.{statement}
 use Rattle.marks.proofs.split.Tie as tie
@@ -50,7 +51,7 @@ loop-again c =
     let i = c .before .before .before .before .loop .inv in
     let g = marks-length m in
     going-marked (c .before .before .before .before .before .before .before .before .args .l .now) (marks m) (c .before .before .before .before .before .before .before .before .args .kept .now) (c .before .before .before .before .loop .l) (c .before .before .before .before .loop .kept) j (c .before .before .before .before .loop .u) i (omega arith) (omega arith) (omega arith)
-    (is-marked m j (sym (c .before .marked .ensures) ∙ c .if1 .taken))
+    (eqb-true (getD (marks m) j 0) 1 (sym (c .before .marked .ensures) ∙ c .if1 .taken))
 
 mul-l : tie.Need-mul-l Inv-loop μ-loop
 mul-l c = search needs
@@ -74,7 +75,7 @@ loop-again-2 c =
     let i = c .before .before .before .before .loop .inv in
     let g = marks-length m in
     going-unmarked (c .before .before .before .before .before .before .before .before .args .l .now) (marks m) (c .before .before .before .before .before .before .before .before .args .kept .now) (c .before .before .before .before .loop .l) (c .before .before .before .before .loop .kept) j (c .before .before .before .before .loop .u) i (omega arith) (omega arith) (omega arith)
-    (is-unmarked m j (omega arith) (sym (c .before .marked .ensures) ∙ c .if1 .left))
+    (is-unmarked m j (sym (c .before .marked .ensures) ∙ c .if1 .left))
 
 same-length : tie.Need-same-length Inv-loop μ-loop
 same-length c = search needs
