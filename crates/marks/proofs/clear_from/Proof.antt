@@ -1,8 +1,9 @@
 -- `marks::clear_from` meets its contract.
-use Prim.Native.Nat.{_+_, _-_, _/_, _^_}
+use Prim.Native.Nat.{ℕ, _+_, _-_, _/_, _^_}
 use native.Mathlib.Omega.{arith}
-use mathlib.Core.Bool.{Bool, _&&_}
-use mathlib.Core.Path.{_≡_, sym, ap, _∙_}
+use mathlib.Core.Bool.{_&&_}
+use mathlib.Core.List.{List}
+use mathlib.Core.Path.{_≡_, sym}
 use lib.Dec.{eqb}
 use lib.ListN.{length, getD, take, drop}
 use borrow.Author.Needs.{needs}
@@ -13,15 +14,27 @@ use Rattle.marks.proofs.WordLaws.{clear-past, clear-words}
 use Rattle.marks.proofs.clear_from.Statement.{statement}
 use Rattle.marks.proofs.clear_from.Tie as tie
 
+-- the mark words, and the word and bit of place n
+abbrev M : tie.After-mark-spot → List ℕ
+M a = a .before .before .args .m .now
+
+abbrev Q : tie.After-mark-spot → ℕ
+Q a = a .mark-spot .result .word
+
+abbrev first : tie.After-mark-spot → ℕ
+first a = getD (M a) (Q a) 0 / 2 ^ a .mark-spot .result .bit
+
 -- the marks from n on, in words
-in-words : (c : tie.Else1) → allZero (drop (c .before .before .before .args .n) (marks (c .before .before .before .args .m .now))) ≡ eqb (getD (c .before .before .before .args .m .now) (c .before .mark-spot .result .word) 0 / 2 ^ c .before .mark-spot .result .bit) 0 && allZero (take (length (c .before .before .before .args .m .now) - (c .before .mark-spot .result .word + 1)) (drop (c .before .mark-spot .result .word + 1) (c .before .before .before .args .m .now)))
-in-words c = clear-words (c .before .before .before .args .m .now) (c .before .before .before .args .n) (c .before .mark-spot .result .word) (c .before .mark-spot .result .bit) (λ i. c .before .before .shared-slice-known .given i .fits) (c .before .mark-spot .ensures .0) (c .before .mark-spot .ensures .1) (omega arith)
+in-words : (c : tie.Else1) → allZero (drop (c .before .before .before .args .n) (marks (M (c .before)))) ≡ eqb (first (c .before)) 0 && allZero (take (length (M (c .before)) - (Q (c .before) + 1)) (drop (Q (c .before) + 1) (M (c .before))))
+in-words c =
+    let a = c .before in
+    clear-words (M a) (a .before .before .args .n) (Q a) (a .mark-spot .result .bit) (λ i. a .before .shared-slice-known .given i .fits) (a .mark-spot .ensures .0) (a .mark-spot .ensures .1) (omega arith)
 
 mark-spot-requires : tie.Need-mark-spot-requires
 mark-spot-requires c κs = search needs
 
 returns : tie.Need-returns
-returns c = sym (clear-past (c .before .before .before .args .m .now) (c .before .before .before .args .n) (c .before .mark-spot .result .word) (c .before .mark-spot .ensures .0) (c .if1 .taken))
+returns c = let a = c .before in sym (clear-past (M a) (a .before .before .args .n) (Q a) (a .mark-spot .ensures .0) (c .if1 .taken))
 
 mul-if2 : tie.Need-mul-if2
 mul-if2 c = search needs
@@ -36,7 +49,7 @@ shr-if2 : tie.Need-shr-if2
 shr-if2 c = search needs
 
 returns-2 : tie.Need-returns-2
-returns-2 c = let e = ne-eqb (getD (c .before .before .before .before .before .args .m .now) (c .before .before .before .mark-spot .result .word) 0 / 2 ^ c .before .before .before .mark-spot .result .bit) 0 (c .if2 .taken) in sym (in-words (c .before .before) ∙ ap (λ (b : Bool). b && allZero (take (length (c .before .before .before .before .before .args .m .now) - (c .before .before .before .mark-spot .result .word + 1)) (drop (c .before .before .before .mark-spot .result .word + 1) (c .before .before .before .before .before .args .m .now)))) e)
+returns-2 c = rw (in-words (c .before .before), ne-eqb (first (c .before .before .before)) 0 (c .if2 .taken))
 
 add-all-zero : tie.Need-add-all-zero
 add-all-zero c = search needs
@@ -57,7 +70,7 @@ all-zero-requires : tie.Need-all-zero-requires
 all-zero-requires c κs = search needs
 
 returns-3 : tie.Need-returns-3
-returns-3 c = let e = eq-eqb (getD (c .before .before .before .before .before .before .before .args .m .now) (c .before .before .before .before .before .mark-spot .result .word) 0 / 2 ^ c .before .before .before .before .before .mark-spot .result .bit) 0 (c .before .before .if2 .left) in c .all-zero .ensures ∙ sym (in-words (c .before .before .before .before) ∙ ap (λ (b : Bool). b && allZero (take (length (c .before .before .before .before .before .before .before .args .m .now) - (c .before .before .before .before .before .mark-spot .result .word + 1)) (drop (c .before .before .before .before .before .mark-spot .result .word + 1) (c .before .before .before .before .before .before .before .args .m .now)))) e)
+returns-3 c = rw (in-words (c .before .before .before .before), eq-eqb (first (c .before .before .before .before .before)) 0 (c .before .before .if2 .left)) (c .all-zero .ensures)
 
 pub clear-from-spec : {M : Type 1} → statement M
 clear-from-spec =

@@ -62,7 +62,9 @@ loop-again c =
     )
 
 returns-2 : tie.Need-returns-2 Inv-loop μ-loop
-returns-2 c = find-end (c .before .before .before .before .args .x) (findPlace (c .before .before .before .before .args .x) (c .before .before .before .before .args .l .now) (marks (c .before .before .before .before .args .m .now))) (c .before .before .before .before .args .l .now) (marks (c .before .before .before .before .args .m .now)) (c .before .loop .j) (omega arith) (c .before .loop .inv .1)
+returns-2 c =
+    let o = c .before .before .before .before in
+    find-end (o .args .x) (findPlace (o .args .x) (o .args .l .now) (marks (o .args .m .now))) (o .args .l .now) (marks (o .args .m .now)) (c .before .loop .j) (omega arith) (c .before .loop .inv .1)
 
 pub find-place-spec : {M : Type 1} → statement M
 find-place-spec =

@@ -44,8 +44,9 @@ loop-less c = search needs
 
 loop-again : tie.Need-loop-again Inv-loop μ-loop
 loop-again c =
-    let v = c .before .before .loop .inv in
-    (omega arith, length-set (c .before .before .loop .l) (c .before .before .loop .i) (getD (c .before .before .loop .l) (c .before .before .loop .i + 1) 0) ∙ c .before .before .loop .inv .1, move-next (c .before .before .before .args .l .now) (c .before .before .loop .l) (c .before .before .loop .i) (omega arith) (c .before .before .loop .inv .2))
+    let a = c .before .before in
+    let v = a .loop .inv in
+    (omega arith, length-set (a .loop .l) (a .loop .i) (getD (a .loop .l) (a .loop .i + 1) 0) ∙ v .1, move-next (a .before .args .l .now) (a .loop .l) (a .loop .i) (omega arith) (v .2))
 
 mul-l-3 : tie.Need-mul-l-3 Inv-loop μ-loop
 mul-l-3 c = search needs

@@ -46,12 +46,13 @@ loop-less c = search needs
 
 loop-again : tie.Need-loop-again Inv-loop μ-loop
 loop-again c =
-    let m = c .before .before .before .before .before .before .before .before .args .m .now in
-    let j = c .before .before .before .before .loop .j in
-    let i = c .before .before .before .before .loop .inv in
+    let a = c .before .before .before .before in
+    let o = a .before .before .before .before in
+    let m = o .args .m .now in
+    let i = a .loop .inv in
     let g = marks-length m in
-    going-marked (c .before .before .before .before .before .before .before .before .args .l .now) (marks m) (c .before .before .before .before .before .before .before .before .args .kept .now) (c .before .before .before .before .loop .l) (c .before .before .before .before .loop .kept) j (c .before .before .before .before .loop .u) i (omega arith) (omega arith) (omega arith)
-    (eqb-true (getD (marks m) j 0) 1 (sym (c .before .marked .ensures) ∙ c .if1 .taken))
+    going-marked (o .args .l .now) (marks m) (o .args .kept .now) (a .loop .l) (a .loop .kept) (a .loop .j) (a .loop .u) i (omega arith) (omega arith) (omega arith)
+    (eqb-true (getD (marks m) (a .loop .j) 0) 1 (sym (c .before .marked .ensures) ∙ c .if1 .taken))
 
 mul-l : tie.Need-mul-l Inv-loop μ-loop
 mul-l c = search needs
@@ -70,12 +71,13 @@ loop-less-2 c = search needs
 
 loop-again-2 : tie.Need-loop-again-2 Inv-loop μ-loop
 loop-again-2 c =
-    let m = c .before .before .before .before .before .before .before .before .args .m .now in
-    let j = c .before .before .before .before .loop .j in
-    let i = c .before .before .before .before .loop .inv in
+    let a = c .before .before .before .before in
+    let o = a .before .before .before .before in
+    let m = o .args .m .now in
+    let i = a .loop .inv in
     let g = marks-length m in
-    going-unmarked (c .before .before .before .before .before .before .before .before .args .l .now) (marks m) (c .before .before .before .before .before .before .before .before .args .kept .now) (c .before .before .before .before .loop .l) (c .before .before .before .before .loop .kept) j (c .before .before .before .before .loop .u) i (omega arith) (omega arith) (omega arith)
-    (is-unmarked m j (sym (c .before .marked .ensures) ∙ c .if1 .left))
+    going-unmarked (o .args .l .now) (marks m) (o .args .kept .now) (a .loop .l) (a .loop .kept) (a .loop .j) (a .loop .u) i (omega arith) (omega arith) (omega arith)
+    (is-unmarked m (a .loop .j) (sym (c .before .marked .ensures) ∙ c .if1 .left))
 
 same-length : tie.Need-same-length Inv-loop μ-loop
 same-length c = search needs
@@ -85,8 +87,10 @@ same-length-2 c = search needs
 
 returns : tie.Need-returns Inv-loop μ-loop
 returns c =
-    let i = c .before .loop .inv in
-    going-end (c .before .before .before .before .before .args .l .now) (marks (c .before .before .before .before .before .args .m .now)) (c .before .before .before .before .before .args .kept .now) (c .before .loop .l) (c .before .loop .kept) (c .before .loop .j) (c .before .loop .u) i (omega arith)
+    let a = c .before in
+    let o = a .before .before .before .before in
+    let i = a .loop .inv in
+    going-end (o .args .l .now) (marks (o .args .m .now)) (o .args .kept .now) (a .loop .l) (a .loop .kept) (a .loop .j) (a .loop .u) i (omega arith)
 
 pub split-spec : {M : Type 1} → statement M
 split-spec =
