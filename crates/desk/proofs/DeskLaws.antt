@@ -5,22 +5,26 @@ use native.Mathlib.Omega.{arith}
 use mathlib.Core.List.{List, [], _∷_, _++_, append-assoc, append-nil}
 use mathlib.Core.Path.{_≡_, refl, sym, ap, ap₂, _∙_, subst}
 use lib.ListN.{length, getD, take, drop, set, replicate, length-append, length-drop, length-replicate, drop-of-length-le, replicate-append-replicate}
-use lib.Seq.{drop-cons, getD-take, getD-drop, take-all, drop-drop, take-append-seam, drop-append-seam, take-at, drop-at, take-append-add, drop-append-add}
+use lib.Seq.{drop-cons, getD-take, getD-drop, take-all, drop-drop, take-append-seam, drop-append-seam, take-at, drop-at, take-append-add, drop-append-add, set-at}
 use borrow.Author.Tests.{eq-eqb, ne-eqb, lt-ltb, le-ltb}
 use borrow.Rule.Slice.PartMut.{putMid}
 use Rattle.rules.specs.Hall.{mostAllScreens}
 use Rattle.rules.specs.Table.{listPlace, markWords, marksPlace, widthFor}
 use Rattle.rules.specs.laws.Decoding.{small-drop, small-take}
+use Rattle.rules.specs.laws.Parts.{set-append-add}
 use Rattle.marks.specs.Marks.{marks, onesIn, findPlace, markPlace, pick}
 use Rattle.marks.proofs.MarkLaws.{marks-length, mark-small}
 use Rattle.marks.proofs.PlaceLaws.{found-unmarked, marked-count, pick-all}
-use Rattle.desk.proofs.WordDesk.{WordDesk, wordDesk, listed, recordWords, testing, seeing, settled, handed, Fit, Formed}
+use Rattle.desk.proofs.WordDesk.{WordDesk, wordDesk, listed, recordWords, testing, seeing, settled, handed, retired, Fit, Formed}
 
 -- ---- a record's words: five, the mark words and the places
 abbrev pub raw : ℕ → ℕ → ℕ → ℕ → ℕ → List ℕ → List ℕ → List ℕ
 raw o k a b c ws l = o ∷ k ∷ a ∷ b ∷ c ∷ (ws ++ l)
 
 -- ---- from a state to its record and back
+
+pub lengths : (d : WordDesk) → length (listed d) ≡ length (d .ready) + length (d .tested) + length (d .waiting)
+lengths d = omega (arith, length-append (d .ready) (d .tested ++ d .waiting), length-append (d .tested) (d .waiting))
 
 pub record-length : (s : ℕ) (d : WordDesk) → Fit s d → length (recordWords s d) ≡ widthFor s
 unfolding recordWords
@@ -51,6 +55,18 @@ formed s d h f =
     let e = round s d (f .eight) in
     record { most = h; is = ap (recordWords s) (sym e); fit = subst (λ (x : WordDesk). Fit s x) (sym e) f }
 
+-- ---- from one part to the next: what the code left, as the state that it says
+pub record Left (s : ℕ) (d : WordDesk) (r : List ℕ) : Type 0 where
+  pub formed-is : Formed s r
+  pub desk-is : wordDesk r ≡ d
+
+pub left : (s : ℕ) (d : WordDesk) (r : List ℕ) → s ≤ mostAllScreens → Fit s d → r ≡ recordWords s d → Left s d r
+left s d r h f e =
+    record {
+      formed-is = subst (λ (x : List ℕ). Formed s x) (sym e) (formed s d h f);
+      desk-is = ap wordDesk e ∙ round s d (f .eight);
+    }
+
 -- ---- what the words of a formed record are
 pub record Facts (s : ℕ) (r : List ℕ) : Type 0 where
   pub long : length r ≡ widthFor s
@@ -70,11 +86,15 @@ facts s r f =
       ready = ap (λ (x : List ℕ). getD x 2 0) (f .is);
       tested = ap (λ (x : List ℕ). getD x 3 0) (f .is);
       waiting = ap (λ (x : List ℕ). getD x 4 0) (f .is);
-      sum = omega (arith, length-append (d .ready) (d .tested ++ d .waiting), length-append (d .tested) (d .waiting));
+      sum = omega (arith, lengths d);
       most = f .most;
     }
 
-pub read-of : (r : List ℕ) → getD r 1 0 ≡ wordDesk r .read
+pub owed-of : (r : List ℕ) → wordDesk r .owed ≡ getD r 0 0
+unfolding wordDesk
+owed-of r = refl
+
+read-of : (r : List ℕ) → getD r 1 0 ≡ wordDesk r .read
 unfolding wordDesk
 read-of r = refl
 
@@ -90,7 +110,7 @@ nil-of (x ∷ l) e = absurd (suc-not (length l) e)
     suc-not : (n : ℕ) → suc n ≡ 0 → ⊥
     suc-not n e = omega arith
 
-pub start-words : (s : ℕ) (d : WordDesk) → length (d .tested) ≡ 0 → set (set (recordWords s d) 3 (length (d .waiting))) 4 0 ≡ recordWords s (testing d)
+start-words : (s : ℕ) (d : WordDesk) → length (d .tested) ≡ 0 → set (set (recordWords s d) 3 (length (d .waiting))) 4 0 ≡ recordWords s (testing d)
 unfolding recordWords
 start-words s d e =
     let t = nil-of (d .tested) e in
@@ -102,11 +122,11 @@ start-words s d e =
 -- ---- a part replaced
 
 -- the mark words
-pub put-marks : (o k a b c : ℕ) (ws l ys : List ℕ) → length ws ≡ markWords → putMid marksPlace markWords (raw o k a b c ws l) ys ≡ raw o k a b c ys l
+put-marks : (o k a b c : ℕ) (ws l ys : List ℕ) → length ws ≡ markWords → putMid marksPlace markWords (raw o k a b c ws l) ys ≡ raw o k a b c ys l
 put-marks o k a b c ws l ys e = ap (λ (t : List ℕ). o ∷ k ∷ a ∷ b ∷ c ∷ (ys ++ t)) (drop-at ws l markWords e)
 
 -- a part of the places
-pub put-places : (o k a b c : ℕ) (ws p q r ys : List ℕ) (i n m : ℕ) → length ws ≡ markWords → i ≡ listPlace + n → length p ≡ n → length q ≡ m
+put-places : (o k a b c : ℕ) (ws p q r ys : List ℕ) (i n m : ℕ) → length ws ≡ markWords → i ≡ listPlace + n → length p ≡ n → length q ≡ m
     → putMid i m (raw o k a b c ws (p ++ (q ++ r))) ys ≡ raw o k a b c ws (p ++ (ys ++ r))
 put-places o k a b c ws p q r ys i n m e h ep eq =
     let j : i ≡ suc (suc (suc (suc (suc (length ws + n))))) = omega arith in
@@ -119,24 +139,24 @@ put-places o k a b c ws p q r ys i n m e h ep eq =
     ∙ ap (λ (x : List ℕ). o ∷ k ∷ a ∷ b ∷ c ∷ x) (append-assoc ws p (ys ++ r))
 
 -- ---- (b)
-abbrev pub withWords : WordDesk → List ℕ → WordDesk
+abbrev withWords : WordDesk → List ℕ → WordDesk
 withWords d ws =
     record { owed = d .owed; read = d .read + 1; ready = d .ready; tested = d .tested; waiting = d .waiting; words = ws }
 
-pub see-marked : (s : ℕ) (d : WordDesk) (ys : List ℕ) → length (d .words) ≡ markWords → set (putMid marksPlace markWords (recordWords s d) ys) 1 (d .read + 1) ≡ recordWords s (withWords d ys)
+see-marked : (s : ℕ) (d : WordDesk) (ys : List ℕ) → length (d .words) ≡ markWords → set (putMid marksPlace markWords (recordWords s d) ys) 1 (d .read + 1) ≡ recordWords s (withWords d ys)
 unfolding recordWords
 see-marked s d ys e =
     ap (λ (x : List ℕ). set x 1 (d .read + 1))
     (put-marks (d .owed) (d .read) (length (d .ready)) (length (d .tested)) (length (d .waiting)) (d .words) (listed d ++ replicate (2 * s - length (listed d)) 0) ys e)
 
-pub see-unmarked : (s : ℕ) (d : WordDesk) → set (recordWords s d) 1 (d .read + 1) ≡ recordWords s (withWords d (d .words))
+see-unmarked : (s : ℕ) (d : WordDesk) → set (recordWords s d) 1 (d .read + 1) ≡ recordWords s (withWords d (d .words))
 unfolding recordWords
 see-unmarked s d = refl
 
 -- ---- (d)
 
 -- all the places
-pub put-all : (o k a b c : ℕ) (ws l ys : List ℕ) (m : ℕ) → length ws ≡ markWords → length l ≤ m → putMid listPlace m (raw o k a b c ws l) ys ≡ raw o k a b c ws ys
+put-all : (o k a b c : ℕ) (ws l ys : List ℕ) (m : ℕ) → length ws ≡ markWords → length l ≤ m → putMid listPlace m (raw o k a b c ws l) ys ≡ raw o k a b c ws ys
 put-all o k a b c ws l ys m e h =
     let z : drop m (drop markWords (ws ++ l)) ≡ [] = ap (drop m) (drop-at ws l markWords e) ∙ drop-of-length-le l h in
     (λ i. o ∷ k ∷ a ∷ b ∷ c ∷ (take-at ws l markWords e i ++ (ys ++ z i))) ∙ ap (λ (x : List ℕ). o ∷ k ∷ a ∷ b ∷ c ∷ (ws ++ x)) (append-nil ys)
@@ -253,7 +273,7 @@ pub eight-is : (m : List ℕ) → length m ≡ markWords → m ≡ getD m 0 0 �
 eight-is m e = drop-cons m 0 0 (omega arith) ∙ ap (λ (t : List ℕ). getD m 0 0 ∷ t) (drop-cons m 1 0 (omega arith) ∙ ap (λ (t : List ℕ). getD m 1 0 ∷ t) (drop-cons m 2 0 (omega arith) ∙ ap (λ (t : List ℕ). getD m 2 0 ∷ t) (drop-cons m 3 0 (omega arith) ∙ ap (λ (t : List ℕ). getD m 3 0 ∷ t) (drop-cons m 4 0 (omega arith) ∙ ap (λ (t : List ℕ). getD m 4 0 ∷ t) (drop-cons m 5 0 (omega arith) ∙ ap (λ (t : List ℕ). getD m 5 0 ∷ t) (drop-cons m 6 0 (omega arith) ∙ ap (λ (t : List ℕ). getD m 6 0 ∷ t) (drop-cons m 7 0 (omega arith) ∙ ap (λ (t : List ℕ). getD m 7 0 ∷ t) (drop-of-length-le m {i = markWords} (omega arith)))))))))
 
 -- what the code makes of a record x: ys in the place of the tested, no marks, and the counts
-abbrev pub settling : List ℕ → ℕ → ℕ → List ℕ → ℕ → ℕ → List ℕ
+abbrev settling : List ℕ → ℕ → ℕ → List ℕ → ℕ → ℕ → List ℕ
 settling x i n ys a w = set (set (set (set (putMid marksPlace markWords (putMid i n x ys) (replicate markWords 0)) 1 0) 2 a) 3 0) 4 w
 
 settle-words : (s : ℕ) (d : WordDesk) (i n a w : ℕ) (p q : List ℕ) → length (d .words) ≡ markWords → i ≡ listPlace + length (d .ready) → n ≡ length (d .tested)
@@ -333,3 +353,37 @@ settle-stores s r f a b w k m c ys zs ey ez =
     let e2 : w + k ≡ length (q ++ d .waiting) = omega (arith, length-append q (d .waiting), c .waiting, c .kept) in
     (λ i. set (set (set (set (putMid marksPlace markWords (putMid (listPlace + a) (n i) (f .is i) (y i)) (ez i)) 1 0) 2 (a + (b - k))) 3 0) 4 (w + k))
     ∙ settle-words s d (listPlace + a) b (a + (b - k)) (w + k) p q (f .fit .eight) (ap (λ (x : ℕ). listPlace + x) (c .ready)) (c .tested) (c .all) e1 e2
+
+-- ---- retire
+
+-- a store at place n of the list
+set-place : (o k a b c : ℕ) (m l : List ℕ) (n v : ℕ) → length m ≡ markWords
+    → set (o ∷ k ∷ a ∷ b ∷ c ∷ (m ++ l)) (listPlace + n) v ≡ o ∷ k ∷ a ∷ b ∷ c ∷ (m ++ set l n v)
+set-place o k a b c m l n v e =
+    let h : listPlace + n ≡ suc (suc (suc (suc (suc (length m + n))))) = omega arith in
+    ap (λ (j : ℕ). set (o ∷ k ∷ a ∷ b ∷ c ∷ (m ++ l)) j v) h
+    ∙ ap (λ (x : List ℕ). o ∷ k ∷ a ∷ b ∷ c ∷ x) (set-append-add m l n v)
+
+-- one more at the end of a list that zeros follow
+set-end : (p : List ℕ) (q n v : ℕ) → length p ≡ n → n < q → set (p ++ replicate (q - n) 0) n v ≡ (p ++ (v ∷ [])) ++ replicate (q - (n + 1)) 0
+set-end p q n v e h =
+    let z : q - n ≡ suc (q - (n + 1)) = omega arith in
+    ap (λ (j : ℕ). set (p ++ replicate j 0) n v) z ∙ set-at p 0 (replicate (q - (n + 1)) 0) v n e
+    ∙ sym (append-assoc p (v ∷ []) (replicate (q - (n + 1)) 0))
+
+-- the three stores
+pub retire-words : (s : ℕ) (d : WordDesk) → length (d .words) ≡ markWords → length (listed d) < 2 * s
+    → set (set (set (recordWords s d) (listPlace + length (listed d)) (d .owed)) 4 (length (d .waiting) + 1)) 0 0 ≡ recordWords s (retired d)
+unfolding recordWords
+retire-words s d e h =
+    let n = length (listed d) in
+    let v = d .owed in
+    let z : List ℕ = replicate (2 * s - n) 0 in
+    let g : listed (retired d) ≡ listed d ++ (v ∷ []) = simp append-assoc in
+    let w : length (d .waiting) + 1 ≡ length (d .waiting ++ (v ∷ [])) = sym (length-append (d .waiting) (v ∷ [])) in
+    let q : n + 1 ≡ length (listed (retired d)) = sym (ap length g ∙ length-append (listed d) (v ∷ [])) in
+    let p : set (listed d ++ z) n v ≡ listed (retired d) ++ replicate (2 * s - length (listed (retired d))) 0
+    = set-end (listed d) (2 * s) n v refl h ∙ ap₂ (λ (x : List ℕ) (k : ℕ). x ++ replicate (2 * s - k) 0) (sym g) q in
+    ap (λ (x : List ℕ). set (set x 4 (length (d .waiting) + 1)) 0 0)
+    (set-place v (d .read) (length (d .ready)) (length (d .tested)) (length (d .waiting)) (d .words) (listed d ++ z) n v e)
+    ∙ (λ i. 0 ∷ d .read ∷ length (d .ready) ∷ length (d .tested) ∷ w i ∷ (d .words ++ p i))

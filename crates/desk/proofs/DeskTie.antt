@@ -14,15 +14,13 @@ use Rattle.rules.specs.Table.{allMarks, listPlace, markWords, widthFor}
 use Rattle.rules.specs.laws.Bools.{and-right}
 use Rattle.rules.specs.laws.Decoding.{passed, record-again}
 use Rattle.rules.specs.laws.Encoding.{desk-read-back, length-sessions}
-use Rattle.rules.specs.laws.Marks.{length-mark, length-mark-each, unmarked-and-marked}
+use Rattle.rules.specs.laws.Marks.{length-mark-each, unmarked-and-marked}
 use Rattle.rules.specs.laws.SoundTables.{desk-sound}
 use Rattle.marks.specs.Words.{allZero}
 use Rattle.marks.specs.Marks.{pick}
-use Rattle.desk.proofs.WordDesk.{WordDesk, wordDesk, listed, recordWords, testing, seeing, reading, settled, handed, Fit, Formed}
+use Rattle.desk.proofs.WordDesk.{WordDesk, wordDesk, listed, recordWords, testing, seeing, settled, handed, Fit, Formed}
 use Rattle.desk.specs.Record.{Encoded}
-use Rattle.desk.proofs.FitLaws.{lengths, Left, left}
-use Rattle.desk.proofs.DeskLaws.{facts, record-length}
-use Rattle.desk.proofs.RecordLaws.{retire-words, owed-is}
+use Rattle.desk.proofs.DeskLaws.{Left, facts, left, lengths, owed-of, record-length, retire-words}
 use Rattle.desk.proofs.MarkTie.{markBits, mark-bits, pick-unmarked, pick-marked, marking-is}
 
 -- a desk of the rules, in words
@@ -76,7 +74,7 @@ module _ (o k : ℕ) (R : List ℕ) where
   test-none W h = λ i. record { owed = o; read = k; ready = R; tested = sessions-begin W i; waiting = []; words = wordsOfBits markWords (no-marks W h i) }
 
   test-some : (p : TestedPlace) (T : List TestedPlace) (W : List ℕ) → testing (inWords (mk (p ∷ T) W)) ≡ inWords (mk (p ∷ T) W)
-  test-some p T W = ap (λ (n : ℕ). cond (eqb n 0) (record { owed = o; read = k; ready = R; tested = W; waiting = []; words = wordsOfBits markWords (markBits (p ∷ T)) }) (inWords (mk (p ∷ T) W))) (length-sessions (p ∷ T)) ∙ ap (λ (b : Bool). cond b (record { owed = o; read = k; ready = R; tested = W; waiting = []; words = wordsOfBits markWords (markBits (p ∷ T)) }) (inWords (mk (p ∷ T) W))) (eqb·suc-zero (length T))
+  test-some p T W = rw (length-sessions (p ∷ T), eqb·suc-zero (length T))
 
   test-is : (T : List TestedPlace) (W : List ℕ) → length W ≤ allMarks → testing (inWords (mk T W)) ≡ inWords (begin (mk T W))
   test-is [] W h = test-none W h
@@ -86,21 +84,15 @@ pub testing-is : (D : Desk) → length (D .waiting) ≤ allMarks → testing (in
 testing-is D h = test-is (D .owed) (D .scanned) (D .ready) (D .tested) (D .waiting) h
 
 -- ---- (b)
-pub reading-is : (vs : List ℕ) (D : Desk) → length (D .tested) ≤ allMarks → reading vs (inWords D) ≡ inWords (readScreens vs D)
-reading-is [] D h = let e : D .scanned ≡ D .scanned + 0 = omega arith in λ i. record { owed = D .owed; read = e i; ready = D .ready; tested = sessionsOf (D .tested); waiting = D .waiting; words = wordsOfBits markWords (markBits (D .tested)) }
-reading-is (x ∷ vs) D h =
-    let E : Desk = record { owed = D .owed; scanned = D .scanned + 1; ready = D .ready; tested = mark x (D .tested); waiting = D .waiting } in
-    let e : D .scanned + 1 + length vs ≡ D .scanned + suc (length vs) = omega arith in
-    ap (reading vs) (λ i. record { owed = D .owed; read = D .scanned + 1; ready = D .ready; tested = same x (D .tested) i; waiting = D .waiting; words = marking-is x (D .tested) h i })
-    ∙ reading-is vs E (omega (arith, length-mark x (D .tested)))
-    ∙ (λ i. record { owed = D .owed; read = e i; ready = D .ready; tested = sessionsOf (markEach vs (mark x (D .tested))); waiting = D .waiting; words = wordsOfBits markWords (markBits (markEach vs (mark x (D .tested)))) })
+pub seeing-is : (x : ℕ) (D : Desk) → length (D .tested) ≤ allMarks → seeing x (inWords D) ≡ inWords (readScreens (x ∷ []) D)
+seeing-is x D h = λ i. record { owed = D .owed; read = D .scanned + 1; ready = D .ready; tested = same (D .tested) i; waiting = D .waiting; words = marking-is x (D .tested) h i }
   where
-    same : (v : ℕ) (T : List TestedPlace) → sessionsOf T ≡ sessionsOf (mark v T)
-    same v [] = refl
-    same v (marked y ∷ T) = ap {B = List ℕ} (λ l. y ∷ l) (same v T)
-    same v (unmarked y ∷ T) = go (eqb v y) (same v T)
+    same : (T : List TestedPlace) → sessionsOf T ≡ sessionsOf (mark x T)
+    same [] = refl
+    same (marked y ∷ T) = ap {B = List ℕ} (λ l. y ∷ l) (same T)
+    same (unmarked y ∷ T) = go (eqb x y) (same T)
       where
-        go : (b : Bool) → sessionsOf T ≡ sessionsOf (mark v T) → y ∷ sessionsOf T ≡ sessionsOf (cond b (marked y ∷ T) (unmarked y ∷ mark v T))
+        go : (b : Bool) → sessionsOf T ≡ sessionsOf (mark x T) → y ∷ sessionsOf T ≡ sessionsOf (cond b (marked y ∷ T) (unmarked y ∷ mark x T))
         go true ih = refl
         go false ih = ap {B = List ℕ} (λ l. y ∷ l) ih
 
@@ -139,7 +131,7 @@ finds s r c =
     let t = ap (λ (d : WordDesk). length (d .tested)) (l .desk-is) in
     let a = ap (λ (d : WordDesk). length (d .ready)) (l .desk-is) in
     let w = ap (λ (d : WordDesk). length (d .waiting)) (l .desk-is) in
-    let o : getD r 0 0 ≡ D .owed = owed-is r in
+    let o : getD r 0 0 ≡ D .owed = owed-of r in
     let g : getD r 4 0 ≡ length (D .waiting) = f .waiting ∙ w in
     record {
       owed = o;
@@ -165,7 +157,7 @@ module _ (s : ℕ) (r : List ℕ) (c : Encoded s r) where
   begun-encoded = part-encoded testing (begin (decodeDesk r)) (testing-is (decodeDesk r) (omega (arith, c .room, c .most)))
 
   pub read-encoded : (x : ℕ) → recordWords s (seeing x (wordDesk r)) ≡ encodeDesk s (readScreens (x ∷ []) (decodeDesk r))
-  read-encoded x = part-encoded (seeing x) (readScreens (x ∷ []) (decodeDesk r)) (reading-is (x ∷ []) (decodeDesk r) tested-most)
+  read-encoded x = part-encoded (seeing x) (readScreens (x ∷ []) (decodeDesk r)) (seeing-is x (decodeDesk r) tested-most)
 
   pub settled-encoded : recordWords s (settled (wordDesk r)) ≡ encodeDesk s (settleIf true (decodeDesk r))
   settled-encoded = part-encoded settled (settleIf true (decodeDesk r)) (settled-is (decodeDesk r) tested-most)

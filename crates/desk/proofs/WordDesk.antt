@@ -68,11 +68,6 @@ seeing x d =
       words = marking x (d .tested) (d .words);
     }
 
--- several, in their order
-abbrev pub reading : List ℕ → WordDesk → WordDesk
-reading [] d = d
-reading (x ∷ xs) d = reading xs (seeing x d)
-
 -- (c) unmarked tested sessions join the end of ready, marked ones become waiting ahead of those waiting; marks and k go to 0
 abbrev pub settled : WordDesk → WordDesk
 settled d =

@@ -93,7 +93,7 @@ fn marked(m: &[u16], j: usize) -> bool
 }
 
 // Whether no place from n on is marked: the word with place n, from its bit on, and every later word are 0.
-fn clear_from(m: &[u16], n: usize) -> bool
+fn unmarked_from(m: &[u16], n: usize) -> bool
     ensures { λ r. ⌜ r ≡ allZero (drop n (marks (now (m .entry)))) ⌝ }
 {
     let spot = mark_spot(n);
@@ -118,7 +118,7 @@ pub fn few_marks(m: &[u16], n: usize, k: usize) -> bool
     if all_zero(m) {
         return true;
     }
-    if !clear_from(m, n) {
+    if !unmarked_from(m, n) {
         return false;
     }
     ones(m) <= k

@@ -18,18 +18,18 @@ returns c =
     let none = sym (c .before .all-zero .ensures) ∙ c .if1 .taken in
     rw (none-marked (o .args .m .now) (o .args .n) none, le-leb (onesIn (o .args .m .now)) (o .args .k) (omega (arith, none-counted (o .args .m .now) none)))
 
-clear-from-requires : tie.Need-clear-from-requires
-clear-from-requires c κs = search needs
+unmarked-from-requires : tie.Need-unmarked-from-requires
+unmarked-from-requires c κs = search needs
 
 returns-2 : tie.Need-returns-2
-returns-2 c = rw (sym (c .before .clear-from .ensures) ∙ not-true (c .if2 .taken))
+returns-2 c = rw (sym (c .before .unmarked-from .ensures) ∙ not-true (c .if2 .taken))
 
 ones-requires : tie.Need-ones-requires
 ones-requires c κs = search needs
 
 returns-3 : tie.Need-returns-3
-returns-3 c = rw (sym (c .before .before .clear-from .ensures) ∙ not-false (c .before .if2 .left), c .ones .ensures)
+returns-3 c = rw (sym (c .before .before .unmarked-from .ensures) ∙ not-false (c .before .if2 .left), c .ones .ensures)
 
 pub few-marks-spec : {M : Type 1} → statement M
 few-marks-spec =
-    tie.close (tie.spec all-zero-requires returns clear-from-requires returns-2 ones-requires returns-3)
+    tie.close (tie.spec all-zero-requires returns unmarked-from-requires returns-2 ones-requires returns-3)
