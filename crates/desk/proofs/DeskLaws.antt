@@ -18,7 +18,7 @@ use Rattle.marks.proofs.PlaceLaws.{found-unmarked, marked-count, pick-all}
 use Rattle.desk.proofs.WordDesk.{WordDesk, wordDesk, listed, recordWords, testing, seeing, settled, handed, retired, Fit, Formed}
 
 -- ---- a record's words: five, the mark words and the places
-abbrev pub raw : ℕ → ℕ → ℕ → ℕ → ℕ → List ℕ → List ℕ → List ℕ
+abbrev raw : ℕ → ℕ → ℕ → ℕ → ℕ → List ℕ → List ℕ → List ℕ
 raw o k a b c ws l = o ∷ k ∷ a ∷ b ∷ c ∷ (ws ++ l)
 
 -- ---- from a state to its record and back
@@ -102,22 +102,8 @@ pub words-of : (r : List ℕ) → take markWords (drop marksPlace r) ≡ wordDes
 unfolding wordDesk
 words-of r = refl
 
--- ---- (a)
 nil-of : (l : List ℕ) → length l ≡ 0 → l ≡ []
-nil-of [] e = refl
-nil-of (x ∷ l) e = absurd (suc-not (length l) e)
-  where
-    suc-not : (n : ℕ) → suc n ≡ 0 → ⊥
-    suc-not n e = omega arith
-
-start-words : (s : ℕ) (d : WordDesk) → length (d .tested) ≡ 0 → set (set (recordWords s d) 3 (length (d .waiting))) 4 0 ≡ recordWords s (testing d)
-unfolding recordWords
-start-words s d e =
-    let t = nil-of (d .tested) e in
-    let l : listed d ≡ d .ready ++ (d .waiting ++ [])
-    = ap (λ (x : List ℕ). d .ready ++ (x ++ d .waiting)) t ∙ ap (λ (x : List ℕ). d .ready ++ x) (sym (append-nil (d .waiting))) in
-    simp (eq-eqb (length (d .tested)) 0 e)
-    (λ i. d .owed ∷ d .read ∷ length (d .ready) ∷ length (d .waiting) ∷ 0 ∷ (d .words ++ (l i ++ replicate (2 * s - length (l i)) 0)))
+nil-of l e = drop-of-length-le l {i = 0} (omega arith)
 
 -- ---- a part replaced
 
@@ -138,6 +124,27 @@ put-places o k a b c ws p q r ys i n m e h ep eq =
     ∙ (λ x. o ∷ k ∷ a ∷ b ∷ c ∷ (t x ++ (ys ++ u x)))
     ∙ ap (λ (x : List ℕ). o ∷ k ∷ a ∷ b ∷ c ∷ x) (append-assoc ws p (ys ++ r))
 
+-- ---- (a)
+start-words : (s : ℕ) (d : WordDesk) → length (d .tested) ≡ 0 → set (set (recordWords s d) 3 (length (d .waiting))) 4 0 ≡ recordWords s (testing d)
+unfolding recordWords
+start-words s d e =
+    let t = nil-of (d .tested) e in
+    let l : listed d ≡ d .ready ++ (d .waiting ++ [])
+    = ap (λ (x : List ℕ). d .ready ++ (x ++ d .waiting)) t ∙ ap (λ (x : List ℕ). d .ready ++ x) (sym (append-nil (d .waiting))) in
+    simp (eq-eqb (length (d .tested)) 0 e)
+    (λ i. d .owed ∷ d .read ∷ length (d .ready) ∷ length (d .waiting) ∷ 0 ∷ (d .words ++ (l i ++ replicate (2 * s - length (l i)) 0)))
+
+pub start-stores : (s : ℕ) (r : List ℕ) → Formed s r → getD r 3 0 ≡ 0 → set (set r 3 (getD r 4 0)) 4 0 ≡ recordWords s (testing (wordDesk r))
+start-stores s r f h =
+    let d = wordDesk r in
+    let a = facts s r f in
+    ap₂ (λ (x : List ℕ) (y : ℕ). set (set x 3 y) 4 0) (f .is) (a .waiting) ∙ start-words s d (sym (a .tested) ∙ h)
+
+pub start-none : (s : ℕ) (r : List ℕ) → Formed s r → (getD r 3 0 ≡ 0 → ⊥) → r ≡ recordWords s (testing (wordDesk r))
+start-none s r f h =
+    let d = wordDesk r in
+    f .is ∙ sym (rw (ne-eqb (length (d .tested)) 0 (λ z. h (facts s r f .tested ∙ z))))
+
 -- ---- (b)
 abbrev withWords : WordDesk → List ℕ → WordDesk
 withWords d ws =
@@ -149,9 +156,140 @@ see-marked s d ys e =
     ap (λ (x : List ℕ). set x 1 (d .read + 1))
     (put-marks (d .owed) (d .read) (length (d .ready)) (length (d .tested)) (length (d .waiting)) (d .words) (listed d ++ replicate (2 * s - length (listed d)) 0) ys e)
 
-see-unmarked : (s : ℕ) (d : WordDesk) → set (recordWords s d) 1 (d .read + 1) ≡ recordWords s (withWords d (d .words))
+-- the part of a record that the code takes for the tested places, with a ready and b tested
+abbrev pub testedIn : List ℕ → ℕ → ℕ → List ℕ
+testedIn r a b = take (listPlace + a + b - (listPlace + a)) (drop (listPlace + a) r)
+
+pub tested-part : (r : List ℕ) (a b : ℕ) → a ≡ getD r 2 0 → b ≡ getD r 3 0 → testedIn r a b ≡ wordDesk r .tested
+unfolding wordDesk
+tested-part r a b ea eb =
+    let n : listPlace + a + b - (listPlace + a) ≡ b = omega arith in
+    ap₂ (λ (k : ℕ) (l : List ℕ). take k l) n (sym (drop-drop a listPlace r)) ∙ ap₂ (λ (x y : ℕ). take x (drop y (drop listPlace r))) eb ea
+
+pub see-stores : (s : ℕ) (r : List ℕ) (x j : ℕ) → Formed s r → j ≡ findPlace x (wordDesk r .tested) (marks (wordDesk r .words)) → j < length (wordDesk r .tested)
+    → set (putMid marksPlace markWords r (markPlace (take markWords (drop marksPlace r)) j)) 1 (getD r 1 0 + 1) ≡ recordWords s (seeing x (wordDesk r))
+see-stores s r x j f e h =
+    let d = wordDesk r in
+    let l = lt-ltb (findPlace x (d .tested) (marks (d .words))) (length (d .tested)) (omega arith) in
+    ap₂ (λ (y : List ℕ) (k : ℕ). set (putMid marksPlace markWords y (markPlace (take markWords (drop marksPlace r)) j)) 1 (k + 1)) (f .is) (read-of r)
+    ∙ ap₂ (λ (ws : List ℕ) (i : ℕ). set (putMid marksPlace markWords (recordWords s d) (markPlace ws i)) 1 (d .read + 1)) (words-of r) e
+    ∙ see-marked s d (markPlace (d .words) (findPlace x (d .tested) (marks (d .words)))) (f .fit .eight)
+    ∙ sym (rw l)
+
+pub see-none : (s : ℕ) (r : List ℕ) (x j : ℕ) → Formed s r → j ≡ findPlace x (wordDesk r .tested) (marks (wordDesk r .words)) → length (wordDesk r .tested) ≤ j
+    → set r 1 (getD r 1 0 + 1) ≡ recordWords s (seeing x (wordDesk r))
 unfolding recordWords
-see-unmarked s d = refl
+see-none s r x j f e h =
+    let d = wordDesk r in
+    let l = le-ltb (findPlace x (d .tested) (marks (d .words))) (length (d .tested)) (omega arith) in
+    ap₂ (λ (y : List ℕ) (k : ℕ). set y 1 (k + 1)) (f .is) (read-of r) ∙ sym (rw l)
+
+-- what the code finds, and what holds of it
+pub record Found (r : List ℕ) (x j : ℕ) : Type 0 where
+  pub is : j ≡ findPlace x (wordDesk r .tested) (marks (wordDesk r .words))
+  pub free : j < length (wordDesk r .tested) → getD (marks (take markWords (drop marksPlace r))) j 0 ≡ 0
+
+pub found : (s : ℕ) (r : List ℕ) (x a b j : ℕ) → Formed s r → a ≡ getD r 2 0 → b ≡ getD r 3 0
+    → j ≡ findPlace x (testedIn r a b) (marks (take markWords (drop marksPlace r))) → Found r x j
+found s r x a b j f ea eb p =
+    let d = wordDesk r in
+    let q : j ≡ findPlace x (d .tested) (marks (d .words)) = p ∙ ap₂ (λ (l ws : List ℕ). findPlace x l (marks ws)) (tested-part r a b ea eb) (words-of r) in
+    let c = facts s r f in
+    let m = marks-length (d .words) in
+    let e = f .fit .eight in
+    record {
+      is = q;
+      free = λ h. ap₂ (λ (ws : List ℕ) (k : ℕ). getD (marks ws) k 0) (words-of r) q
+          ∙ found-unmarked x (d .tested) (marks (d .words)) (omega arith) (omega arith);
+    }
+
+-- ---- (c)
+
+-- a list of eight, word by word
+pub eight-is : (m : List ℕ) → length m ≡ markWords → m ≡ getD m 0 0 ∷ getD m 1 0 ∷ getD m 2 0 ∷ getD m 3 0 ∷ getD m 4 0 ∷ getD m 5 0 ∷ getD m 6 0 ∷ getD m 7 0 ∷ []
+eight-is m e = drop-cons m 0 0 (omega arith) ∙ ap (λ (t : List ℕ). getD m 0 0 ∷ t) (drop-cons m 1 0 (omega arith) ∙ ap (λ (t : List ℕ). getD m 1 0 ∷ t) (drop-cons m 2 0 (omega arith) ∙ ap (λ (t : List ℕ). getD m 2 0 ∷ t) (drop-cons m 3 0 (omega arith) ∙ ap (λ (t : List ℕ). getD m 3 0 ∷ t) (drop-cons m 4 0 (omega arith) ∙ ap (λ (t : List ℕ). getD m 4 0 ∷ t) (drop-cons m 5 0 (omega arith) ∙ ap (λ (t : List ℕ). getD m 5 0 ∷ t) (drop-cons m 6 0 (omega arith) ∙ ap (λ (t : List ℕ). getD m 6 0 ∷ t) (drop-cons m 7 0 (omega arith) ∙ ap (λ (t : List ℕ). getD m 7 0 ∷ t) (drop-of-length-le m {i = markWords} (omega arith)))))))))
+
+-- what the code makes of a record x: ys in the place of the tested, zs in that of the mark words, and the counts
+abbrev pub settling : List ℕ → ℕ → ℕ → List ℕ → List ℕ → ℕ → ℕ → List ℕ
+settling x i n ys zs a w = set (set (set (set (putMid marksPlace markWords (putMid i n x ys) zs) 1 0) 2 a) 3 0) 4 w
+
+settle-words : (s : ℕ) (d : WordDesk) (i n a w : ℕ) (p q : List ℕ) → length (d .words) ≡ markWords → i ≡ listPlace + length (d .ready) → n ≡ length (d .tested)
+    → length p + length q ≡ length (d .tested) → a ≡ length (d .ready ++ p) → w ≡ length (q ++ d .waiting)
+    → settling (recordWords s d) i n (p ++ q) (replicate markWords 0) a w
+    ≡ recordWords s (record { owed = d .owed; read = 0; ready = d .ready ++ p; tested = []; waiting = q ++ d .waiting; words = replicate markWords 0 })
+unfolding recordWords
+settle-words s d i n a w p q e ei en h ea ew =
+    let z : List ℕ = replicate (2 * s - length (listed d)) 0 in
+    let nr = length (d .ready) in
+    let nt = length (d .tested) in
+    let nw = length (d .waiting) in
+    let l : listed d ++ z ≡ d .ready ++ (d .tested ++ (d .waiting ++ z)) = simp append-assoc in
+    let g : d .ready ++ ((p ++ q) ++ (d .waiting ++ z)) ≡ ((d .ready ++ p) ++ (q ++ d .waiting)) ++ z = simp append-assoc in
+    let c : length (listed d) ≡ length ((d .ready ++ p) ++ (q ++ d .waiting))
+    = omega (
+      arith,
+      length-append (d .ready) (d .tested ++ d .waiting),
+      length-append (d .tested) (d .waiting),
+      length-append (d .ready ++ p) (q ++ d .waiting),
+      length-append (d .ready) p,
+      length-append q (d .waiting),
+    ) in
+    let o1 : putMid i n (raw (d .owed) (d .read) nr nt nw (d .words) (listed d ++ z)) (p ++ q) ≡ raw (d .owed) (d .read) nr nt nw (d .words) (d .ready ++ ((p ++ q) ++ (d .waiting ++ z)))
+    = ap (λ (x : List ℕ). putMid i n (raw (d .owed) (d .read) nr nt nw (d .words) x) (p ++ q)) l
+    ∙ put-places (d .owed) (d .read) nr nt nw (d .words) (d .ready) (d .tested) (d .waiting ++ z) (p ++ q) i nr n e ei refl (sym en) in
+    ap (λ (x : List ℕ). set (set (set (set (putMid marksPlace markWords x (replicate markWords 0)) 1 0) 2 a) 3 0) 4 w) o1
+    ∙ ap (λ (x : List ℕ). set (set (set (set x 1 0) 2 a) 3 0) 4 w)
+    (put-marks (d .owed) (d .read) nr nt nw (d .words) (d .ready ++ ((p ++ q) ++ (d .waiting ++ z))) (replicate markWords 0) e)
+    ∙ (λ j. d .owed ∷ 0 ∷ ea j ∷ 0 ∷ ew j ∷ (replicate markWords 0 ++ (g j)))
+    ∙ ap (λ (k : ℕ). d .owed ∷ 0 ∷ length (d .ready ++ p) ∷ 0 ∷ length (q ++ d .waiting) ∷ (replicate markWords 0 ++ (((d .ready ++ p) ++ (q ++ d .waiting)) ++ replicate (2 * s - k) 0))) c
+
+-- as the code has them: the three counts, the mark words and their count
+pub record Counted (s : ℕ) (r : List ℕ) (a b w k : ℕ) (m : List ℕ) : Type 0 where
+  pub ready : a ≡ length (wordDesk r .ready)
+  pub tested : b ≡ length (wordDesk r .tested)
+  pub waiting : w ≡ length (wordDesk r .waiting)
+  pub marked : m ≡ wordDesk r .words
+  pub part : testedIn r a b ≡ wordDesk r .tested
+  pub kept : k ≡ length (pick 1 (marks (wordDesk r .words)) (wordDesk r .tested))
+  pub all : length (pick 0 (marks (wordDesk r .words)) (wordDesk r .tested)) + length (pick 1 (marks (wordDesk r .words)) (wordDesk r .tested)) ≡ length (wordDesk r .tested)
+  pub eight : length m ≡ markWords
+  pub room : a + b + w ≤ 2 * s
+
+pub counted : (s : ℕ) (r : List ℕ) → Formed s r → ((i : ℕ) → getD r i 0 < 2 ^ 16) → (a b w k : ℕ) (m : List ℕ)
+    → a ≡ getD r 2 0 → b ≡ getD r 3 0 → w ≡ getD r 4 0 → m ≡ take markWords (drop marksPlace r) → k ≡ onesIn m → Counted s r a b w k m
+counted s r f h a b w k m ea eb ew em ek =
+    let d = wordDesk r in
+    let c = facts s r f in
+    let e = f .fit .eight in
+    let n : length (d .tested) ≤ 16 * length (d .words) = omega arith in
+    let small : (i : ℕ) → getD (d .words) i 0 < 2 ^ 16
+    = subst (λ (l : List ℕ). (i : ℕ) → getD l i 0 < 2 ^ 16) (words-of r) (small-take markWords (drop marksPlace r) (small-drop marksPlace r h)) in
+    record {
+      ready = ea ∙ c .ready;
+      tested = eb ∙ c .tested;
+      waiting = ew ∙ c .waiting;
+      marked = em ∙ words-of r;
+      part = tested-part r a b ea eb;
+      kept = ek ∙ ap onesIn (em ∙ words-of r) ∙ marked-count (d .words) (d .tested) small n (f .fit .clear);
+      all = pick-all (marks (d .words)) (d .tested) (λ i. mark-small (d .words) i) (omega (arith, marks-length (d .words)));
+      eight = ap length (em ∙ words-of r) ∙ e;
+      room = omega (arith, c .ready, c .tested, c .waiting, c .sum);
+    }
+
+pub settle-stores : (s : ℕ) (r : List ℕ) → Formed s r → (a b w k : ℕ) (m : List ℕ) → Counted s r a b w k m → (ys zs : List ℕ)
+    → ys ≡ pick 0 (marks m) (testedIn r a b) ++ pick 1 (marks m) (testedIn r a b)
+    → zs ≡ replicate markWords 0
+    → settling r (listPlace + a) (listPlace + a + b - (listPlace + a)) ys zs (a + (b - k)) (w + k) ≡ recordWords s (settled (wordDesk r))
+settle-stores s r f a b w k m c ys zs ey ez =
+    let d = wordDesk r in
+    let p : List ℕ = pick 0 (marks (d .words)) (d .tested) in
+    let q : List ℕ = pick 1 (marks (d .words)) (d .tested) in
+    let y : ys ≡ p ++ q = ey ∙ ap₂ (λ (x l : List ℕ). pick 0 (marks x) l ++ pick 1 (marks x) l) (c .marked) (c .part) in
+    let n : listPlace + a + b - (listPlace + a) ≡ b = omega arith in
+    let e1 : a + (b - k) ≡ length (d .ready ++ p) = omega (arith, length-append (d .ready) p, c .ready, c .tested, c .kept, c .all) in
+    let e2 : w + k ≡ length (q ++ d .waiting) = omega (arith, length-append q (d .waiting), c .waiting, c .kept) in
+    (λ i. settling (f .is i) (listPlace + a) (n i) (y i) (ez i) (a + (b - k)) (w + k))
+    ∙ settle-words s d (listPlace + a) b (a + (b - k)) (w + k) p q (f .fit .eight) (ap (λ (x : ℕ). listPlace + x) (c .ready)) (c .tested) (c .all) e1 e2
 
 -- ---- (d)
 
@@ -210,149 +348,6 @@ first-ready r h = sym (getD-take (getD r 2 0) (drop listPlace r) 0 0 h ∙ getD-
 pub none-ready : (r : List ℕ) → getD r 2 0 ≡ 0 → 0 ≡ getD (wordDesk r .ready) 0 0
 unfolding wordDesk
 none-ready r h = sym (ap (λ (k : ℕ). getD (take k (drop listPlace r)) 0 0) h)
-
--- ---- (a), of a formed record
-pub start-stores : (s : ℕ) (r : List ℕ) → Formed s r → getD r 3 0 ≡ 0 → set (set r 3 (getD r 4 0)) 4 0 ≡ recordWords s (testing (wordDesk r))
-start-stores s r f h =
-    let d = wordDesk r in
-    let a = facts s r f in
-    ap₂ (λ (x : List ℕ) (y : ℕ). set (set x 3 y) 4 0) (f .is) (a .waiting) ∙ start-words s d (sym (a .tested) ∙ h)
-
-pub start-none : (s : ℕ) (r : List ℕ) → Formed s r → (getD r 3 0 ≡ 0 → ⊥) → r ≡ recordWords s (testing (wordDesk r))
-start-none s r f h =
-    let d = wordDesk r in
-    f .is ∙ sym (rw (ne-eqb (length (d .tested)) 0 (λ z. h (facts s r f .tested ∙ z))))
-
--- ---- (b), of a formed record: a, b and j as the code has them
-pub tested-part : (r : List ℕ) (a b : ℕ) → a ≡ getD r 2 0 → b ≡ getD r 3 0 → take (listPlace + a + b - (listPlace + a)) (drop (listPlace + a) r) ≡ wordDesk r .tested
-unfolding wordDesk
-tested-part r a b ea eb =
-    let n : listPlace + a + b - (listPlace + a) ≡ b = omega arith in
-    ap₂ (λ (k : ℕ) (l : List ℕ). take k l) n (sym (drop-drop a listPlace r)) ∙ ap₂ (λ (x y : ℕ). take x (drop y (drop listPlace r))) eb ea
-
-pub see-stores : (s : ℕ) (r : List ℕ) (x j : ℕ) → Formed s r → j ≡ findPlace x (wordDesk r .tested) (marks (wordDesk r .words)) → j < length (wordDesk r .tested)
-    → set (putMid marksPlace markWords r (markPlace (take markWords (drop marksPlace r)) j)) 1 (getD r 1 0 + 1) ≡ recordWords s (seeing x (wordDesk r))
-see-stores s r x j f e h =
-    let d = wordDesk r in
-    let l = lt-ltb (findPlace x (d .tested) (marks (d .words))) (length (d .tested)) (omega arith) in
-    ap₂ (λ (y : List ℕ) (k : ℕ). set (putMid marksPlace markWords y (markPlace (take markWords (drop marksPlace r)) j)) 1 (k + 1)) (f .is) (read-of r)
-    ∙ ap₂ (λ (ws : List ℕ) (i : ℕ). set (putMid marksPlace markWords (recordWords s d) (markPlace ws i)) 1 (d .read + 1)) (words-of r) e
-    ∙ see-marked s d (markPlace (d .words) (findPlace x (d .tested) (marks (d .words)))) (f .fit .eight)
-    ∙ sym (rw l)
-
-pub see-none : (s : ℕ) (r : List ℕ) (x j : ℕ) → Formed s r → j ≡ findPlace x (wordDesk r .tested) (marks (wordDesk r .words)) → length (wordDesk r .tested) ≤ j
-    → set r 1 (getD r 1 0 + 1) ≡ recordWords s (seeing x (wordDesk r))
-see-none s r x j f e h =
-    let d = wordDesk r in
-    let l = le-ltb (findPlace x (d .tested) (marks (d .words))) (length (d .tested)) (omega arith) in
-    ap₂ (λ (y : List ℕ) (k : ℕ). set y 1 (k + 1)) (f .is) (read-of r) ∙ see-unmarked s d ∙ sym (rw l)
-
--- what the code finds, and what holds of it
-pub record Found (s : ℕ) (r : List ℕ) (x j : ℕ) : Type 0 where
-  pub is : j ≡ findPlace x (wordDesk r .tested) (marks (wordDesk r .words))
-  pub free : j < length (wordDesk r .tested) → getD (marks (take markWords (drop marksPlace r))) j 0 ≡ 0
-
-pub found : (s : ℕ) (r : List ℕ) (x a b j : ℕ) → Formed s r → a ≡ getD r 2 0 → b ≡ getD r 3 0
-    → j ≡ findPlace x (take (listPlace + a + b - (listPlace + a)) (drop (listPlace + a) r)) (marks (take markWords (drop marksPlace r))) → Found s r x j
-found s r x a b j f ea eb p =
-    let d = wordDesk r in
-    let q : j ≡ findPlace x (d .tested) (marks (d .words)) = p ∙ ap₂ (λ (l ws : List ℕ). findPlace x l (marks ws)) (tested-part r a b ea eb) (words-of r) in
-    let c = facts s r f in
-    let m = marks-length (d .words) in
-    let e = f .fit .eight in
-    record {
-      is = q;
-      free = λ h. ap₂ (λ (ws : List ℕ) (k : ℕ). getD (marks ws) k 0) (words-of r) q
-          ∙ found-unmarked x (d .tested) (marks (d .words)) (omega arith) (omega arith);
-    }
-
--- ---- (c)
-
--- a list of eight, word by word
-pub eight-is : (m : List ℕ) → length m ≡ markWords → m ≡ getD m 0 0 ∷ getD m 1 0 ∷ getD m 2 0 ∷ getD m 3 0 ∷ getD m 4 0 ∷ getD m 5 0 ∷ getD m 6 0 ∷ getD m 7 0 ∷ []
-eight-is m e = drop-cons m 0 0 (omega arith) ∙ ap (λ (t : List ℕ). getD m 0 0 ∷ t) (drop-cons m 1 0 (omega arith) ∙ ap (λ (t : List ℕ). getD m 1 0 ∷ t) (drop-cons m 2 0 (omega arith) ∙ ap (λ (t : List ℕ). getD m 2 0 ∷ t) (drop-cons m 3 0 (omega arith) ∙ ap (λ (t : List ℕ). getD m 3 0 ∷ t) (drop-cons m 4 0 (omega arith) ∙ ap (λ (t : List ℕ). getD m 4 0 ∷ t) (drop-cons m 5 0 (omega arith) ∙ ap (λ (t : List ℕ). getD m 5 0 ∷ t) (drop-cons m 6 0 (omega arith) ∙ ap (λ (t : List ℕ). getD m 6 0 ∷ t) (drop-cons m 7 0 (omega arith) ∙ ap (λ (t : List ℕ). getD m 7 0 ∷ t) (drop-of-length-le m {i = markWords} (omega arith)))))))))
-
--- what the code makes of a record x: ys in the place of the tested, no marks, and the counts
-abbrev settling : List ℕ → ℕ → ℕ → List ℕ → ℕ → ℕ → List ℕ
-settling x i n ys a w = set (set (set (set (putMid marksPlace markWords (putMid i n x ys) (replicate markWords 0)) 1 0) 2 a) 3 0) 4 w
-
-settle-words : (s : ℕ) (d : WordDesk) (i n a w : ℕ) (p q : List ℕ) → length (d .words) ≡ markWords → i ≡ listPlace + length (d .ready) → n ≡ length (d .tested)
-    → length p + length q ≡ length (d .tested) → a ≡ length (d .ready ++ p) → w ≡ length (q ++ d .waiting)
-    → settling (recordWords s d) i n (p ++ q) a w
-    ≡ recordWords s (record { owed = d .owed; read = 0; ready = d .ready ++ p; tested = []; waiting = q ++ d .waiting; words = replicate markWords 0 })
-unfolding recordWords
-settle-words s d i n a w p q e ei en h ea ew =
-    let z : List ℕ = replicate (2 * s - length (listed d)) 0 in
-    let nr = length (d .ready) in
-    let nt = length (d .tested) in
-    let nw = length (d .waiting) in
-    let l : listed d ++ z ≡ d .ready ++ (d .tested ++ (d .waiting ++ z)) = simp append-assoc in
-    let g : d .ready ++ ((p ++ q) ++ (d .waiting ++ z)) ≡ ((d .ready ++ p) ++ (q ++ d .waiting)) ++ z = simp append-assoc in
-    let c : length (listed d) ≡ length ((d .ready ++ p) ++ (q ++ d .waiting))
-    = omega (
-      arith,
-      length-append (d .ready) (d .tested ++ d .waiting),
-      length-append (d .tested) (d .waiting),
-      length-append (d .ready ++ p) (q ++ d .waiting),
-      length-append (d .ready) p,
-      length-append q (d .waiting),
-    ) in
-    let o1 : putMid i n (raw (d .owed) (d .read) nr nt nw (d .words) (listed d ++ z)) (p ++ q) ≡ raw (d .owed) (d .read) nr nt nw (d .words) (d .ready ++ ((p ++ q) ++ (d .waiting ++ z)))
-    = ap (λ (x : List ℕ). putMid i n (raw (d .owed) (d .read) nr nt nw (d .words) x) (p ++ q)) l
-    ∙ put-places (d .owed) (d .read) nr nt nw (d .words) (d .ready) (d .tested) (d .waiting ++ z) (p ++ q) i nr n e ei refl (sym en) in
-    ap (λ (x : List ℕ). set (set (set (set (putMid marksPlace markWords x (replicate markWords 0)) 1 0) 2 a) 3 0) 4 w) o1
-    ∙ ap (λ (x : List ℕ). set (set (set (set x 1 0) 2 a) 3 0) 4 w)
-    (put-marks (d .owed) (d .read) nr nt nw (d .words) (d .ready ++ ((p ++ q) ++ (d .waiting ++ z))) (replicate markWords 0) e)
-    ∙ (λ j. d .owed ∷ 0 ∷ ea j ∷ 0 ∷ ew j ∷ (replicate markWords 0 ++ (g j)))
-    ∙ ap (λ (k : ℕ). d .owed ∷ 0 ∷ length (d .ready ++ p) ∷ 0 ∷ length (q ++ d .waiting) ∷ (replicate markWords 0 ++ (((d .ready ++ p) ++ (q ++ d .waiting)) ++ replicate (2 * s - k) 0))) c
-
--- as the code has them: the three counts, the mark words and their count
-pub record Counted (s : ℕ) (r : List ℕ) (a b w k : ℕ) (m : List ℕ) : Type 0 where
-  pub ready : a ≡ length (wordDesk r .ready)
-  pub tested : b ≡ length (wordDesk r .tested)
-  pub waiting : w ≡ length (wordDesk r .waiting)
-  pub marked : m ≡ wordDesk r .words
-  pub part : take (listPlace + a + b - (listPlace + a)) (drop (listPlace + a) r) ≡ wordDesk r .tested
-  pub kept : k ≡ length (pick 1 (marks (wordDesk r .words)) (wordDesk r .tested))
-  pub all : length (pick 0 (marks (wordDesk r .words)) (wordDesk r .tested)) + length (pick 1 (marks (wordDesk r .words)) (wordDesk r .tested)) ≡ length (wordDesk r .tested)
-  pub eight : length m ≡ markWords
-  pub room : a + b + w ≤ 2 * s
-
-pub counted : (s : ℕ) (r : List ℕ) → Formed s r → ((i : ℕ) → getD r i 0 < 2 ^ 16) → (a b w k : ℕ) (m : List ℕ)
-    → a ≡ getD r 2 0 → b ≡ getD r 3 0 → w ≡ getD r 4 0 → m ≡ take markWords (drop marksPlace r) → k ≡ onesIn m → Counted s r a b w k m
-counted s r f h a b w k m ea eb ew em ek =
-    let d = wordDesk r in
-    let c = facts s r f in
-    let e = f .fit .eight in
-    let n : length (d .tested) ≤ 16 * length (d .words) = omega arith in
-    let small : (i : ℕ) → getD (d .words) i 0 < 2 ^ 16
-    = subst (λ (l : List ℕ). (i : ℕ) → getD l i 0 < 2 ^ 16) (words-of r) (small-take markWords (drop marksPlace r) (small-drop marksPlace r h)) in
-    record {
-      ready = ea ∙ c .ready;
-      tested = eb ∙ c .tested;
-      waiting = ew ∙ c .waiting;
-      marked = em ∙ words-of r;
-      part = tested-part r a b ea eb;
-      kept = ek ∙ ap onesIn (em ∙ words-of r) ∙ marked-count (d .words) (d .tested) small n (f .fit .clear);
-      all = pick-all (marks (d .words)) (d .tested) (λ i. mark-small (d .words) i) (omega (arith, marks-length (d .words)));
-      eight = ap length (em ∙ words-of r) ∙ e;
-      room = omega (arith, c .ready, c .tested, c .waiting, c .sum);
-    }
-
-pub settle-stores : (s : ℕ) (r : List ℕ) → Formed s r → (a b w k : ℕ) (m : List ℕ) → Counted s r a b w k m → (ys zs : List ℕ)
-    → ys ≡ pick 0 (marks m) (take (listPlace + a + b - (listPlace + a)) (drop (listPlace + a) r)) ++ pick 1 (marks m) (take (listPlace + a + b - (listPlace + a)) (drop (listPlace + a) r))
-    → zs ≡ replicate markWords 0
-    → set (set (set (set (putMid marksPlace markWords (putMid (listPlace + a) (listPlace + a + b - (listPlace + a)) r ys) zs) 1 0) 2 (a + (b - k))) 3 0) 4 (w + k) ≡ recordWords s (settled (wordDesk r))
-settle-stores s r f a b w k m c ys zs ey ez =
-    let d = wordDesk r in
-    let p : List ℕ = pick 0 (marks (d .words)) (d .tested) in
-    let q : List ℕ = pick 1 (marks (d .words)) (d .tested) in
-    let y : ys ≡ p ++ q = ey ∙ ap₂ (λ (x l : List ℕ). pick 0 (marks x) l ++ pick 1 (marks x) l) (c .marked) (c .part) in
-    let n : listPlace + a + b - (listPlace + a) ≡ b = omega arith in
-    let e1 : a + (b - k) ≡ length (d .ready ++ p) = omega (arith, length-append (d .ready) p, c .ready, c .tested, c .kept, c .all) in
-    let e2 : w + k ≡ length (q ++ d .waiting) = omega (arith, length-append q (d .waiting), c .waiting, c .kept) in
-    (λ i. set (set (set (set (putMid marksPlace markWords (putMid (listPlace + a) (n i) (f .is i) (y i)) (ez i)) 1 0) 2 (a + (b - k))) 3 0) 4 (w + k))
-    ∙ settle-words s d (listPlace + a) b (a + (b - k)) (w + k) p q (f .fit .eight) (ap (λ (x : ℕ). listPlace + x) (c .ready)) (c .tested) (c .all) e1 e2
 
 -- ---- retire
 

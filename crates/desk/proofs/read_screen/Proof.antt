@@ -33,7 +33,7 @@ known a = facts (S a) (R a) (formed a)
 eight : (a : tie.After-word2) → length (take markWords (drop marksPlace (R a))) ≡ markWords
 eight a = ap length (words-of (R a)) ∙ formed a .fit .eight
 
-place : (f : tie.After-find-place) → Found (S (f .before .before .before .before)) (R (f .before .before .before .before)) (start (f .before .before .before .before) .args .x) (f .find-place .result)
+place : (f : tie.After-find-place) → Found (R (f .before .before .before .before)) (start (f .before .before .before .before) .args .x) (f .find-place .result)
 place f =
     let a = f .before .before .before .before in
     found (S a) (R a) (start a .args .x) (a .before .before .word .result) (a .word2 .result) (f .find-place .result) (formed a) (a .before .before .word .ensures .0) (a .word2 .ensures .0) (f .find-place .ensures)
