@@ -53,35 +53,28 @@ pub encoded-left : (s : ℕ) (r : List ℕ) → Encoded s r → Left s (inWords 
 encoded-left s r c = left s (inWords (decodeDesk r)) r (c .most) (fit-is s (decodeDesk r) (c .most) (c .room)) (c .is ∙ encoded-words s (decodeDesk r))
 
 -- ---- (a)
-module _ (o k : ℕ) (R : List ℕ) where
-  abbrev mk : List TestedPlace → List ℕ → Desk
-  mk T W = record { owed = o; scanned = k; ready = R; tested = T; waiting = W }
+sessions-begin : (W : List ℕ) → W ≡ sessionsOf (map unmarked W)
+sessions-begin [] = refl
+sessions-begin (x ∷ W) = ap {B = List ℕ} (λ l. x ∷ l) (sessions-begin W)
 
-  sessions-begin : (W : List ℕ) → W ≡ sessionsOf (map unmarked W)
-  sessions-begin [] = refl
-  sessions-begin (x ∷ W) = ap {B = List ℕ} (λ l. x ∷ l) (sessions-begin W)
+marks-begin : (W : List ℕ) → marksOf (map unmarked W) ≡ replicate (length W) false
+marks-begin [] = refl
+marks-begin (x ∷ W) = ap {B = List Bool} (λ l. false ∷ l) (marks-begin W)
 
-  marks-begin : (W : List ℕ) → marksOf (map unmarked W) ≡ replicate (length W) false
-  marks-begin [] = refl
-  marks-begin (x ∷ W) = ap {B = List Bool} (λ l. false ∷ l) (marks-begin W)
-
-  no-marks : (W : List ℕ) → length W ≤ allMarks → markBits [] ≡ markBits (map unmarked W)
-  no-marks W h =
-      let n : length W + (allMarks - length W) ≡ allMarks = omega arith in
-      sym (ap₂ {C = List Bool} (λ x y. x ++ y) (marks-begin W) (ap (λ (m : ℕ). replicate {A = Bool} (allMarks - m) false) (length-map W unmarked)) ∙ replicate-append-replicate (length W) (allMarks - length W) false ∙ ap (λ (m : ℕ). replicate {A = Bool} m false) n)
-
-  test-none : (W : List ℕ) → length W ≤ allMarks → testing (inWords (mk [] W)) ≡ inWords (beginAt [] (mk [] W))
-  test-none W h = λ i. record { owed = o; read = k; ready = R; tested = sessions-begin W i; waiting = []; words = wordsOfBits markWords (no-marks W h i) }
-
-  test-some : (p : TestedPlace) (T : List TestedPlace) (W : List ℕ) → testing (inWords (mk (p ∷ T) W)) ≡ inWords (mk (p ∷ T) W)
-  test-some p T W = rw (length-sessions (p ∷ T), eqb·suc-zero (length T))
-
-  test-is : (T : List TestedPlace) (W : List ℕ) → length W ≤ allMarks → testing (inWords (mk T W)) ≡ inWords (begin (mk T W))
-  test-is [] W h = test-none W h
-  test-is (p ∷ T) W h = test-some p T W
+no-marks : (W : List ℕ) → length W ≤ allMarks → markBits [] ≡ markBits (map unmarked W)
+no-marks W h =
+    let n : length W + (allMarks - length W) ≡ allMarks = omega arith in
+    sym (ap₂ {C = List Bool} (λ x y. x ++ y) (marks-begin W) (ap (λ (m : ℕ). replicate {A = Bool} (allMarks - m) false) (length-map W unmarked)) ∙ replicate-append-replicate (length W) (allMarks - length W) false ∙ ap (λ (m : ℕ). replicate {A = Bool} m false) n)
 
 pub testing-is : (D : Desk) → length (D .waiting) ≤ allMarks → testing (inWords D) ≡ inWords (begin D)
-testing-is D h = test-is (D .owed) (D .scanned) (D .ready) (D .tested) (D .waiting) h
+testing-is D h = go (D .tested)
+  where
+    with-tested : List TestedPlace → Desk
+    with-tested T = record { owed = D .owed; scanned = D .scanned; ready = D .ready; tested = T; waiting = D .waiting }
+
+    go : (T : List TestedPlace) → testing (inWords (with-tested T)) ≡ inWords (beginAt T (with-tested T))
+    go [] = λ i. record { owed = D .owed; read = D .scanned; ready = D .ready; tested = sessions-begin (D .waiting) i; waiting = []; words = wordsOfBits markWords (no-marks (D .waiting) h i) }
+    go (p ∷ T) = rw (length-sessions (p ∷ T), eqb·suc-zero (length T))
 
 -- ---- (b)
 pub seeing-is : (x : ℕ) (D : Desk) → length (D .tested) ≤ allMarks → seeing x (inWords D) ≡ inWords (readScreens (x ∷ []) D)
