@@ -133,10 +133,8 @@ fn read_screen(r: &mut [u16], s: usize, x: u16)
     let j = find_place(&v[a..a + b], &v[MARKS..LIST], x);
     if j < b {
         mark_place(&mut r[MARKS..LIST], j);
-        r[SCANNED] = k + 1;
-    } else {
-        r[SCANNED] = k + 1;
     }
+    r[SCANNED] = k + 1;
 }
 
 // Collect (b), for n screens, 1 or 2, that show x and y.

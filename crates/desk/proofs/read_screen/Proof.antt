@@ -2,8 +2,9 @@
 use Prim.Native.Nat.{ℕ, _+_, _<_}
 use native.Mathlib.Omega.{arith}
 use mathlib.Core.List.{List}
+use mathlib.Core.Logic.{⊎-elim}
 use mathlib.Core.Path.{_≡_, ap, _∙_}
-use lib.ListN.{drop, getD, length, set, take}
+use lib.ListN.{drop, getD, length, length-set, set, take}
 use borrow.Author.Needs.{needs}
 use borrow.Rule.Slice.PartMut.{same-len-mid, putMid}
 use Rattle.rules.specs.Table.{markWords, marksPlace}
@@ -41,6 +42,13 @@ place f =
 -- k can grow by one
 grows : (a : tie.After-word2) → getD (R a) 1 0 + 1 < 65536
 grows a = omega (arith, scanned-word (R a), start a .pre .1)
+
+-- the record is as long as it was, a mark set or not
+same : (c : tie.Joined1) → length (c .if1 .r) ≡ length (R (c .before .before .before .before .before))
+same c =
+    ⊎-elim (λ w. ap length (w .5) ∙ same-len-mid {X = ℕ} marksPlace markWords (R (c .before .before .before .before .before)) (w .2 .last .0) (w .2 .kept .0))
+    (λ w. ap length (w .1))
+    (c .if1 .came)
 
 slice-read-k : tie.Need-slice-read-k
 slice-read-k c = omega (arith, c .before .before .pre .0 .long)
@@ -100,40 +108,23 @@ mark-place-requires c κs =
     (omega (arith, eight a, known a, a .word2 .ensures .0), place f .free (omega (arith, known a, a .word2 .ensures .0)))
 
 add-r : tie.Need-add-r
-add-r c = omega (arith, grows (c .before .before .before .before .before .before .before .before .before))
+add-r c = omega (arith, grows (c .before .before .before .before .before))
 
 slice-write-r : tie.Need-slice-write-r
-slice-write-r c = omega (arith, start (c .before .before .before .before .before .before .before .before .before) .pre .0 .long, same-len-mid {X = ℕ} marksPlace markWords (R (c .before .before .before .before .before .before .before .before .before)) (c .before .before .mark-place .last .0) (c .before .before .mark-place .kept .0))
-
-add-r-2 : tie.Need-add-r-2
-add-r-2 c = omega (arith, grows (c .before .before .before .before .before))
-
-slice-write-r-2 : tie.Need-slice-write-r-2
-slice-write-r-2 c = omega (arith, start (c .before .before .before .before .before) .pre .0 .long)
+slice-write-r c = omega (arith, same c, start (c .before .before .before .before .before) .pre .0 .long)
 
 same-length : tie.Need-same-length
-same-length c = search needs
+same-length c = simp length-set (same c)
 
 returns : tie.Need-returns
 returns c =
-    let m = c .before .before in
-    let t = m .before .before in
-    let f = t .before in
-    let a = f .before .before .before .before in
-    ap (λ (y : List ℕ). set (putMid marksPlace markWords (R a) y) 1 (getD (R a) 1 0 + 1)) (m .mark-place .ensures)
-    ∙ see-stores (S a) (R a) (start a .args .x) (f .find-place .result) (formed a) (place f .is) (omega (arith, t .if1 .taken, known a, a .word2 .ensures .0))
-    ∙ read-encoded (S a) (R a) (start a .pre .0) (start a .args .x)
-
-same-length-2 : tie.Need-same-length-2
-same-length-2 c = search needs
-
-returns-2 : tie.Need-returns-2
-returns-2 c =
     let f = c .before in
     let a = f .before .before .before .before in
-    see-none (S a) (R a) (start a .args .x) (f .find-place .result) (formed a) (place f .is) (omega (arith, c .if1 .left, known a, a .word2 .ensures .0))
+    ⊎-elim (λ w. ap (λ (y : List ℕ). set y 1 (getD (R a) 1 0 + 1)) (w .5 ∙ ap (putMid marksPlace markWords (R a)) (w .2 .ensures)) ∙ see-stores (S a) (R a) (start a .args .x) (f .find-place .result) (formed a) (place f .is) (omega (arith, w .0 .taken, known a, a .word2 .ensures .0)))
+    (λ w. ap (λ (y : List ℕ). set y 1 (getD (R a) 1 0 + 1)) (w .1) ∙ see-none (S a) (R a) (start a .args .x) (f .find-place .result) (formed a) (place f .is) (omega (arith, w .0 .left, known a, a .word2 .ensures .0)))
+    (c .if1 .came)
     ∙ read-encoded (S a) (R a) (start a .pre .0) (start a .args .x)
 
 pub read-screen-spec : {M : Type 1} → statement M
 read-screen-spec =
-    tie.close (tie.spec slice-read-k word-requires add-a word-requires-2 add-find-place mul-find-place sub-find-place part-find-place-start part-find-place-end sub-find-place-2 part-find-place-start-2 part-find-place-end-2 find-place-requires sub-mark-place part-mark-place-start part-mark-place-end mark-place-requires add-r slice-write-r add-r-2 slice-write-r-2 same-length returns same-length-2 returns-2)
+    tie.close (tie.spec slice-read-k word-requires add-a word-requires-2 add-find-place mul-find-place sub-find-place part-find-place-start part-find-place-end sub-find-place-2 part-find-place-start-2 part-find-place-end-2 find-place-requires sub-mark-place part-mark-place-start part-mark-place-end mark-place-requires add-r slice-write-r same-length returns)
