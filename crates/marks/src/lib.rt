@@ -133,7 +133,7 @@ pub fn find_place(l: &[u16], m: &[u16], x: u16) -> usize
     let mut j = 0;
     while j < l.len() {
         if l[j] == x {
-            if marked(m, j) {} else {
+            if !marked(m, j) {
                 return j;
             }
         }
