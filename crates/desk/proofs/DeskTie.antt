@@ -25,7 +25,7 @@ use Rattle.desk.proofs.MarkTie.{markBits, mark-bits, pick-unmarked, pic
 
 -- a desk of the rules, in words
 abbrev pub inWords : Desk → WordDesk
-inWords D = record { owed = D .owed; read = D .scanned; ready = D .ready; tested = sessionsOf (D .tested); waiting = D .waiting; words = wordsOfBits markWords (markBits (D .tested)) }
+inWords D = record { owed = D .owed; scanned = D .scanned; ready = D .ready; tested = sessionsOf (D .tested); waiting = D .waiting; words = wordsOfBits markWords (markBits (D .tested)) }
 
 pub encoded-words : (s : ℕ) (D : Desk) → encodeDesk s D ≡ recordWords s (inWords D)
 unfolding encodeDesk recordWords
@@ -73,12 +73,12 @@ testing-is D h = go (D .tested)
     with-tested T = record { owed = D .owed; scanned = D .scanned; ready = D .ready; tested = T; waiting = D .waiting }
 
     go : (T : List TestedPlace) → testing (inWords (with-tested T)) ≡ inWords (beginAt T (with-tested T))
-    go [] = λ i. record { owed = D .owed; read = D .scanned; ready = D .ready; tested = sessions-begin (D .waiting) i; waiting = []; words = wordsOfBits markWords (no-marks (D .waiting) h i) }
+    go [] = λ i. record { owed = D .owed; scanned = D .scanned; ready = D .ready; tested = sessions-begin (D .waiting) i; waiting = []; words = wordsOfBits markWords (no-marks (D .waiting) h i) }
     go (p ∷ T) = rw (length-sessions (p ∷ T), eqb·suc-zero (length T))
 
 -- ---- (b)
 pub seeing-is : (x : ℕ) (D : Desk) → length (D .tested) ≤ allMarks → seeing x (inWords D) ≡ inWords (readScreens (x ∷ []) D)
-seeing-is x D h = λ i. record { owed = D .owed; read = D .scanned + 1; ready = D .ready; tested = same (D .tested) i; waiting = D .waiting; words = marking-is x (D .tested) h i }
+seeing-is x D h = λ i. record { owed = D .owed; scanned = D .scanned + 1; ready = D .ready; tested = same (D .tested) i; waiting = D .waiting; words = marking-is x (D .tested) h i }
   where
     same : (T : List TestedPlace) → sessionsOf T ≡ sessionsOf (mark x T)
     same [] = refl
@@ -96,7 +96,7 @@ settled-is D h =
     let m = mark-bits (D .tested) h in
     let a = ap (λ (l : List ℕ). pick 0 l (sessionsOf (D .tested))) m ∙ pick-unmarked (D .tested) pad in
     let b = ap (λ (l : List ℕ). pick 1 l (sessionsOf (D .tested))) m ∙ pick-marked (D .tested) pad in
-    (λ i. record { owed = D .owed; read = 0; ready = D .ready ++ a i; tested = []; waiting = b i ++ D .waiting; words = replicate markWords 0 })
+    (λ i. record { owed = D .owed; scanned = 0; ready = D .ready ++ a i; tested = []; waiting = b i ++ D .waiting; words = replicate markWords 0 })
 
 -- ---- soundness
 pub sound-encoded : (s : ℕ) (r : List ℕ) → s ≤ mostAllScreens → length r ≡ widthFor s → ((i : ℕ) → getD r i 0 < 2 ^ 16) → recordSound s r ≡ true → Encoded s r
