@@ -34,7 +34,7 @@ record-length s d f =
     let b = f .eight in
     omega (arith, length-append (d .words) (listed d ++ z), length-append (listed d) z, length-replicate {A = ℕ} (2 * s - length (listed d)) 0)
 
-pub round : (s : ℕ) (d : WordDesk) → length (d .words) ≡ markWords → wordDesk (recordWords s d) ≡ d
+round : (s : ℕ) (d : WordDesk) → length (d .words) ≡ markWords → wordDesk (recordWords s d) ≡ d
 unfolding recordWords wordDesk
 round s d e =
     let z : List ℕ = replicate (2 * s - length (listed d)) 0 in
@@ -157,7 +157,7 @@ see-marked s d ys e =
     (put-marks (d .owed) (d .scanned) (length (d .ready)) (length (d .tested)) (length (d .waiting)) (d .words) (listed d ++ replicate (2 * s - length (listed d)) 0) ys e)
 
 -- the part of a record that the code takes for the tested places, with a ready and b tested
-abbrev pub testedIn : List ℕ → ℕ → ℕ → List ℕ
+abbrev testedIn : List ℕ → ℕ → ℕ → List ℕ
 testedIn r a b = take (listPlace + a + b - (listPlace + a)) (drop (listPlace + a) r)
 
 pub tested-part : (r : List ℕ) (a b : ℕ) → a ≡ getD r 2 0 → b ≡ getD r 3 0 → testedIn r a b ≡ wordDesk r .tested
@@ -210,7 +210,7 @@ pub eight-is : (m : List ℕ) → length m ≡ markWords → m ≡ getD m 0 0 �
 eight-is m e = drop-cons m 0 0 (omega arith) ∙ ap (λ (t : List ℕ). getD m 0 0 ∷ t) (drop-cons m 1 0 (omega arith) ∙ ap (λ (t : List ℕ). getD m 1 0 ∷ t) (drop-cons m 2 0 (omega arith) ∙ ap (λ (t : List ℕ). getD m 2 0 ∷ t) (drop-cons m 3 0 (omega arith) ∙ ap (λ (t : List ℕ). getD m 3 0 ∷ t) (drop-cons m 4 0 (omega arith) ∙ ap (λ (t : List ℕ). getD m 4 0 ∷ t) (drop-cons m 5 0 (omega arith) ∙ ap (λ (t : List ℕ). getD m 5 0 ∷ t) (drop-cons m 6 0 (omega arith) ∙ ap (λ (t : List ℕ). getD m 6 0 ∷ t) (drop-cons m 7 0 (omega arith) ∙ ap (λ (t : List ℕ). getD m 7 0 ∷ t) (drop-of-length-le m {i = markWords} (omega arith)))))))))
 
 -- what the code makes of a record x: ys in the place of the tested, zs in that of the mark words, and the counts
-abbrev pub settling : List ℕ → ℕ → ℕ → List ℕ → List ℕ → ℕ → ℕ → List ℕ
+abbrev settling : List ℕ → ℕ → ℕ → List ℕ → List ℕ → ℕ → ℕ → List ℕ
 settling x i n ys zs a w = set (set (set (set (putMid marksPlace markWords (putMid i n x ys) zs) 1 0) 2 a) 3 0) 4 w
 
 settle-words : (s : ℕ) (d : WordDesk) (i n a w : ℕ) (p q : List ℕ) → length (d .words) ≡ markWords → i ≡ listPlace + length (d .ready) → n ≡ length (d .tested)

@@ -24,10 +24,10 @@ use Rattle.desk.proofs.DeskLaws.{Left, facts, left, lengths, owed-of, r
 use Rattle.desk.proofs.MarkTie.{markBits, mark-bits, pick-unmarked, pick-marked, marking-is}
 
 -- a desk of the rules, in words
-abbrev pub inWords : Desk → WordDesk
+abbrev inWords : Desk → WordDesk
 inWords D = record { owed = D .owed; scanned = D .scanned; ready = D .ready; tested = sessionsOf (D .tested); waiting = D .waiting; words = wordsOfBits markWords (markBits (D .tested)) }
 
-pub encoded-words : (s : ℕ) (D : Desk) → encodeDesk s D ≡ recordWords s (inWords D)
+encoded-words : (s : ℕ) (D : Desk) → encodeDesk s D ≡ recordWords s (inWords D)
 unfolding encodeDesk recordWords
 encoded-words s D = λ i. D .owed ∷ D .scanned ∷ length (D .ready) ∷ sym (length-sessions (D .tested)) i ∷ length (D .waiting) ∷ (wordsOfBits markWords (markBits (D .tested)) ++ (listOf D ++ replicate (2 * s - length (listOf D)) 0))
 
@@ -37,10 +37,10 @@ zero-pad [] (suc m) = zero-pad [] m
 zero-pad (unmarked x ∷ T) m = zero-pad T m
 zero-pad (marked x ∷ T) m = zero-pad T m
 
-pub room-is : (D : Desk) → length (listed (inWords D)) ≡ usedPlaces D
+room-is : (D : Desk) → length (listed (inWords D)) ≡ usedPlaces D
 room-is D = omega (arith, lengths (inWords D), length-sessions (D .tested))
 
-pub fit-is : (s : ℕ) (D : Desk) → s ≤ mostAllScreens → usedPlaces D ≤ 2 * s → Fit s (inWords D)
+fit-is : (s : ℕ) (D : Desk) → s ≤ mostAllScreens → usedPlaces D ≤ 2 * s → Fit s (inWords D)
 fit-is s D h u =
     record {
       room = omega (arith, room-is D);
@@ -49,7 +49,7 @@ fit-is s D h u =
     }
 
 -- a record that codes the desk it is read as: what its words say
-pub encoded-left : (s : ℕ) (r : List ℕ) → Encoded s r → Left s (inWords (decodeDesk r)) r
+encoded-left : (s : ℕ) (r : List ℕ) → Encoded s r → Left s (inWords (decodeDesk r)) r
 encoded-left s r c = left s (inWords (decodeDesk r)) r (c .most) (fit-is s (decodeDesk r) (c .most) (c .room)) (c .is ∙ encoded-words s (decodeDesk r))
 
 -- ---- (a)
@@ -66,7 +66,7 @@ no-marks W h =
     let n : length W + (allMarks - length W) ≡ allMarks = omega arith in
     sym (ap₂ {C = List Bool} (λ x y. x ++ y) (marks-begin W) (ap (λ (m : ℕ). replicate {A = Bool} (allMarks - m) false) (length-map W unmarked)) ∙ replicate-append-replicate (length W) (allMarks - length W) false ∙ ap (λ (m : ℕ). replicate {A = Bool} m false) n)
 
-pub testing-is : (D : Desk) → length (D .waiting) ≤ allMarks → testing (inWords D) ≡ inWords (begin D)
+testing-is : (D : Desk) → length (D .waiting) ≤ allMarks → testing (inWords D) ≡ inWords (begin D)
 testing-is D h = go (D .tested)
   where
     with-tested : List TestedPlace → Desk
@@ -77,7 +77,7 @@ testing-is D h = go (D .tested)
     go (p ∷ T) = rw (length-sessions (p ∷ T), eqb·suc-zero (length T))
 
 -- ---- (b)
-pub seeing-is : (x : ℕ) (D : Desk) → length (D .tested) ≤ allMarks → seeing x (inWords D) ≡ inWords (readScreens (x ∷ []) D)
+seeing-is : (x : ℕ) (D : Desk) → length (D .tested) ≤ allMarks → seeing x (inWords D) ≡ inWords (readScreens (x ∷ []) D)
 seeing-is x D h = λ i. record { owed = D .owed; scanned = D .scanned + 1; ready = D .ready; tested = same (D .tested) i; waiting = D .waiting; words = marking-is x (D .tested) h i }
   where
     same : (T : List TestedPlace) → sessionsOf T ≡ sessionsOf (mark x T)
@@ -90,7 +90,7 @@ seeing-is x D h = λ i. record { owed = D .owed; scanned = D .scanned + 1; ready
         go false ih = ap {B = List ℕ} (λ l. y ∷ l) ih
 
 -- ---- (c)
-pub settled-is : (D : Desk) → length (D .tested) ≤ allMarks → settled (inWords D) ≡ inWords (settleIf true D)
+settled-is : (D : Desk) → length (D .tested) ≤ allMarks → settled (inWords D) ≡ inWords (settleIf true D)
 settled-is D h =
     let pad : List Bool = replicate (allMarks - length (D .tested)) false in
     let m = mark-bits (D .tested) h in
