@@ -10,7 +10,7 @@ use borrow.Author.Tests.{eqb-true, ltb-true}
 use Rattle.rules.specs.Hall.{TestedPlace, marked, unmarked, usedPlaces, Desk, mostAllScreens}
 use Rattle.rules.specs.Steps.{begin, beginAt, handBack, mark, markEach, markedOf, readScreens, retire, scanAt, settle, settleIf, unmarkedOf}
 use Rattle.rules.specs.Table.{bitValue, decodeDesk, encodeDesk, listOf, marksOf, recordSound, scanSound, sessionsOf, wordsOfBits}
-use Rattle.rules.specs.Table.{allMarks, listPlace, markWords, widthFor}
+use Rattle.rules.specs.Table.{allMarks, listPlace, markWords, usedIn, widthFor}
 use Rattle.rules.specs.laws.Bools.{and-right}
 use Rattle.rules.specs.laws.Decoding.{passed, record-again}
 use Rattle.rules.specs.laws.Encoding.{desk-read-back, length-sessions}
@@ -112,7 +112,7 @@ scanned-below s r h e = go (getD r 3 0) (getD r 1 0) (passed s r e .scan)
 -- ---- retire: what the code finds in the words, and its three stores
 pub record Finds (s : ℕ) (r : List ℕ) : Type 0 where
   pub owed : getD r 0 0 ≡ decodeDesk r .owed
-  pub count : getD r 2 0 + getD r 3 0 + getD r 4 0 ≡ usedPlaces (decodeDesk r)
+  pub count : usedIn r ≡ usedPlaces (decodeDesk r)
   pub stores : (n : ℕ) → n ≡ usedPlaces (decodeDesk r) → n < 2 * s → set (set (set r (listPlace + n) (getD r 0 0)) 4 (getD r 4 0 + 1)) 0 0 ≡ encodeDesk s (retire (decodeDesk r))
 
 pub finds : (s : ℕ) (r : List ℕ) → Encoded s r → Finds s r
