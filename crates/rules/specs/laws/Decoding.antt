@@ -13,8 +13,8 @@ use Rattle.rules.specs.Hall.{Hall, TestedPlace, allScreens, mostAllScree
 use Rattle.rules.specs.Steps.{inRange}
 use Rattle.rules.specs.Table.{allMarks, bitValue, bitsOfWord, bitsOfWords, decode, decodeDesk, encode, encodeDesk, every, everyRecord, hallIn, joined}
 use Rattle.rules.specs.Table.{marksOf, need, ones, pieces, placesOf, recordSound, recordWidth, recordsIn, scanSound, sessionsOf, sound}
-use Rattle.rules.specs.Table.{headerWords, listIn, listPlace, markWords, marksIn, marksPlace, placesIn, scannedPlace, testedPlace, usedIn, widthFor}
-use Rattle.rules.specs.Table.{wordOfBits, wordsOfBits}
+use Rattle.rules.specs.Table.{headerWords, listIn, listPlace, markWords, marksIn, marksPlace, placesIn, readyPlace, scannedPlace, testedPlace, usedIn, waitingPlace}
+use Rattle.rules.specs.Table.{widthFor, wordOfBits, wordsOfBits}
 use Rattle.rules.specs.laws.Bools.{and-left, and-right}
 use Rattle.rules.specs.laws.Effect.{in-range}
 
@@ -52,14 +52,14 @@ sessions-of-places (x ∷ xs) [] = ap {B = List ℕ} (λ r. x ∷ r) (sessions-o
 sessions-of-places (x ∷ xs) (true ∷ bs) = ap {B = List ℕ} (λ r. x ∷ r) (sessions-of-places xs bs)
 sessions-of-places (x ∷ xs) (false ∷ bs) = ap {B = List ℕ} (λ r. x ∷ r) (sessions-of-places xs bs)
 
-pub marks-of-places : (xs : List ℕ) (bs : List Bool) → length xs ≡ length bs → marksOf (placesOf xs bs) ≡ bs
+marks-of-places : (xs : List ℕ) (bs : List Bool) → length xs ≡ length bs → marksOf (placesOf xs bs) ≡ bs
 marks-of-places [] [] h = refl
 marks-of-places [] (b ∷ bs) h = absurd (omega arith)
 marks-of-places (x ∷ xs) [] h = absurd (omega arith)
 marks-of-places (x ∷ xs) (true ∷ bs) h = ap {B = List Bool} (λ r. true ∷ r) (marks-of-places xs bs (omega arith))
 marks-of-places (x ∷ xs) (false ∷ bs) h = ap {B = List Bool} (λ r. false ∷ r) (marks-of-places xs bs (omega arith))
 
-pub length-places : (xs : List ℕ) (bs : List Bool) → length (placesOf xs bs) ≡ length xs
+length-places : (xs : List ℕ) (bs : List Bool) → length (placesOf xs bs) ≡ length xs
 length-places [] bs = refl
 length-places (x ∷ xs) [] = ap suc (length-places xs [])
 length-places (x ∷ xs) (b ∷ bs) = ap suc (length-places xs bs)
@@ -72,48 +72,6 @@ zeros (x ∷ xs) h = by-cases (eqb x 0) refl h (zeros xs)
         → _≡_ {A = List ℕ} (x ∷ xs) (0 ∷ replicate (length xs) 0)
     by-cases true q e ih = λ i. eqb-true x 0 q i ∷ ih e i
     by-cases false q e ih = let z : _≡_ {A = ℕ} 0 1 = cc in absurd (omega arith)
-
--- A desk's record, in its parts: a ready, b tested and c waiting sessions on the list l, and the mark bits u.
-module _ (S a b c : ℕ) (l : List ℕ) (u : List Bool) (hl : 2 * S ≤ length l) (hu : length u ≡ allMarks) (hS : S ≤ mostAllScreens) (h : a + b + c ≤ 2 * S) where
-  abbrev rd : List ℕ
-  rd = take a l
-
-  abbrev td : List TestedPlace
-  td = placesOf (take b (drop a l)) (take b u)
-
-  abbrev wd : List ℕ
-  wd = take c (drop (a + b) l)
-
-  pub ready-length : length rd ≡ a
-  ready-length = length-take-le a l (omega arith)
-
-  pub tested-length : length td ≡ b
-  tested-length = length-places (take b (drop a l)) (take b u) ∙ length-take-le b (drop a l) (omega (arith, length-drop a l))
-
-  pub waiting-length : length wd ≡ c
-  waiting-length = length-take-le c (drop (a + b) l) (omega (arith, length-drop (a + b) l))
-
-  marks-again : ones (drop b u) ≡ 0 → marksOf td ++ replicate (allMarks - length td) false ≡ u
-  marks-again e =
-      let f =
-      marks-of-places (take b (drop a l)) (take b u)
-      (omega (arith, length-take-le b (drop a l) (omega (arith, length-drop a l)), length-take-le b u (omega arith))) in
-      let n : length (drop b u) ≡ allMarks - length td = omega (arith, length-drop b u, tested-length) in
-      ap₂ {C = List Bool} (λ x y. x ++ y) f (ap (λ (m : ℕ). replicate m false) (sym n) ∙ sym (every-one (drop b u) e)) ∙ take-append-drop b u
-
-  pub list-parts : rd ++ (sessionsOf td ++ wd) ≡ take (a + b + c) l
-  list-parts =
-      ap (λ (x : List ℕ). rd ++ (x ++ wd)) (sessions-of-places (take b (drop a l)) (take b u))
-      ∙ sym (take-add (a + b) c l ∙ ap (λ (x : List ℕ). x ++ wd) (take-add a b l) ∙ append-assoc (take a l) (take b (drop a l)) wd)
-
-  list-again : every (λ x. eqb x 0) (drop (a + b + c) (take (2 * S) l)) ≡ true
-      → (rd ++ (sessionsOf td ++ wd)) ++ replicate (2 * S - length (rd ++ (sessionsOf td ++ wd))) 0 ≡ take (2 * S) l
-  list-again e =
-      let p : List ℕ = take (2 * S) l in
-      let n : length (drop (a + b + c) p) ≡ 2 * S - length (rd ++ (sessionsOf td ++ wd)) =
-      omega (arith, length-drop (a + b + c) p, length-take-le (2 * S) l hl, ap length list-parts, length-take-le (a + b + c) l (omega arith)) in
-      ap₂ {C = List ℕ} (λ x y. x ++ y) (list-parts ∙ sym (take-take (a + b + c) (2 * S) l h)) (ap (λ (m : ℕ). replicate {A = ℕ} m 0) (sym n) ∙ sym (zeros (drop (a + b + c) p) e))
-      ∙ take-append-drop (a + b + c) p
 
 -- ---- A record that passes the test.
 pub record Passed (S : ℕ) (r : List ℕ) : Type 0 where
@@ -155,9 +113,6 @@ small-take (suc n) [] h i = omega arith
 small-take (suc n) (x ∷ r) h zero = h 0
 small-take (suc n) (x ∷ r) h (suc i) = small-take n r (λ j. h (suc j)) i
 
-pub length-marks-in : (S : ℕ) (r : List ℕ) → length r ≡ widthFor S → length (marksIn r) ≡ allMarks
-length-marks-in S r h = omega (arith, length-bits-of-words (take markWords (drop marksPlace r)), length-take-le markWords (drop marksPlace r) (omega (arith, length-drop marksPlace r)))
-
 -- its words: five, the mark words and the rest
 parts : (r : List ℕ) → marksPlace ≤ length r → r ≡ getD r 0 0 ∷ getD r 1 0 ∷ getD r 2 0 ∷ getD r 3 0 ∷ getD r 4 0 ∷ (take markWords (drop marksPlace r) ++ listIn r)
 parts r h =
@@ -165,25 +120,83 @@ parts r h =
     ∙ ap {B = List ℕ} (λ x. getD r 0 0 ∷ x)
     (drop-cons r 1 0 (omega arith) ∙ ap {B = List ℕ} (λ x. getD r 1 0 ∷ x) (drop-cons r 2 0 (omega arith) ∙ ap {B = List ℕ} (λ x. getD r 2 0 ∷ x) (drop-cons r 3 0 (omega arith) ∙ ap {B = List ℕ} (λ x. getD r 3 0 ∷ x) (drop-cons r 4 0 (omega arith) ∙ ap {B = List ℕ} (λ x. getD r 4 0 ∷ x) (sym (ap {B = List ℕ} (λ x. take markWords (drop marksPlace r) ++ x) (sym (drop-drop markWords marksPlace r)) ∙ take-append-drop markWords (drop marksPlace r)))))))
 
--- Of 16-bit words, it is the record of the desk that it is read as.
+-- its list in its parts: a ready, b tested and c waiting sessions
+module _ (S : ℕ) (r : List ℕ) (long : length r ≡ widthFor S) (most : S ≤ mostAllScreens) (p : Passed S r) where
+  abbrev a : ℕ
+  a = getD r readyPlace 0
+
+  abbrev b : ℕ
+  b = getD r testedPlace 0
+
+  abbrev c : ℕ
+  c = getD r waitingPlace 0
+
+  abbrev l : List ℕ
+  l = listIn r
+
+  abbrev rd : List ℕ
+  rd = take a l
+
+  abbrev td : List TestedPlace
+  td = placesOf (take b (drop a l)) (take b (marksIn r))
+
+  abbrev wd : List ℕ
+  wd = take c (drop (a + b) l)
+
+  list-length : length l ≡ 2 * S
+  list-length = omega (arith, long, length-drop listPlace r)
+
+  words-length : length (take markWords (drop marksPlace r)) ≡ markWords
+  words-length = length-take-le markWords (drop marksPlace r) (omega (arith, long, length-drop marksPlace r))
+
+  marks-length : length (marksIn r) ≡ allMarks
+  marks-length = omega (arith, length-bits-of-words (take markWords (drop marksPlace r)), words-length)
+
+  pub ready-length : length rd ≡ a
+  ready-length = length-take-le a l (omega (arith, p .room, list-length))
+
+  pub tested-length : length td ≡ b
+  tested-length = length-places (take b (drop a l)) (take b (marksIn r)) ∙ length-take-le b (drop a l) (omega (arith, p .room, list-length, length-drop a l))
+
+  pub waiting-length : length wd ≡ c
+  waiting-length = length-take-le c (drop (a + b) l) (omega (arith, p .room, list-length, length-drop (a + b) l))
+
+  pub marks-read : marksOf td ≡ take b (marksIn r)
+  marks-read =
+      marks-of-places (take b (drop a l)) (take b (marksIn r))
+      (omega (arith, tested-length, length-places (take b (drop a l)) (take b (marksIn r)), length-take-le b (marksIn r) (omega (arith, p .room, most, marks-length))))
+
+  marks-again : marksOf td ++ replicate (allMarks - length td) false ≡ marksIn r
+  marks-again =
+      let n : length (drop b (marksIn r)) ≡ allMarks - length td = omega (arith, length-drop b (marksIn r), tested-length, marks-length) in
+      ap₂ {C = List Bool} (λ x y. x ++ y) marks-read (ap (λ (m : ℕ). replicate m false) (sym n) ∙ sym (every-one (drop b (marksIn r)) (p .unmarked))) ∙ take-append-drop b (marksIn r)
+
+  pub list-parts : rd ++ (sessionsOf td ++ wd) ≡ take (usedIn r) (placesIn S r)
+  list-parts =
+      ap (λ (x : List ℕ). rd ++ (x ++ wd)) (sessions-of-places (take b (drop a l)) (take b (marksIn r)))
+      ∙ sym (take-add (a + b) c l ∙ ap (λ (x : List ℕ). x ++ wd) (take-add a b l) ∙ append-assoc (take a l) (take b (drop a l)) wd)
+      ∙ sym (take-take (usedIn r) (2 * S) l (p .room))
+
+  list-again : (rd ++ (sessionsOf td ++ wd)) ++ replicate (2 * S - length (rd ++ (sessionsOf td ++ wd))) 0 ≡ placesIn S r
+  list-again =
+      let lp = length-take-le (2 * S) l (omega (arith, list-length)) in
+      let n : length (drop (usedIn r) (placesIn S r)) ≡ 2 * S - length (rd ++ (sessionsOf td ++ wd)) =
+      omega (arith, p .room, lp, length-drop (usedIn r) (placesIn S r), ap length list-parts, length-take-le (usedIn r) (placesIn S r) (omega (arith, p .room, lp))) in
+      ap₂ {C = List ℕ} (λ x y. x ++ y) list-parts (ap (λ (m : ℕ). replicate {A = ℕ} m 0) (sym n) ∙ sym (zeros (drop (usedIn r) (placesIn S r)) (p .free)))
+      ∙ take-append-drop (usedIn r) (placesIn S r)
+
+  -- of 16-bit words, it is the record of the desk that it is read as
+  passed-again : ((i : ℕ) → getD r i 0 < 65536) → encodeDesk S (decodeDesk r) ≡ r
+  unfolding encodeDesk decodeDesk
+  passed-again small =
+      let q = words-of-bits-of-words (take markWords (drop marksPlace r)) (small-take markWords (drop marksPlace r) (small-drop marksPlace r small)) in
+      (λ i. getD r 0 0 ∷ getD r 1 0 ∷ ready-length i ∷ tested-length i ∷ waiting-length i ∷ (wordsOfBits (sym words-length i) (marks-again i) ++ list-again i))
+      ∙ ap₂ {C = List ℕ} (λ x y. getD r 0 0 ∷ getD r 1 0 ∷ a ∷ b ∷ c ∷ (x ++ y)) q (take-all (2 * S) l (omega (arith, list-length)))
+      ∙ sym (parts r (omega (arith, long)))
+
 pub record-again : (S : ℕ) (r : List ℕ) → length r ≡ widthFor S → S ≤ mostAllScreens → ((i : ℕ) → getD r i 0 < 65536) → recordSound S r ≡ true
     → encodeDesk S (decodeDesk r) ≡ r
-unfolding encodeDesk decodeDesk
-record-again S r lr hS sm e =
-    let p = passed S r e in
-    let a = getD r 2 0 in
-    let b = getD r 3 0 in
-    let c = getD r 4 0 in
-    let ws : List ℕ = take markWords (drop marksPlace r) in
-    let l : List ℕ = listIn r in
-    let ll : length l ≡ 2 * S = omega (arith, length-drop listPlace r) in
-    let hl : 2 * S ≤ length l = omega arith in
-    let hu = length-marks-in S r lr in
-    let lw : length ws ≡ markWords = length-take-le markWords (drop marksPlace r) (omega (arith, length-drop marksPlace r)) in
-    let q = words-of-bits-of-words ws (small-take markWords (drop marksPlace r) (small-drop marksPlace r sm)) in
-    (λ i. getD r 0 0 ∷ getD r 1 0 ∷ ready-length S a b c l (marksIn r) hl hu hS (p .room) i ∷ tested-length S a b c l (marksIn r) hl hu hS (p .room) i ∷ waiting-length S a b c l (marksIn r) hl hu hS (p .room) i ∷ (wordsOfBits (sym lw i) (marks-again S a b c l (marksIn r) hl hu hS (p .room) (p .unmarked) i) ++ list-again S a b c l (marksIn r) hl hu hS (p .room) (p .free) i))
-    ∙ ap₂ {C = List ℕ} (λ x y. getD r 0 0 ∷ getD r 1 0 ∷ a ∷ b ∷ c ∷ (x ++ y)) q (take-all (2 * S) l (omega arith))
-    ∙ sym (parts r (omega arith))
+record-again S r long most small e = passed-again S r long most (passed S r e) small
 
 records-back : (S n : ℕ) (x : List ℕ) → S ≤ mostAllScreens → n * widthFor S ≤ length x → ((i : ℕ) → getD x i 0 < 65536)
     → everyRecord (recordSound S) (pieces n (widthFor S) x) ≡ true

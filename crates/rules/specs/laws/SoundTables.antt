@@ -5,16 +5,16 @@ use mathlib.Core.Path.{_≡_, refl, sym, ap, _∙_}
 use mathlib.Core.Bool.{Bool, true, false, not, _&&_}
 use mathlib.Core.List.{List, [], _∷_, _++_, map}
 use lib.ListN.{length, getD, take, drop, length-drop, length-map, take-append-drop}
-use lib.Seq.{length-take-le, take-take}
+use lib.Seq.{length-take-le}
 use lib.Dec.{leb, ltb, eqb, T}
 use borrow.Author.Tests.{leb-true, eqb-true, eqb-false, ltb-true}
 use Rattle.rules.specs.Hall.{Hall, TestedPlace, allScreens, mostAllScreens}
 use Rattle.rules.specs.History.{copies}
 use Rattle.rules.specs.Steps.{Call, perform}
-use Rattle.rules.specs.Table.{decode, decodeDesk, encode, every, everyRecord, hallIn, need, ones, pieces, placesOf, recordSound}
-use Rattle.rules.specs.Table.{headerWords, listIn, listPlace, marksIn, placesIn, recordWidth, recordsIn, scanSound, sound, widthFor, written}
+use Rattle.rules.specs.Table.{decode, decodeDesk, encode, every, everyRecord, hallIn, need, ones, pieces, recordSound}
+use Rattle.rules.specs.Table.{headerWords, marksIn, placesIn, recordWidth, recordsIn, scanSound, sound, usedIn, widthFor, written}
 use Rattle.rules.specs.laws.Bools.{and-left, and-right}
-use Rattle.rules.specs.laws.Decoding.{length-marks-in, list-parts, marks-of-places, passed, ready-length, same-table, tested-length}
+use Rattle.rules.specs.laws.Decoding.{list-parts, marks-read, passed, ready-length, same-table, tested-length}
 use Rattle.rules.specs.laws.Decoding.{waiting-length}
 use Rattle.rules.specs.laws.Encoding.{ones-marks}
 use Rattle.rules.specs.laws.Lists.{matches, matches-other}
@@ -43,26 +43,16 @@ pass-of S (suc b) k (p ∷ T) l h m =
 -- a record that passes the test is of a sound desk
 pub desk-sound : (S : ℕ) (r : List ℕ) → length r ≡ widthFor S → S ≤ mostAllScreens → recordSound S r ≡ true → Sound S (decodeDesk r)
 unfolding decodeDesk
-desk-sound S r lr hS e =
+desk-sound S r long most e =
     let p = passed S r e in
-    let a = getD r 2 0 in
     let b = getD r 3 0 in
-    let c = getD r 4 0 in
-    let l : List ℕ = listIn r in
-    let u : List Bool = marksIn r in
-    let hl : 2 * S ≤ length l = omega (arith, length-drop listPlace r) in
-    let hu = length-marks-in S r lr in
-    let T : List TestedPlace = placesOf (take b (drop a l)) (take b u) in
-    let f =
-    marks-of-places (take b (drop a l)) (take b u)
-    (omega (arith, p .room, length-take-le b (drop a l) (omega (arith, p .room, length-drop a l)), length-take-le b u (omega (arith, p .room)))) in
-    let m : markCount T ≤ getD r 1 0 = omega (arith, p .few, ones-marks T, ap ones f, ones-append (take b u) (drop b u), ap ones (take-append-drop b u)) in
+    let T = decodeDesk r .tested in
+    let m : markCount T ≤ getD r 1 0 =
+    omega (arith, p .few, ones-marks T, ap ones (marks-read S r long most p), ones-append (take b (marksIn r)) (drop b (marksIn r)), ap ones (take-append-drop b (marksIn r))) in
     record {
-      total = omega (arith, p .room, ready-length S a b c l u hl hu hS (p .room), tested-length S a b c l u hl hu hS (p .room), waiting-length S a b c l u hl hu hS (p .room));
-      real =
-          sym (copies-list 0 (decodeDesk r)) ∙ ap (copies 0) (list-parts S a b c l u hl hu hS (p .room) ∙ sym (take-take (a + b + c) (2 * S) l (p .room)))
-          ∙ real-cnt (take (a + b + c) (placesIn S r)) (p .full);
-      pass = pass-of S b (getD r 1 0) T (tested-length S a b c l u hl hu hS (p .room)) (p .scan) m;
+      total = omega (arith, p .room, ready-length S r long most p, tested-length S r long most p, waiting-length S r long most p);
+      real = sym (copies-list 0 (decodeDesk r)) ∙ ap (copies 0) (list-parts S r long most p) ∙ real-cnt (take (usedIn r) (placesIn S r)) (p .full);
+      pass = pass-of S b (getD r 1 0) T (tested-length S r long most p) (p .scan) m;
     }
 
 module _ (S : ℕ) (hS : S ≤ mostAllScreens) where
