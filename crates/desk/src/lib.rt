@@ -16,7 +16,7 @@ ghost use lib.ListN.{length, take};
 ghost use mathlib.Core.List.{[], _∷_};
 ghost use Rattle.rules.specs.Hall.{mostAllScreens};
 ghost use Rattle.rules.specs.Steps.{begin, collectSeeing, handBack, readScreens, scanAt, settle as settleDesk, settleIf};
-ghost use Rattle.rules.specs.Table.{decodeDesk, encodeDesk, markWords, recordSound, scanSound, widthFor};
+ghost use Rattle.rules.specs.Table.{decodeDesk, encodeDesk, listPlace, markWords, recordSound, scanSound, usedIn, widthFor};
 ghost use Rattle.reply.specs.Answer.{answerOf};
 ghost use Rattle.desk.specs.Record.{Encoded, Retired};
 
@@ -49,6 +49,15 @@ fn mark_words(m: &[u16]) -> [u16; 8]
     [m[0], m[1], m[2], m[3], m[4], m[5], m[6], m[7]]
 }
 
+// How many places of the list are used: the sum of the three counts.
+// It requires the words before the list.
+fn used_places(r: &[u16]) -> usize
+    requires { ⌜ listPlace ≤ length (now r) ⌝ }
+    ensures { λ n. ⌜ (n ≡ usedIn (now (r .entry))) × (n < 3 * 65536) ⌝ }
+{
+    word(r, READY) + word(r, TESTED) + word(r, WAITING)
+}
+
 // Whether k is sound: with nothing tested it is 0; otherwise it is even, at least 2 and less than S.
 fn sound_scan(s: usize, tested: usize, k: usize) -> bool
     ensures { λ r. ⌜ r ≡ scanSound s tested k ⌝ }
@@ -71,8 +80,7 @@ pub fn sound_record(r: &[u16], s: usize) -> bool
     requires { ⌜ (s ≤ mostAllScreens) × (length (now r) ≡ widthFor s) ⌝ }
     ensures { λ b. ⌜ b ≡ recordSound s (now (r .entry)) ⌝ }
 {
-    let tested = word(r, TESTED);
-    let n = word(r, READY) + tested + word(r, WAITING);
+    let n = used_places(r);
     if 2 * s < n {
         return false;
     }
@@ -82,6 +90,7 @@ pub fn sound_record(r: &[u16], s: usize) -> bool
     if !all_zero(&r[LIST + n..LIST + 2 * s]) {
         return false;
     }
+    let tested = word(r, TESTED);
     let k = word(r, SCANNED);
     if !sound_scan(s, tested, k) {
         return false;
@@ -100,7 +109,7 @@ pub fn retire_record(r: &mut [u16], s: usize) -> Reply
         return Reply::NothingOwed;
     }
     let waiting = r[WAITING];
-    let n = word(r, READY) + word(r, TESTED) + word(r, WAITING);
+    let n = used_places(r);
     if 2 * s <= n {
         return Reply::ListFull;
     }
@@ -133,10 +142,8 @@ fn read_screen(r: &mut [u16], s: usize, x: u16)
     let j = find_place(&v[a..a + b], &v[MARKS..LIST], x);
     if j < b {
         mark_place(&mut r[MARKS..LIST], j);
-        r[SCANNED] = k + 1;
-    } else {
-        r[SCANNED] = k + 1;
     }
+    r[SCANNED] = k + 1;
 }
 
 // Collect (b), for n screens, 1 or 2, that show x and y.
