@@ -1,10 +1,8 @@
 -- Laws of the day sheet: every reader moves on, the reading goes record by record, and what is written is read back.
 use Prim.Native.Nat.{ℕ, zero, suc, _+_, _*_, _/_, _%_, _≤_, _<_}
 use native.Mathlib.Omega.{arith}
-use native.Mathlib.Bridge.{le-by-compare, IsLe}
-use native.Mathlib.Numerals.{bound}
 use mathlib.Core.Path.{_≡_, refl, sym, ap, _∙_, subst}
-use mathlib.Core.Bool.{Bool, true, false, cond, _&&_}
+use mathlib.Core.Bool.{Bool, true, false, cond}
 use mathlib.Core.List.{List, [], _∷_, _++_, append-assoc, append-nil}
 use lib.ListN.{length, drop, length-append, length-drop}
 use lib.Seq.{drop-length, drop-drop, drop-append-seam}
@@ -15,6 +13,9 @@ use Rattle.rules.specs.Steps.{firstNo, inRange}
 use Rattle.rules.specs.Table.{mostWords, need, openQuestions, openIf, openTable}
 use Rattle.rules.specs.Numbers.{Refusal, Got, got, refused, andThen, Groups, ended, stopped, endless, before, groupsIn}
 use Rattle.rules.specs.Numbers.{valueOf, numberOf, number, mostNumber}
+use Rattle.rules.specs.laws.Effect.{in-range}
+use Rattle.rules.specs.laws.Prefix.{need-at-most}
+use Rattle.rules.specs.laws.Tables.{Opens, hall-opens}
 use Rattle.sheet_rules.specs.Sheet.{Record, recordFor, deskField, screenField}
 use Rattle.sheet_rules.specs.Sheet.{positionField, sessionField, follows, fieldAt, fieldsAt, withCode, isCode, recordAt}
 use Rattle.sheet_rules.specs.Sheet.{Records, more, complete, stop, recordsAt, headerAt, lentTable, openingNumber, opened}
@@ -339,18 +340,6 @@ fields-read-back entry sheet at next good stands =
     s₃ : Stands position sheet at₂ at₃ × Stands session sheet at₃ next
     s₃ = stands-split position session sheet at₂ next (s₂ .1)
 
-pub false-not-true : false ≡ true → ⊥
-false-not-true e = let z : _≡_ {A = ℕ} 0 1 = cc in omega arith
-
--- a number that is in its range is at most the range's end
-pub in-range : (value most : ℕ) → inRange value most ≡ true → value ≤ most
-in-range value most e = second (leb 1 value) (leb value most) refl e
-  where
-    second : (low high : Bool) → leb value most ≡ high → (low && high) ≡ true → value ≤ most
-    second true true q e = leb-true value most q
-    second true false q e = absurd (false-not-true e)
-    second false high q e = absurd (false-not-true e)
-
 pub record-read-back : (entry : Record) (sheet : List ℕ) (at next : ℕ) → GoodRecord entry
     → Stands (recordBytes entry) sheet at next
     → recordAt sheet at ≡ got entry next
@@ -363,7 +352,7 @@ record-read-back entry sheet at next good stands =
     )
   where
     small : entry .code ≤ mostNumber
-    small = omega (arith, in-range (entry .code) 5 (good .code))
+    small = omega (arith, in-range (entry .code) 5 (good .code) .1)
 
     code : List ℕ
     code = numberBytes (entry .code)
@@ -388,49 +377,19 @@ records-read-back (entry ∷ entries) sheet at good stands =
     records-more sheet at entry next (omega (arith, moved .past, moved .inside)) e
     ∙ ap (more entry) (records-read-back entries sheet next (good .1) (split .1))
 
--- A header that opens has numbers in their ranges.
-record Ranges (hall : Hall) : Type 0 where
-  desks : hall .desks ≤ mostDesks
-  screens : hall .screens ≤ mostScreens
-  positions : hall .positions ≤ mostPositions
-
-ranges-from : (hall : Hall) → inRange (hall .desks) mostDesks ≡ true → inRange (hall .screens) mostScreens ≡ true
-    → inRange (hall .positions) mostPositions ≡ true
-    → Ranges hall
-ranges-from hall d c p =
-    record { desks = in-range (hall .desks) mostDesks d; screens = in-range (hall .screens) mostScreens c; positions = in-range (hall .positions) mostPositions p }
-
--- the opening's number, from the answers to its four questions
-abbrev fourAnswers : Bool → Bool → Bool → Bool → ℕ
-fourAnswers desks screens positions long = cond desks (cond screens (cond positions (cond long 0 4) 3) 2) 1
-
-opening-ranges : (hall : Hall) → openingNumber hall ≡ 0 → Ranges hall
-unfolding openingNumber
-opening-ranges hall e =
-    by-answers (inRange (hall .desks) mostDesks) (inRange (hall .screens) mostScreens) (inRange (hall .positions) mostPositions) (leb (need hall) (length lentTable))
-    refl refl refl e
-  where
-    by-answers : (desks screens positions long : Bool) → inRange (hall .desks) mostDesks ≡ desks
-        → inRange (hall .screens) mostScreens ≡ screens
-        → inRange (hall .positions) mostPositions ≡ positions → fourAnswers desks screens positions long ≡ 0 → Ranges hall
-    by-answers true true true long d c p q = ranges-from hall d c p
-    by-answers true true false long d c p q = absurd (omega arith)
-    by-answers true false positions long d c p q = absurd (omega arith)
-    by-answers false screens positions long d c p q = absurd (omega arith)
-
 -- "Is the table at least the need? 4": the table that the program lends is, so its opening gives 1, 2, 3 or 0.
-need-at-most : (hall : Hall) → Ranges hall → need hall ≤ mostWords
-unfolding IsLe
-need-at-most hall ranges =
-    grw (bound, ranges .positions, ranges .desks, ranges .screens, ranges .desks, ranges .desks, ranges .screens) (le-by-compare _ _ tt)
-
 pub opening-never-four : (hall : Hall) → openingNumber hall ≤ 3
 unfolding openingNumber lentTable
-opening-never-four hall = by-answers (inRange (hall .desks) mostDesks) (inRange (hall .screens) mostScreens) (inRange (hall .positions) mostPositions) refl refl refl
+opening-never-four hall =
+    by-answers (inRange (hall .desks) mostDesks) (inRange (hall .screens) mostScreens) (inRange (hall .positions) mostPositions) refl refl refl
   where
     by-answers : (desks screens positions : Bool) → inRange (hall .desks) mostDesks ≡ desks → inRange (hall .screens) mostScreens ≡ screens
-        → inRange (hall .positions) mostPositions ≡ positions → fourAnswers desks screens positions (leb (need hall) mostWords) ≤ 3
-    by-answers true true true d c p = rw (le-leb (need hall) mostWords (need-at-most hall (ranges-from hall d c p))) (omega arith)
+        → inRange (hall .positions) mostPositions ≡ positions
+        → cond {A = ℕ} desks (cond screens (cond positions (cond (leb (need hall) mostWords) 0 4) 3) 2) 1 ≤ 3
+    by-answers true true true d c p =
+        let opens : Opens hall =
+        record { desks = in-range (hall .desks) mostDesks d; screens = in-range (hall .screens) mostScreens c; positions = in-range (hall .positions) mostPositions p } in
+        rw (le-leb (need hall) mostWords (need-at-most hall opens)) (omega arith)
     by-answers true true false d c p = omega arith
     by-answers true false positions d c p = omega arith
     by-answers false screens positions d c p = omega arith
@@ -438,16 +397,16 @@ opening-never-four hall = by-answers (inRange (hall .desks) mostDesks) (inRange 
 pub header-read-back : (hall : Hall) (sheet : List ℕ) (at next : ℕ) → openingNumber hall ≡ 0
     → Stands (headerBytes hall) sheet at next
     → headerAt sheet at ≡ got hall next
-unfolding headerAt headerBytes
+unfolding headerAt headerBytes openingNumber
 header-read-back hall sheet at next opens stands =
     simp (
-      number-read-back mostNumber (hall .desks) sheet at at₁ (omega (arith, ranges .desks)) (omega arith) (s₁ .0),
-      number-read-back mostNumber (hall .screens) sheet at₁ at₂ (omega (arith, ranges .screens)) (omega arith) (s₂ .0),
-      number-read-back mostNumber (hall .positions) sheet at₂ next (omega (arith, ranges .positions)) (omega arith) (s₂ .1),
+      number-read-back mostNumber (hall .desks) sheet at at₁ (omega (arith, asked .desks .1)) (omega arith) (s₁ .0),
+      number-read-back mostNumber (hall .screens) sheet at₁ at₂ (omega (arith, asked .screens .1)) (omega arith) (s₂ .0),
+      number-read-back mostNumber (hall .positions) sheet at₂ next (omega (arith, asked .positions .1)) (omega arith) (s₂ .1),
     )
   where
-    ranges : Ranges hall
-    ranges = opening-ranges hall opens
+    asked : Opens hall
+    asked = hall-opens hall lentTable opens .0
 
     desks : List ℕ
     desks = numberBytes (hall .desks)
