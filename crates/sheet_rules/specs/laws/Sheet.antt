@@ -241,56 +241,38 @@ abbrev room : ℕ → ℕ
 room zero = 1
 room (suc most) = 128 * room most
 
--- the groups of the shortest form
-abbrev groupsOf : ℕ → ℕ → List ℕ
-groupsOf zero value = []
-groupsOf (suc most) value = cond (ltb value 128) (value ∷ []) ((value % 128) ∷ groupsOf most (value / 128))
+-- the groups that a number's shortest form is read as: one for each byte, and their value is the number
+record ReadBack (most value : ℕ) (rest : List ℕ) : Type 0 where
+  groups : List ℕ
+  found : groupsIn most (shortest most value ++ rest) ≡ ended groups
+  same : valueOf groups ≡ value
+  long : length groups ≡ length (shortest most value)
 
-groups-read-back : (most value : ℕ) (rest : List ℕ) → value < room most → 1 ≤ value + most
-    → groupsIn most (shortest most value ++ rest) ≡ ended (groupsOf most value)
-groups-read-back zero value rest h g = absurd (omega arith)
-groups-read-back (suc most) value rest h g =
-    by-size (ltb value 128) refl (λ big. groups-read-back most (value / 128) rest (omega arith) (omega arith))
+shortest-read-back : (most value : ℕ) (rest : List ℕ) → value < room most → 1 ≤ value + most → ReadBack most value rest
+shortest-read-back zero value rest h g = absurd (omega arith)
+shortest-read-back (suc most) value rest h g =
+    by-size (ltb value 128) refl (λ big. shortest-read-back most (value / 128) rest (omega arith) (omega arith))
   where
-    by-size : (small : Bool) → ltb value 128 ≡ small
-        → (128 ≤ value → groupsIn most (shortest most (value / 128) ++ rest) ≡ ended (groupsOf most (value / 128)))
-        → groupsIn (suc most) (shortest (suc most) value ++ rest) ≡ ended (groupsOf (suc most) value)
-    by-size true e later = simp e
+    by-size : (small : Bool) → ltb value 128 ≡ small → (128 ≤ value → ReadBack most (value / 128) rest) → ReadBack (suc most) value rest
+    by-size true e later = record { groups = value ∷ []; found = simp e; same = omega arith; long = simp e }
     by-size false e later =
-        let big : 128 ≤ value = ltb-false value 128 e in
+        let back = later (ltb-false value 128 e) in
         let low : (value % 128 + 128) % 128 ≡ value % 128 = omega arith in
-        simp (e, le-ltb (value % 128 + 128) 128 (omega arith), low, later big)
-
-value-of-groups : (most value : ℕ) → value < room most → valueOf (groupsOf most value) ≡ value
-value-of-groups zero value h = omega arith
-value-of-groups (suc most) value h = by-size (ltb value 128) refl (value-of-groups most (value / 128) (omega arith))
-  where
-    by-size : (small : Bool) → ltb value 128 ≡ small → valueOf (groupsOf most (value / 128)) ≡ value / 128
-        → valueOf (groupsOf (suc most) value) ≡ value
-    by-size true e later = simp e (omega arith)
-    by-size false e later = simp (e, later) (omega arith)
-
-one-byte-a-group : (most value : ℕ) → length (groupsOf most value) ≡ length (shortest most value)
-one-byte-a-group zero value = refl
-one-byte-a-group (suc most) value = by-size (ltb value 128) refl (one-byte-a-group most (value / 128))
-  where
-    by-size : (small : Bool) → ltb value 128 ≡ small
-        → length (groupsOf most (value / 128)) ≡ length (shortest most (value / 128))
-        → length (groupsOf (suc most) value) ≡ length (shortest (suc most) value)
-    by-size true e later = simp e
-    by-size false e later = simp (e, later)
+        record {
+          groups = (value % 128) ∷ back .groups;
+          found = simp (e, le-ltb (value % 128 + 128) 128 (omega arith), low, back .found);
+          same = omega (arith, back .same);
+          long = simp (e, back .long);
+        }
 
 pub number-read-back : (limit value : ℕ) (sheet : List ℕ) (at next : ℕ) → value ≤ limit → limit ≤ mostNumber
     → Stands (numberBytes value) sheet at next
     → number limit sheet at ≡ got value next
 unfolding number numberBytes
 number-read-back limit value sheet at next h g stands =
-    ap (λ (bytes : List ℕ). numberOf limit at (groupsIn 3 bytes)) (stands .here)
-    ∙ ap (numberOf limit at) (groups-read-back 3 value (drop next sheet) (omega arith) (omega arith))
-    ∙ simp (value-of-groups 3 value (omega arith), le-leb value limit h, place)
-  where
-    place : at + length (groupsOf 3 value) ≡ next
-    place = omega (arith, one-byte-a-group 3 value, stands .far)
+    let back = shortest-read-back 3 value (drop next sheet) (omega arith) (omega arith) in
+    let place : at + length (back .groups) ≡ next = omega (arith, back .long, stands .far) in
+    simp (stands .here, back .found, back .same, le-leb value limit h, place)
 
 -- ---- A written record is read back.
 field-read-back : (present : Bool) (value : ℕ) (sheet : List ℕ) (at next : ℕ) → Due present value
