@@ -8,7 +8,7 @@ use lib.ListN.{length, drop, length-append, length-drop}
 use lib.Seq.{drop-length, drop-drop, drop-append-seam}
 use lib.Dec.{leb, ltb}
 use borrow.Author.Tests.{ltb-false, leb-true, lt-ltb, le-ltb, le-leb, lt-leb}
-use Rattle.rules.specs.Hall.{Hall, mostDesks, mostPositions, mostScreens}
+use Rattle.rules.specs.Hall.{Hall, hallOf, mostDesks, mostPositions, mostScreens}
 use Rattle.rules.specs.Steps.{firstNo, inRange}
 use Rattle.rules.specs.Table.{mostWords, need, openQuestions, openIf, openTable}
 use Rattle.rules.specs.Numbers.{Refusal, Got, got, refused, andThen, Groups, ended, stopped, endless, before, groupsIn}
@@ -265,82 +265,48 @@ shortest-read-back (suc most) value rest h g =
           long = simp (e, back .long);
         }
 
-pub number-read-back : (limit value : ℕ) (sheet : List ℕ) (at next : ℕ) → value ≤ limit → limit ≤ mostNumber
-    → Stands (numberBytes value) sheet at next
-    → number limit sheet at ≡ got value next
+-- A reader finds a value wherever its bytes stand.
+abbrev pub ReadsBack : {A : Type 0} → (List ℕ → ℕ → Got A) → List ℕ → A → Type 0
+ReadsBack reader bytes value = (sheet : List ℕ) (at next : ℕ) → Stands bytes sheet at next → reader sheet at ≡ got value next
+
+number-read-back : (value : ℕ) → value ≤ mostNumber → ReadsBack (number mostNumber) (numberBytes value) value
 unfolding number numberBytes
-number-read-back limit value sheet at next h g stands =
+number-read-back value h sheet at next stands =
     let back = shortest-read-back 3 value (drop next sheet) (omega arith) (omega arith) in
     let place : at + length (back .groups) ≡ next = omega (arith, back .long, stands .far) in
-    simp (stands .here, back .found, back .same, le-leb value limit h, place)
+    simp (stands .here, back .found, back .same, le-leb value mostNumber h, place)
+
+-- a value, and then what is read after it
+then-read-back : {A B : Type 0} {first : List ℕ → ℕ → Got A} (rest : A → List ℕ → ℕ → Got B) (bytes later : List ℕ) {a : A} {b : B}
+    → ReadsBack first bytes a → ReadsBack (rest a) later b
+    → ReadsBack (λ sheet at. andThen (first sheet at) (λ value. rest value sheet)) (bytes ++ later) b
+then-read-back rest bytes later one two sheet at next stands =
+    let split = stands-split bytes later sheet at next stands in
+    simp (one sheet at (at + length bytes) (split .0)) (two sheet (at + length bytes) next (split .1))
+
+-- the last value, and what is made of it
+last-read-back : {A B : Type 0} {first : List ℕ → ℕ → Got A} (make : A → B) {bytes : List ℕ} {a : A} → ReadsBack first bytes a
+    → ReadsBack (λ sheet at. andThen (first sheet at) (λ value. got (make value))) bytes (make a)
+last-read-back make one sheet at next stands = simp (one sheet at next stands)
 
 -- ---- A written record is read back.
-field-read-back : (present : Bool) (value : ℕ) (sheet : List ℕ) (at next : ℕ) → Due present value
-    → Stands (fieldBytes present value) sheet at next
-    → fieldAt present mostNumber sheet at ≡ got value next
-field-read-back true value sheet at next due stands = number-read-back mostNumber value sheet at next due (omega arith) stands
-field-read-back false value sheet at next due stands = let place : next ≡ at = omega (arith, stands .far) in cc
+field-read-back : (present : Bool) (value : ℕ) → Due present value → ReadsBack (fieldAt present mostNumber) (fieldBytes present value) value
+field-read-back true value due = number-read-back value due
+field-read-back false value due = λ sheet at next stands. (let place : next ≡ at = omega (arith, stands .far) in cc)
 
-fields-read-back : (entry : Record) (sheet : List ℕ) (at next : ℕ) → GoodRecord entry
-    → Stands (fieldsBytes entry) sheet at next
-    → fieldsAt (entry .code) sheet at ≡ got entry next
-fields-read-back entry sheet at next good stands =
-    simp (
-      field-read-back (follows (entry .code) deskField) (entry .desk) sheet at at₁ (good .desk) (s₁ .0),
-      field-read-back (follows (entry .code) screenField) (entry .screen) sheet at₁ at₂ (good .screen) (s₂ .0),
-      field-read-back (follows (entry .code) positionField) (entry .position) sheet at₂ at₃ (good .position) (s₃ .0),
-      field-read-back (follows (entry .code) sessionField) (entry .session) sheet at₃ next (good .session) (s₃ .1),
-    )
-  where
-    desk : List ℕ
-    desk = fieldBytes (follows (entry .code) deskField) (entry .desk)
+fields-read-back : (entry : Record) → GoodRecord entry → ReadsBack (fieldsAt (entry .code)) (fieldsBytes entry) entry
+fields-read-back entry good =
+    then-read-back _ _ _ (field-read-back (follows (entry .code) deskField) (entry .desk) (good .desk))
+    (then-read-back _ _ _ (field-read-back (follows (entry .code) screenField) (entry .screen) (good .screen))
+    (then-read-back _ _ _ (field-read-back (follows (entry .code) positionField) (entry .position) (good .position))
+    (last-read-back (recordFor (entry .code) (entry .desk) (entry .screen) (entry .position))
+    (field-read-back (follows (entry .code) sessionField) (entry .session) (good .session)))))
 
-    screen : List ℕ
-    screen = fieldBytes (follows (entry .code) screenField) (entry .screen)
-
-    position : List ℕ
-    position = fieldBytes (follows (entry .code) positionField) (entry .position)
-
-    session : List ℕ
-    session = fieldBytes (follows (entry .code) sessionField) (entry .session)
-
-    at₁ : ℕ
-    at₁ = at + length desk
-
-    at₂ : ℕ
-    at₂ = at₁ + length screen
-
-    at₃ : ℕ
-    at₃ = at₂ + length position
-
-    s₁ : Stands desk sheet at at₁ × Stands (screen ++ (position ++ session)) sheet at₁ next
-    s₁ = stands-split desk (screen ++ (position ++ session)) sheet at next stands
-
-    s₂ : Stands screen sheet at₁ at₂ × Stands (position ++ session) sheet at₂ next
-    s₂ = stands-split screen (position ++ session) sheet at₁ next (s₁ .1)
-
-    s₃ : Stands position sheet at₂ at₃ × Stands session sheet at₃ next
-    s₃ = stands-split position session sheet at₂ next (s₂ .1)
-
-pub record-read-back : (entry : Record) (sheet : List ℕ) (at next : ℕ) → GoodRecord entry
-    → Stands (recordBytes entry) sheet at next
-    → recordAt sheet at ≡ got entry next
+pub record-read-back : (entry : Record) → GoodRecord entry → ReadsBack recordAt (recordBytes entry) entry
 unfolding recordAt recordBytes
-record-read-back entry sheet at next good stands =
-    simp (
-      number-read-back mostNumber (entry .code) sheet at (at + length code) small (omega arith) (split .0),
-      good .code,
-      fields-read-back entry sheet (at + length code) next good (split .1),
-    )
-  where
-    small : entry .code ≤ mostNumber
-    small = omega (arith, in-range (entry .code) 5 (good .code) .1)
-
-    code : List ℕ
-    code = numberBytes (entry .code)
-
-    split : Stands code sheet at (at + length code) × Stands (fieldsBytes entry) sheet (at + length code) next
-    split = stands-split code (fieldsBytes entry) sheet at next stands
+record-read-back entry good =
+    then-read-back _ _ _ (number-read-back (entry .code) (omega (arith, in-range (entry .code) 5 (good .code) .1)))
+    (λ sheet at next stands. simp (good .code, fields-read-back entry good sheet at next stands))
 
 -- ---- A written sheet is read back.
 abbrev pub EachGood : List Record → Type 0
@@ -354,7 +320,7 @@ records-read-back [] sheet at good stands = records-end sheet at (omega (arith, 
 records-read-back (entry ∷ entries) sheet at good stands =
     let next : ℕ = at + length (recordBytes entry) in
     let split = stands-split (recordBytes entry) (recordsBytes entries) sheet at (length sheet) stands in
-    let e : recordAt sheet at ≡ got entry next = record-read-back entry sheet at next (good .0) (split .0) in
+    let e : recordAt sheet at ≡ got entry next = record-read-back entry (good .0) sheet at next (split .0) in
     let moved = record-got sheet at entry next e .moved in
     records-more sheet at entry next (omega (arith, moved .past, moved .inside)) e
     ∙ ap (more entry) (records-read-back entries sheet next (good .1) (split .1))
@@ -376,40 +342,13 @@ opening-never-four hall =
     by-answers true false positions d c p = omega arith
     by-answers false screens positions d c p = omega arith
 
-pub header-read-back : (hall : Hall) (sheet : List ℕ) (at next : ℕ) → openingNumber hall ≡ 0
-    → Stands (headerBytes hall) sheet at next
-    → headerAt sheet at ≡ got hall next
+pub header-read-back : (hall : Hall) → openingNumber hall ≡ 0 → ReadsBack headerAt (headerBytes hall) hall
 unfolding headerAt headerBytes openingNumber
-header-read-back hall sheet at next opens stands =
-    simp (
-      number-read-back mostNumber (hall .desks) sheet at at₁ (omega (arith, asked .desks .1)) (omega arith) (s₁ .0),
-      number-read-back mostNumber (hall .screens) sheet at₁ at₂ (omega (arith, asked .screens .1)) (omega arith) (s₂ .0),
-      number-read-back mostNumber (hall .positions) sheet at₂ next (omega (arith, asked .positions .1)) (omega arith) (s₂ .1),
-    )
-  where
-    asked : Opens hall
-    asked = hall-opens hall lentTable opens .0
-
-    desks : List ℕ
-    desks = numberBytes (hall .desks)
-
-    screens : List ℕ
-    screens = numberBytes (hall .screens)
-
-    positions : List ℕ
-    positions = numberBytes (hall .positions)
-
-    at₁ : ℕ
-    at₁ = at + length desks
-
-    at₂ : ℕ
-    at₂ = at₁ + length screens
-
-    s₁ : Stands desks sheet at at₁ × Stands (screens ++ positions) sheet at₁ next
-    s₁ = stands-split desks (screens ++ positions) sheet at next stands
-
-    s₂ : Stands screens sheet at₁ at₂ × Stands positions sheet at₂ next
-    s₂ = stands-split screens positions sheet at₁ next (s₁ .1)
+header-read-back hall opens =
+    let asked : Opens hall = hall-opens hall lentTable opens .0 in
+    then-read-back _ _ _ (number-read-back (hall .desks) (omega (arith, asked .desks .1)))
+    (then-read-back _ _ _ (number-read-back (hall .screens) (omega (arith, asked .screens .1)))
+    (last-read-back (hallOf (hall .desks) (hall .screens)) (number-read-back (hall .positions) (omega (arith, asked .positions .1)))))
 
 -- The board's answer to the opening, at the table that the program lends, has the reading's number.
 pub opening-answer : (hall : Hall) → openTable hall lentTable .answer ≡ record { number = openingNumber hall; session = 0 }
@@ -431,7 +370,7 @@ unfolding reading sheetBytes
 reading-back meaning good short =
     simp (
       le-leb (length sheet) mostBytes short,
-      header-read-back (meaning .header) sheet 0 (0 + length header) (good .opens) (split .0),
+      header-read-back (meaning .header) (good .opens) sheet 0 (0 + length header) (split .0),
       good .opens,
     )
     (ap (opened (meaning .header)) (records-read-back (meaning .records) sheet (0 + length header) (good .records) (split .1)))
