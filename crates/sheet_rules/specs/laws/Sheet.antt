@@ -11,18 +11,18 @@ use borrow.Author.Tests.{ltb-false, leb-true, lt-ltb, le-ltb, le-leb, lt-leb}
 use Rattle.rules.specs.Hall.{Hall, hallOf, mostDesks, mostPositions, mostScreens}
 use Rattle.rules.specs.Steps.{firstNo, inRange}
 use Rattle.rules.specs.Table.{mostWords, need, openQuestions, openIf, openTable}
-use Rattle.rules.specs.Numbers.{Refusal, Got, got, refused, andThen, Groups, ended, stopped, endless, before, groupsIn}
+use Rattle.rules.specs.Numbers.{Refusal, refusalOf, Got, got, refused, andThen, Groups, ended, stopped, endless, before, groupsIn}
 use Rattle.rules.specs.Numbers.{valueOf, numberOf, number, mostNumber}
 use Rattle.rules.specs.laws.Effect.{in-range}
 use Rattle.rules.specs.laws.Prefix.{need-at-most}
 use Rattle.rules.specs.laws.Tables.{Opens, hall-opens}
 use Rattle.sheet_rules.specs.Sheet.{Record, recordFor, deskField, screenField}
 use Rattle.sheet_rules.specs.Sheet.{positionField, sessionField, follows, fieldAt, fieldsAt, withCode, isCode, recordAt}
-use Rattle.sheet_rules.specs.Sheet.{Records, more, complete, stop, recordsAt, headerAt, lentTable, openingNumber, opened}
+use Rattle.sheet_rules.specs.Sheet.{Records, more, complete, stop, recordsAt, headerAt, lentTable, openingNumber, unopened, opened, headed}
 use Rattle.sheet_rules.specs.Sheet.{mostBytes, reading, Meaning, whole, Accepted, shortest, numberBytes, fieldBytes}
 use Rattle.sheet_rules.specs.Sheet.{fieldsBytes, recordBytes, recordsBytes, headerBytes, sheetBytes}
 use Rattle.sheet_rules.specs.Tally.{zeros}
-use Rattle.sheet_rules.specs.Lines.{line, endLine, printed}
+use Rattle.sheet_rules.specs.Lines.{line, endLine, linesOf, printed}
 
 -- ---- What a reader that got a value had before it.
 refused-not-got : {A : Type 0} {reason : Refusal} {value : A} {next : ℕ} → refused reason ≡ got value next → ⊥
@@ -53,7 +53,7 @@ same-got P first second at next e holds =
     subst (λ (n : ℕ). P second n) far (subst (λ a. P a at) same holds)
 
 -- ---- Every reader moves on, and stays in the sheet.
-pub record Onward (sheet : List ℕ) (at next : ℕ) : Type 0 where
+pub record Moved (sheet : List ℕ) (at next : ℕ) : Type 0 where
   pub past : at < next
   pub inside : next ≤ length sheet
 
@@ -75,11 +75,11 @@ groups-taken (suc most) (byte ∷ bytes) = one-more (ltb byte 128) (groupsIn mos
     one-more false stopped taken = tt
     one-more false endless taken = tt
 
-pub record NumberGot (limit : ℕ) (sheet : List ℕ) (at value next : ℕ) : Type 0 where
-  pub small : value ≤ limit
-  pub moved : Onward sheet at next
+record NumberGot (limit : ℕ) (sheet : List ℕ) (at value next : ℕ) : Type 0 where
+  small : value ≤ limit
+  moved : Moved sheet at next
 
-pub number-got : (limit : ℕ) (sheet : List ℕ) (at value next : ℕ) → number limit sheet at ≡ got value next
+number-got : (limit : ℕ) (sheet : List ℕ) (at value next : ℕ) → number limit sheet at ≡ got value next
     → NumberGot limit sheet at value next
 unfolding number
 number-got limit sheet at value next e = of-groups (groupsIn 3 (drop at sheet)) (groups-taken 3 (drop at sheet)) e
@@ -98,20 +98,20 @@ number-got limit sheet at value next e = of-groups (groupsIn 3 (drop at sheet)) 
     of-groups endless taken q = absurd (refused-not-got q)
 
 -- What a field holds: a number where it follows the code, else 0.
-abbrev pub Due : Bool → ℕ → Type 0
-Due true value = value ≤ mostNumber
-Due false value = value ≡ 0
+abbrev pub FieldHolds : Bool → ℕ → Type 0
+FieldHolds true value = value ≤ mostNumber
+FieldHolds false value = value ≡ 0
 
 -- A record that a sheet can have.
 pub record GoodRecord (entry : Record) : Type 0 where
   pub code : isCode (entry .code) ≡ true
-  pub desk : Due (follows (entry .code) deskField) (entry .desk)
-  pub screen : Due (follows (entry .code) screenField) (entry .screen)
-  pub position : Due (follows (entry .code) positionField) (entry .position)
-  pub session : Due (follows (entry .code) sessionField) (entry .session)
+  pub desk : FieldHolds (follows (entry .code) deskField) (entry .desk)
+  pub screen : FieldHolds (follows (entry .code) screenField) (entry .screen)
+  pub position : FieldHolds (follows (entry .code) positionField) (entry .position)
+  pub session : FieldHolds (follows (entry .code) sessionField) (entry .session)
 
 record FieldGot (present : Bool) (sheet : List ℕ) (at value next : ℕ) : Type 0 where
-  due : Due present value
+  holds : FieldHolds present value
   past : at ≤ next
   inside : next ≤ length sheet
 
@@ -120,11 +120,11 @@ field-got : (present : Bool) (sheet : List ℕ) (at value next : ℕ) → at ≤
     → FieldGot present sheet at value next
 field-got true sheet at value next h e =
     let g = number-got mostNumber sheet at value next e in
-    record { due = g .small; past = omega (arith, g .moved .past); inside = g .moved .inside }
+    record { holds = g .small; past = omega (arith, g .moved .past); inside = g .moved .inside }
 field-got false sheet at value next h e =
     let place : at ≡ next = cc in
     let none : value ≡ 0 = cc in
-    record { due = none; past = omega arith; inside = omega arith }
+    record { holds = none; past = omega arith; inside = omega arith }
 
 record FieldsGot (code : ℕ) (sheet : List ℕ) (at : ℕ) (entry : Record) (next : ℕ) : Type 0 where
   good : isCode code ≡ true → GoodRecord entry
@@ -145,14 +145,14 @@ fields-got code sheet at entry next h e =
     let g₄ = field-got (follows code sessionField) sheet (e₃ .1) (e₄ .0) (e₄ .1) (g₃ .inside) (e₄ .2) in
     same-got (FieldsGot code sheet at) (recordFor code (e₁ .0) (e₂ .0) (e₃ .0) (e₄ .0)) entry (e₄ .1) next (e₄ .3)
     (record {
-      good = λ fine. record { code = fine; desk = g₁ .due; screen = g₂ .due; position = g₃ .due; session = g₄ .due };
+      good = λ fine. record { code = fine; desk = g₁ .holds; screen = g₂ .holds; position = g₃ .holds; session = g₄ .holds };
       past = omega (arith, g₁ .past, g₂ .past, g₃ .past, g₄ .past);
       inside = g₄ .inside;
     })
 
 pub record RecordGot (sheet : List ℕ) (at : ℕ) (entry : Record) (next : ℕ) : Type 0 where
   pub good : GoodRecord entry
-  pub moved : Onward sheet at next
+  pub moved : Moved sheet at next
 
 pub record-got : (sheet : List ℕ) (at : ℕ) (entry : Record) (next : ℕ) → recordAt sheet at ≡ got entry next
     → RecordGot sheet at entry next
@@ -165,7 +165,7 @@ record-got sheet at entry next e =
     record { good = fields .good (e₂ .0); moved = record { past = omega (arith, g .moved .past, fields .past); inside = fields .inside } }
 
 pub header-got : (sheet : List ℕ) (at : ℕ) (hall : Hall) (next : ℕ) → headerAt sheet at ≡ got hall next
-    → Onward sheet at next
+    → Moved sheet at next
 unfolding headerAt
 header-got sheet at hall next e =
     let e₁ = then-got (number mostNumber sheet at) _ hall next e in
@@ -212,11 +212,11 @@ pub records-end : (sheet : List ℕ) (at : ℕ) → length sheet ≤ at → reco
 records-end sheet at h = one-further sheet at ∙ simp (le-ltb at (length sheet) h)
 
 -- ---- Bytes that stand in a sheet, from a place up to the next.
-pub record Stands (bytes sheet : List ℕ) (at next : ℕ) : Type 0 where
-  pub here : drop at sheet ≡ bytes ++ drop next sheet
-  pub far : next ≡ at + length bytes
+record Stands (bytes sheet : List ℕ) (at next : ℕ) : Type 0 where
+  here : drop at sheet ≡ bytes ++ drop next sheet
+  far : next ≡ at + length bytes
 
-pub stands-split : (first second sheet : List ℕ) (at next : ℕ) → Stands (first ++ second) sheet at next
+stands-split : (first second sheet : List ℕ) (at next : ℕ) → Stands (first ++ second) sheet at next
     → Stands first sheet at (at + length first) × Stands second sheet (at + length first) next
 stands-split first second sheet at next h =
     (record { here = one; far = refl }, record { here = two; far = omega (arith, h .far, length-append first second) })
@@ -266,7 +266,7 @@ shortest-read-back (suc most) value rest h g =
         }
 
 -- A reader finds a value wherever its bytes stand.
-abbrev pub ReadsBack : {A : Type 0} → (List ℕ → ℕ → Got A) → List ℕ → A → Type 0
+abbrev ReadsBack : {A : Type 0} → (List ℕ → ℕ → Got A) → List ℕ → A → Type 0
 ReadsBack reader bytes value = (sheet : List ℕ) (at next : ℕ) → Stands bytes sheet at next → reader sheet at ≡ got value next
 
 number-read-back : (value : ℕ) → value ≤ mostNumber → ReadsBack (number mostNumber) (numberBytes value) value
@@ -290,9 +290,9 @@ last-read-back : {A B : Type 0} {first : List ℕ → ℕ → Got A} (make : A �
 last-read-back make one sheet at next stands = simp (one sheet at next stands)
 
 -- ---- A written record is read back.
-field-read-back : (present : Bool) (value : ℕ) → Due present value → ReadsBack (fieldAt present mostNumber) (fieldBytes present value) value
-field-read-back true value due = number-read-back value due
-field-read-back false value due = λ sheet at next stands. (let place : next ≡ at = omega (arith, stands .far) in cc)
+field-read-back : (present : Bool) (value : ℕ) → FieldHolds present value → ReadsBack (fieldAt present mostNumber) (fieldBytes present value) value
+field-read-back true value holds = number-read-back value holds
+field-read-back false value holds = λ sheet at next stands. (let place : next ≡ at = omega (arith, stands .far) in cc)
 
 fields-read-back : (entry : Record) → GoodRecord entry → ReadsBack (fieldsAt (entry .code)) (fieldsBytes entry) entry
 fields-read-back entry good =
@@ -302,11 +302,25 @@ fields-read-back entry good =
     (last-read-back (recordFor (entry .code) (entry .desk) (entry .screen) (entry .position))
     (field-read-back (follows (entry .code) sessionField) (entry .session) (good .session)))))
 
-pub record-read-back : (entry : Record) → GoodRecord entry → ReadsBack recordAt (recordBytes entry) entry
+record-read-back : (entry : Record) → GoodRecord entry → ReadsBack recordAt (recordBytes entry) entry
 unfolding recordAt recordBytes
 record-read-back entry good =
     then-read-back _ _ _ (number-read-back (entry .code) (omega (arith, in-range (entry .code) 5 (good .code) .1)))
     (λ sheet at next stands. simp (good .code, fields-read-back entry good sheet at next stands))
+
+-- ---- "is the sheet at most 65,536 bytes? 18", and "18 prints `0 0 18 0`".
+pub too-long : (sheet : List ℕ) → mostBytes < length sheet → reading sheet ≡ unopened (refusalOf 0 18)
+unfolding reading
+too-long sheet long = simp (lt-leb (length sheet) mostBytes long)
+
+-- a sheet that is not is read by its header
+pub short-enough : (sheet : List ℕ) → length sheet ≤ mostBytes → {found : Got Hall} → headerAt sheet 0 ≡ found → reading sheet ≡ headed sheet found
+unfolding reading
+short-enough sheet short read = simp (le-leb (length sheet) mostBytes short, read)
+
+pub long-sheet : (sheet : List ℕ) → mostBytes < length sheet → printed sheet ≡ line 0 0 18 0 ++ endLine zeros
+unfolding printed
+long-sheet sheet long = ap linesOf (too-long sheet long)
 
 -- ---- A written sheet is read back.
 abbrev pub EachGood : List Record → Type 0
@@ -342,7 +356,7 @@ opening-never-four hall =
     by-answers true false positions d c p = omega arith
     by-answers false screens positions d c p = omega arith
 
-pub header-read-back : (hall : Hall) → openingNumber hall ≡ 0 → ReadsBack headerAt (headerBytes hall) hall
+header-read-back : (hall : Hall) → openingNumber hall ≡ 0 → ReadsBack headerAt (headerBytes hall) hall
 unfolding headerAt headerBytes openingNumber
 header-read-back hall opens =
     let asked : Opens hall = hall-opens hall lentTable opens .0 in
@@ -366,14 +380,10 @@ pub record GoodMeaning (meaning : Meaning) : Type 0 where
 
 pub reading-back : (meaning : Meaning) → GoodMeaning meaning → length (sheetBytes meaning) ≤ mostBytes
     → Accepted (sheetBytes meaning) meaning
-unfolding reading sheetBytes
+unfolding sheetBytes
 reading-back meaning good short =
-    simp (
-      le-leb (length sheet) mostBytes short,
-      header-read-back (meaning .header) (good .opens) sheet 0 (0 + length header) (split .0),
-      good .opens,
-    )
-    (ap (opened (meaning .header)) (records-read-back (meaning .records) sheet (0 + length header) (good .records) (split .1)))
+    short-enough sheet short (header-read-back (meaning .header) (good .opens) sheet 0 (0 + length header) (split .0))
+    ∙ simp (good .opens) (ap (opened (meaning .header)) (records-read-back (meaning .records) sheet (0 + length header) (good .records) (split .1)))
   where
     header : List ℕ
     header = headerBytes (meaning .header)
@@ -386,8 +396,3 @@ reading-back meaning good short =
 
     split : Stands header sheet 0 (0 + length header) × Stands records sheet (0 + length header) (length sheet)
     split = stands-split header records sheet 0 (length sheet) (stands-whole sheet)
-
--- ---- "is the sheet at most 65,536 bytes? 18", and "18 prints `0 0 18 0`".
-pub long-sheet : (sheet : List ℕ) → mostBytes < length sheet → printed sheet ≡ line 0 0 18 0 ++ endLine zeros
-unfolding reading printed
-long-sheet sheet long = simp (lt-leb (length sheet) mostBytes long)
