@@ -6,7 +6,7 @@ use mathlib.Core.Bool.{Bool, true, false, cond, not}
 use mathlib.Core.List.{List, [], _∷_}
 use lib.Dec.{ltb, eqb}
 use borrow.Author.Tests.{ltb-true, ltb-false, not-true}
-use Rattle.rules.specs.Steps.{Call, Take, Drop, Swap, Retire, Collect, Answer, Event, isNone}
+use Rattle.rules.specs.Steps.{Call, Take, Drop, Swap, Retire, Collect, Answer, Event, isNone, isSession}
 use Rattle.rules.specs.History.{deed, lacksRoom, collects, handsBack, nothing, isHandBack, oneIf, howMany}
 use Rattle.sheet_rules.specs.Sheet.{Record, recordFor, callOf}
 use Rattle.sheet_rules.specs.Tally.{Tally, tallyOf, zeros, isAccepted, isRefused, isHandedBack, largestCount, oneMore}
@@ -23,6 +23,14 @@ refused-hands-nothing (Retire d) n session = either (eqb (suc n) 14)
     either true = refl
     either false = refl
 refused-hands-nothing (Collect d) n session = refl
+
+-- "sessions handed back (replies to collect other than 0)"
+pub collect-hands-back : (d session : ℕ) → isHandBack (deed (Collect d) 0 session) ≡ isSession session
+collect-hands-back d session = by-session (isNone session)
+  where
+    by-session : (none : Bool) → isHandBack (cond none (collects d) (handsBack d session)) ≡ not none
+    by-session true = refl
+    by-session false = refl
 
 pub refused-step : (total : Tally) (event : Event) → isRefused event ≡ true
     → counted total event ≡ tallyOf (total .accepted) (oneMore (total .refused)) (total .handedBack)
@@ -55,11 +63,6 @@ counted-by-code total entry answer =
         cond take (Take desk screen position)
         (cond drop (Drop desk screen) (cond swap (Swap desk position session) (cond retire (Retire desk) (Collect desk))))
 
-    collected : (none : Bool) (session : ℕ)
-        → isHandBack (cond none (collects 0) (handsBack 0 session)) ≡ isHandBack (cond none (collects (entry .desk)) (handsBack (entry .desk) session))
-    collected true session = refl
-    collected false session = refl
-
     by-code : (take drop swap retire : Bool) (session : ℕ)
         → isHandBack (deed (step take drop swap retire 0 0 0 0) 0 session)
         ≡ isHandBack (deed (step take drop swap retire (entry .desk) (entry .screen) (entry .position) (entry .session)) 0 session)
@@ -67,7 +70,7 @@ counted-by-code total entry answer =
     by-code false true swap retire session = refl
     by-code false false true retire session = refl
     by-code false false false true session = refl
-    by-code false false false false session = collected (isNone session) session
+    by-code false false false false session = collect-hands-back 0 session ∙ sym (collect-hands-back (entry .desk) session)
 
     same : (n : ℕ)
         → isHandBack (deed (callOf (recordFor (entry .code) 0 0 0 0)) n (answer .session)) ≡ isHandBack (deed (callOf entry) n (answer .session))
