@@ -56,9 +56,9 @@ module _ (out : List ℕ) (at : ℕ) (bytes : List ℕ) where
 -- ---- What callers use.
 
 -- nothing put
-pub put-none : (out : List ℕ) (at : ℕ) → at ≤ length out → Put out out at [] at
+pub put-none : (out : List ℕ) (at : ℕ) → Put out out at [] at
 unfolding laid
-put-none out at inside =
+put-none out at =
     let same : at + 0 ≡ at = omega arith in
     record {
       written = sym (ap (λ (n : ℕ). take at out ++ drop n out) same ∙ take-append-drop at out);
@@ -75,7 +75,7 @@ put-one out at byte inside =
     }
 
 -- a buffer keeps its length
-pub put-length : {before after : List ℕ} {at next : ℕ} {bytes : List ℕ} → Put before after at bytes next → Fits before at bytes
+put-length : {before after : List ℕ} {at next : ℕ} {bytes : List ℕ} → Put before after at bytes next → Fits before at bytes
     → length after ≡ length before
 put-length {before} {after} {at} {next} {bytes} put fits = ap length (put .written) ∙ laid-length before at bytes fits
 
