@@ -1,5 +1,5 @@
 -- What each way through a record puts, runs and leaves.
-use Prim.Native.Nat.{ℕ, suc, _+_, _-_, _≤_, _<_}
+use Prim.Native.Nat.{ℕ, _+_, _-_, _≤_, _<_}
 use native.Mathlib.Omega.{arith}
 use native.Mathlib.Numerals.{add-one}
 use mathlib.Core.Path.{_≡_, refl, sym, ap, _∙_}
@@ -171,7 +171,7 @@ module _ {sheet : List ℕ} {was : State} {before out : List ℕ} {is : State} {
   reached-next filling onward sameTable sameOut = record {
     filling = record {
       bytes = reached .filling .bytes ++ filling .bytes;
-      put = put-on (reached .filling .put) (filling .put) (omega arith);
+      put = put-on (reached .filling .put) (filling .put);
       piece = piece-on (reached .filling .piece) (filling .piece);
     };
     numbered = onward .numbered;

@@ -16,7 +16,7 @@ same-length : tie.Need-same-length
 same-length c = search needs
 
 returns : tie.Need-returns
-returns c = (put-on (c .before .before .before .before .before .before .put-line .ensures) (c .before .before .finish .ensures .0) (omega (arith, c .before .before .before .before .before .before .before .before .before .pre)), c .before .before .finish .ensures .1)
+returns c = (put-on (c .before .before .before .before .before .before .put-line .ensures) (c .before .before .finish .ensures .0), c .before .before .finish .ensures .1)
 
 pub stop-spec : {M : Type 1} → statement M
 stop-spec =
