@@ -3,10 +3,10 @@ use Prim.Native.Nat.{ℕ, zero, suc, _≤_}
 use native.Mathlib.Omega.{arith}
 use mathlib.Core.Path.{_≡_, refl, sym}
 use mathlib.Core.Bool.{false}
-use lib.Dec.{eqb}
-use borrow.Author.Tests.{ne-eqb}
 use Rattle.rules.specs.Steps.{isSession}
+use Rattle.sheet_rules.specs.Sheet.{recordFor}
 use Rattle.sheet_rules.specs.Tally.{isHandedBack}
+use Rattle.sheet_rules.specs.laws.Sheet.{asks-collect}
 use Rattle.sheet_rules.specs.laws.Tally.{refused-hands-nothing, collect-hands-back}
 use Rattle.tally.specs.Count.{eventOf}
 
@@ -26,9 +26,4 @@ no-collect (suc (suc (suc (suc (suc code))))) session low high = absurd (omega a
 
 -- An accepted collect hands back the session that it replies, if there is one.
 pub accepted-collect : (code session : ℕ) → (1 ≤ code → code ≤ 4 → ⊥) → isSession session ≡ isHandedBack (eventOf code 0 session)
-accepted-collect code session other =
-    simp (is-no 1 (omega arith) (omega arith), is-no 2 (omega arith) (omega arith), is-no 3 (omega arith) (omega arith), is-no 4 (omega arith) (omega arith))
-    (sym (collect-hands-back 0 session))
-  where
-    is-no : (step : ℕ) → 1 ≤ step → step ≤ 4 → eqb code step ≡ false
-    is-no step low high = ne-eqb code step (λ same. other (omega arith) (omega arith))
+accepted-collect code session other = rw (asks-collect (recordFor code 0 0 0 0) other) (sym (collect-hands-back 0 session))

@@ -6,17 +6,17 @@ use mathlib.Core.Bool.{Bool, true, false, cond}
 use mathlib.Core.List.{List, [], _∷_, _++_, append-assoc, append-nil}
 use lib.ListN.{length, drop, length-append, length-drop}
 use lib.Seq.{drop-length, drop-drop, drop-append-seam}
-use lib.Dec.{leb, ltb}
-use borrow.Author.Tests.{ltb-false, leb-true, lt-ltb, le-ltb, le-leb, lt-leb}
+use lib.Dec.{leb, ltb, eqb}
+use borrow.Author.Tests.{ltb-false, leb-true, lt-ltb, le-ltb, le-leb, lt-leb, ne-eqb}
 use Rattle.rules.specs.Hall.{Hall, hallOf, mostDesks, mostPositions, mostScreens}
-use Rattle.rules.specs.Steps.{firstNo, inRange}
+use Rattle.rules.specs.Steps.{Collect, firstNo, inRange}
 use Rattle.rules.specs.Table.{mostWords, need, openQuestions, openIf, openTable}
 use Rattle.rules.specs.Numbers.{Refusal, refusalOf, Got, got, refused, andThen, Groups, ended, stopped, endless, before, groupsIn}
 use Rattle.rules.specs.Numbers.{valueOf, numberOf, number, mostNumber}
 use Rattle.rules.specs.laws.Effect.{in-range}
 use Rattle.rules.specs.laws.Prefix.{need-at-most}
 use Rattle.rules.specs.laws.Tables.{Opens, hall-opens}
-use Rattle.sheet_rules.specs.Sheet.{Record, recordFor, deskField, screenField}
+use Rattle.sheet_rules.specs.Sheet.{Record, recordFor, callOf, deskField, screenField}
 use Rattle.sheet_rules.specs.Sheet.{positionField, sessionField, follows, fieldAt, fieldsAt, withCode, isCode, recordAt}
 use Rattle.sheet_rules.specs.Sheet.{Records, more, complete, stop, recordsAt, headerAt, lentTable, openingNumber, unopened, opened, headed}
 use Rattle.sheet_rules.specs.Sheet.{mostBytes, reading, Meaning, whole, Accepted, shortest, numberBytes, fieldBytes}
@@ -307,6 +307,13 @@ unfolding recordAt recordBytes
 record-read-back entry good =
     then-read-back _ _ _ (number-read-back (entry .code) (omega (arith, in-range (entry .code) 5 (good .code) .1)))
     (λ sheet at next stands. simp (good .code, fields-read-back entry good sheet at next stands))
+
+-- ---- The step that a record asks for: a code that is none of 1 to 4 is taken for the collect's.
+pub asks-collect : (entry : Record) → (1 ≤ entry .code → entry .code ≤ 4 → ⊥) → callOf entry ≡ Collect (entry .desk)
+asks-collect entry other = simp (is-no 1 (omega arith) (omega arith), is-no 2 (omega arith) (omega arith), is-no 3 (omega arith) (omega arith), is-no 4 (omega arith) (omega arith))
+  where
+    is-no : (step : ℕ) → 1 ≤ step → step ≤ 4 → eqb (entry .code) step ≡ false
+    is-no step low high = ne-eqb (entry .code) step (λ same. other (omega arith) (omega arith))
 
 -- ---- "is the sheet at most 65,536 bytes? 18", and "18 prints `0 0 18 0`".
 pub too-long : (sheet : List ℕ) → mostBytes < length sheet → reading sheet ≡ unopened (refusalOf 0 18)
