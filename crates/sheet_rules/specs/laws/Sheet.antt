@@ -211,6 +211,13 @@ records-stop sheet at reason h e = one-further sheet at ∙ simp (lt-ltb at (len
 pub records-end : (sheet : List ℕ) (at : ℕ) → length sheet ≤ at → recordsAt (length sheet) sheet at ≡ complete
 records-end sheet at h = one-further sheet at ∙ simp (le-ltb at (length sheet) h)
 
+-- ---- The step that a record asks for: a code that is none of 1 to 4 is taken for the collect's.
+pub asks-collect : (entry : Record) → (1 ≤ entry .code → entry .code ≤ 4 → ⊥) → callOf entry ≡ Collect (entry .desk)
+asks-collect entry other = simp (is-no 1 (omega arith) (omega arith), is-no 2 (omega arith) (omega arith), is-no 3 (omega arith) (omega arith), is-no 4 (omega arith) (omega arith))
+  where
+    is-no : (step : ℕ) → 1 ≤ step → step ≤ 4 → eqb (entry .code) step ≡ false
+    is-no step low high = ne-eqb (entry .code) step (λ same. other (omega arith) (omega arith))
+
 -- ---- Bytes that stand in a sheet, from a place up to the next.
 record Stands (bytes sheet : List ℕ) (at next : ℕ) : Type 0 where
   here : drop at sheet ≡ bytes ++ drop next sheet
@@ -269,12 +276,12 @@ shortest-read-back (suc most) value rest h g =
 abbrev ReadsBack : {A : Type 0} → (List ℕ → ℕ → Got A) → List ℕ → A → Type 0
 ReadsBack reader bytes value = (sheet : List ℕ) (at next : ℕ) → Stands bytes sheet at next → reader sheet at ≡ got value next
 
-number-read-back : (value : ℕ) → value ≤ mostNumber → ReadsBack (number mostNumber) (numberBytes value) value
+number-read-back : (limit value : ℕ) → value ≤ limit → limit ≤ mostNumber → ReadsBack (number limit) (numberBytes value) value
 unfolding number numberBytes
-number-read-back value h sheet at next stands =
+number-read-back limit value h g sheet at next stands =
     let back = shortest-read-back 3 value (drop next sheet) (omega arith) (omega arith) in
     let place : at + length (back .groups) ≡ next = omega (arith, back .long, stands .far) in
-    simp (stands .here, back .found, back .same, le-leb value mostNumber h, place)
+    simp (stands .here, back .found, back .same, le-leb value limit h, place)
 
 -- a value, and then what is read after it
 then-read-back : {A B : Type 0} {first : List ℕ → ℕ → Got A} (rest : A → List ℕ → ℕ → Got B) (bytes later : List ℕ) {a : A} {b : B}
@@ -291,7 +298,7 @@ last-read-back make one sheet at next stands = simp (one sheet at next stands)
 
 -- ---- A written record is read back.
 field-read-back : (present : Bool) (value : ℕ) → FieldHolds present value → ReadsBack (fieldAt present mostNumber) (fieldBytes present value) value
-field-read-back true value holds = number-read-back value holds
+field-read-back true value holds = number-read-back mostNumber value holds (omega arith)
 field-read-back false value holds = λ sheet at next stands. (let place : next ≡ at = omega (arith, stands .far) in cc)
 
 fields-read-back : (entry : Record) → GoodRecord entry → ReadsBack (fieldsAt (entry .code)) (fieldsBytes entry) entry
@@ -305,15 +312,8 @@ fields-read-back entry good =
 record-read-back : (entry : Record) → GoodRecord entry → ReadsBack recordAt (recordBytes entry) entry
 unfolding recordAt recordBytes
 record-read-back entry good =
-    then-read-back _ _ _ (number-read-back (entry .code) (omega (arith, in-range (entry .code) 5 (good .code) .1)))
+    then-read-back _ _ _ (number-read-back mostNumber (entry .code) (omega (arith, in-range (entry .code) 5 (good .code) .1)) (omega arith))
     (λ sheet at next stands. simp (good .code, fields-read-back entry good sheet at next stands))
-
--- ---- The step that a record asks for: a code that is none of 1 to 4 is taken for the collect's.
-pub asks-collect : (entry : Record) → (1 ≤ entry .code → entry .code ≤ 4 → ⊥) → callOf entry ≡ Collect (entry .desk)
-asks-collect entry other = simp (is-no 1 (omega arith) (omega arith), is-no 2 (omega arith) (omega arith), is-no 3 (omega arith) (omega arith), is-no 4 (omega arith) (omega arith))
-  where
-    is-no : (step : ℕ) → 1 ≤ step → step ≤ 4 → eqb (entry .code) step ≡ false
-    is-no step low high = ne-eqb (entry .code) step (λ same. other (omega arith) (omega arith))
 
 -- ---- "is the sheet at most 65,536 bytes? 18", and "18 prints `0 0 18 0`".
 pub too-long : (sheet : List ℕ) → mostBytes < length sheet → reading sheet ≡ unopened (refusalOf 0 18)
@@ -367,9 +367,9 @@ header-read-back : (hall : Hall) → openingNumber hall ≡ 0 → ReadsBack head
 unfolding headerAt headerBytes openingNumber
 header-read-back hall opens =
     let asked : Opens hall = hall-opens hall lentTable opens .0 in
-    then-read-back _ _ _ (number-read-back (hall .desks) (omega (arith, asked .desks .1)))
-    (then-read-back _ _ _ (number-read-back (hall .screens) (omega (arith, asked .screens .1)))
-    (last-read-back (hallOf (hall .desks) (hall .screens)) (number-read-back (hall .positions) (omega (arith, asked .positions .1)))))
+    then-read-back _ _ _ (number-read-back mostNumber (hall .desks) (omega (arith, asked .desks .1)) (omega arith))
+    (then-read-back _ _ _ (number-read-back mostNumber (hall .screens) (omega (arith, asked .screens .1)) (omega arith))
+    (last-read-back (hallOf (hall .desks) (hall .screens)) (number-read-back mostNumber (hall .positions) (omega (arith, asked .positions .1)) (omega arith))))
 
 -- The board's answer to the opening, at the table that the program lends, has the reading's number.
 pub opening-answer : (hall : Hall) → openTable hall lentTable .answer ≡ record { number = openingNumber hall; session = 0 }
