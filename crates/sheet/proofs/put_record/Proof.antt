@@ -12,7 +12,9 @@ use Rattle.sheet.proofs.put_record.Statement.{statement}
 use Rattle.sheet.proofs.put_record.Tie as tie
 
 -- the record that was read
-record-read : (c : tie.After-known-told3) → recordAt (c .before .before .before .before .before .before .before .before .args .sheet .now) (c .before .before .before .before .before .before .before .before .args .state .place) ≡ got (recordOf (c .before .entry .given .0 .0)) (c .before .entry .given .0 .1 .0)
+record-read : (c : tie.After-known-told3) →
+    let a = c .before .before .before .before .before .before .before .before .args in
+    recordAt (a .sheet .now) (a .state .place) ≡ got (recordOf (c .before .entry .given .0 .0)) (c .before .entry .given .0 .1 .0)
 record-read c = sym (c .before .before .before .read-record .ensures) ∙ ap toldRecord (c .before .entry .given .1)
 
 finish-requires : tie.Need-finish-requires
@@ -67,13 +69,17 @@ cast-put-line-3 : tie.Need-cast-put-line-3
 cast-put-line-3 c = search needs
 
 put-line-requires : tie.Need-put-line-requires
-put-line-requires c κs = omega (arith, line-length (c .before .before .before .before .before .before .before .before .before .before .before .before .before .before .before .before .args .state .index) (c .before .before .before .before .before .before .before .before .before .entry .given .0 .0 .code) (c .before .before .before .number .result) (c .before .before .session .result), c .before .before .before .before .before .before .before .before .before .before .before .before .before .before .before .before .pre .2)
+put-line-requires c κs =
+    let start = c .before .before .before .before .before .before .before .before .before .before .before .before .before .before .before .before in
+    omega (arith, line-length (start .args .state .index) (c .before .before .before .before .before .before .before .before .before .entry .given .0 .0 .code) (c .before .before .before .number .result) (c .before .before .session .result), start .pre .2)
 
 tallied-requires : tie.Need-tallied-requires
 tallied-requires c κs = search needs
 
 add-index : tie.Need-add-index
-add-index c = record { fits = omega (arith, c .before .before .before .before .before .before .before .before .before .before .before .before .before .before .before .before .before .before .before .before .before .before .pre .1, c .before .before .before .before .before .before .before .before .before .before .before .before .before .before .before .before .before .before .if1 .left, c .before .before .before .before .before .before .before .before .before .before .before .before .before .before .before .before .before .before .before .before .before .before .good .0 .0) }
+add-index c =
+    let start = c .before .before .before .before .before .before .before .before .before .before .before .before .before .before .before .before .before .before .before .before .before .before in
+    record { fits = omega (arith, start .pre .1, c .before .before .before .before .before .before .before .before .before .before .before .before .before .before .before .before .before .before .if1 .left, start .good .0 .0) }
 
 same-length-2 : tie.Need-same-length-2
 same-length-2 c = search needs

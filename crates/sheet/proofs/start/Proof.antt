@@ -19,8 +19,10 @@ header-read : (c : tie.After-known-told2) → headerAt (c .before .before .befor
 header-read c = sym (c .before .before .before .read-header .ensures) ∙ ap toldHeader (c .before .header .given .1)
 
 -- what the board replied to the opening
-opening : (c : tie.After-number) → told (c .before .before .before .«open» .result) (c .before .before .before .«open» .last .0) ≡ openTable (headerOf (c .before .before .before .before .before .before .header .given .0 .0)) lentTable
-opening c = c .before .before .before .«open» .ensures ∙ ap (openTable (headerOf (c .before .before .before .before .before .before .header .given .0 .0))) (c .before .before .before .before .before .before .before .before .before .before .before .before .before .pre .0)
+opening : (c : tie.After-number) →
+    let replied = c .before .before .before .«open» in
+    told (replied .result) (replied .last .0) ≡ openTable (headerOf (c .before .before .before .before .before .before .header .given .0 .0)) lentTable
+opening c = c .before .before .before .«open» .ensures ∙ ap (openTable _) (c .before .before .before .before .before .before .before .before .before .before .before .before .before .pre .0)
 
 stop-requires : tie.Need-stop-requires
 stop-requires c κs = search needs

@@ -12,7 +12,7 @@ use Rattle.sheet_rules.specs.Sheet.{Record, recordFor, callOf}
 use Rattle.sheet_rules.specs.Tally.{Tally, tallyOf, zeros, isAccepted, isRefused, isHandedBack, largestCount, oneMore}
 use Rattle.sheet_rules.specs.Tally.{oneMoreIf, counted, tallied, countsIn}
 
--- "A refused step changes only the count of refused steps."
+-- A refused step hands nothing back.
 pub refused-hands-nothing : (call : Call) (n session : ℕ) → isHandBack (deed call (suc n) session) ≡ false
 refused-hands-nothing (Take d c p) n session = refl
 refused-hands-nothing (Drop d c) n session = refl
@@ -32,6 +32,7 @@ collect-hands-back d session = by-session (isNone session)
     by-session true = refl
     by-session false = refl
 
+-- "A refused step changes only the count of refused steps."
 pub refused-step : (total : Tally) (event : Event) → isRefused event ≡ true
     → counted total event ≡ tallyOf (total .accepted) (oneMore (total .refused)) (total .handedBack)
 unfolding counted
