@@ -21,15 +21,15 @@ use Rattle.sheet_rules.specs.laws.Sheet.{record-got}
 use Rattle.sheet_rules.specs.laws.Tally.{tally-from-zeros}
 
 -- ---- What a reading that opened had before it.
-pub record Opened (sheet : List ℕ) (hall : Hall) (records : Records) : Type 0 where
-  pub accepted : openingNumber hall ≡ 0
-  pub next : ℕ
-  pub are : records ≡ recordsAt (length sheet) sheet next
+record Opened (sheet : List ℕ) (hall : Hall) (records : Records) : Type 0 where
+  accepted : openingNumber hall ≡ 0
+  next : ℕ
+  are : records ≡ recordsAt (length sheet) sheet next
 
 unopened-not-opened : {reason : Refusal} {hall : Hall} {records : Records} → unopened reason ≡ opened hall records → ⊥
 unopened-not-opened e = let z : _≡_ {A = ℕ} 0 1 = cc in omega arith
 
-pub opened-from : (sheet : List ℕ) (hall : Hall) (records : Records) → reading sheet ≡ opened hall records → Opened sheet hall records
+opened-from : (sheet : List ℕ) (hall : Hall) (records : Records) → reading sheet ≡ opened hall records → Opened sheet hall records
 unfolding reading
 opened-from sheet hall records e = by-length (leb (length sheet) mostBytes) e
   where

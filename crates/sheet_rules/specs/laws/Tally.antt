@@ -100,12 +100,12 @@ stays-up-to true count h = by-room (ltb count largestCount) refl
     by-room false e = h
 
 -- A total that 32 bits hold, and the same total with the counts of a list of replies added, each up to the largest.
-pub record Fits (total : Tally) : Type 0 where
-  pub accepted : total .accepted ≤ largestCount
-  pub refused : total .refused ≤ largestCount
-  pub handedBack : total .handedBack ≤ largestCount
+record Fits (total : Tally) : Type 0 where
+  accepted : total .accepted ≤ largestCount
+  refused : total .refused ≤ largestCount
+  handedBack : total .handedBack ≤ largestCount
 
-abbrev pub withCounts : Tally → List Event → Tally
+abbrev withCounts : Tally → List Event → Tally
 withCounts total events =
     tallyOf
     (min (total .accepted + howMany isAccepted events) largestCount)
@@ -117,7 +117,7 @@ same-tally : (first second : Tally) → first .accepted ≡ second .accepted →
 same-tally first second a r h = λ i. tallyOf (a i) (r i) (h i)
 
 -- From any total that 32 bits hold.
-pub tally-from : (total : Tally) (events : List Event) → Fits total → tallied total events ≡ withCounts total events
+tally-from : (total : Tally) (events : List Event) → Fits total → tallied total events ≡ withCounts total events
 unfolding counted
 tally-from total [] fits =
     same-tally total (withCounts total []) (omega (arith, fits .accepted)) (omega (arith, fits .refused)) (omega (arith, fits .handedBack))
