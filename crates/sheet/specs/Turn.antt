@@ -1,6 +1,6 @@
 -- The program's work on a sheet goes in turns, since what it prints may be longer than its buffer: what is still to come at a
 -- state, and what a turn leaves. Document 01, "The day sheet".
-use Prim.Native.Nat.{ℕ, suc, _-_, _≤_}
+use Prim.Native.Nat.{ℕ, suc, _+_, _-_, _≤_}
 use mathlib.Core.Path.{_≡_}
 use mathlib.Core.Bool.{true, false, cond}
 use mathlib.Core.List.{List, [], _∷_, _++_}
@@ -18,7 +18,7 @@ abbrev pub endRoom : ℕ
 endRoom = 67
 
 abbrev pub recordRoom : ℕ
-recordRoom = 151
+recordRoom = 84 + endRoom
 
 -- What is still to be printed of a sheet: nothing once the last line is, else the lines from the next record on.
 abbrev pub toCome : List ℕ → State → List ℕ → List ℕ
@@ -72,6 +72,10 @@ startTable (opened hall records) = openTable hall lentTable .after
 abbrev pub callsOf : Reading → List Call
 callsOf (unopened reason) = []
 callsOf (opened hall records) = callsIn records
+
+-- the table once all steps of a sheet are run
+abbrev pub sheetTable : List ℕ → List ℕ
+sheetTable sheet = endTable (startTable (reading sheet)) (callsOf (reading sheet))
 
 -- The first bytes to be printed: the header's line, or all there is where the reading ends before a record.
 pub record Started (sheet out : List ℕ) (is : State) (after outAfter : List ℕ) (put : ℕ) : Type 0 where

@@ -41,7 +41,7 @@ const TOO_LONG: u16 = 18;
 const NO_CODE: u16 = 17;
 
 // The bytes that a turn may need for one record: the longest line, and then the longest last line.
-const ROOM: usize = 151;
+const ROOM: usize = 84 + 67;
 
 // Where the program stands in a sheet: the place and the number of the next record, the tally so far, and whether the last
 // line is printed.

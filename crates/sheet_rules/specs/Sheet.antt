@@ -134,7 +134,7 @@ headerAt sheet at =
 unfoldable pub lentTable : List ℕ
 lentTable = replicate mostWords 0
 
--- The first of the board's own questions that the header is answered no to, or 0.
+-- The board's number for the opening of this hall: that of its first question answered no, or 0.
 unfoldable pub openingNumber : Hall → ℕ
 openingNumber hall = firstNo (openQuestions hall lentTable)
 

@@ -26,6 +26,9 @@ module _ (sheet : List ℕ) (hall : Hall) (records : Records) (opens : reading s
   pub sheet-opens : openTable hall lentTable ≡ record { answer = record { number = 0; session = 0 }; after = openedTable hall lentTable }
   sheet-opens = opening-accepted sheet hall records opens
 
+  accepted : openTable hall lentTable .answer .number ≡ 0
+  accepted = ap (λ (done : TableDone). done .answer .number) sheet-opens
+
   -- The lines are those of the run: the header's, one for each step, that of what ended the reading if something did, and the counts.
   pub lines-are-the-run :
       printed sheet
@@ -34,8 +37,8 @@ module _ (sheet : List ℕ) (hall : Hall) (records : Records) (opens : reading s
 
   -- Demand 2 holds of the run.
   pub demand-2-of-sheets : Demand2 hall (eventsOf hall records) (tableAfter hall records)
-  demand-2-of-sheets = demand-2 hall lentTable (ap (λ (done : TableDone). done .answer .number) sheet-opens) (callsIn records)
+  demand-2-of-sheets = demand-2 hall lentTable accepted (callsIn records)
 
   -- Demand 3 holds of the run.
   pub demand-3-of-sheets : Demand3 hall (eventsOf hall records) (tableAfter hall records)
-  demand-3-of-sheets = demand-3 hall lentTable (ap (λ (done : TableDone). done .answer .number) sheet-opens) (callsIn records)
+  demand-3-of-sheets = demand-3 hall lentTable accepted (callsIn records)

@@ -8,26 +8,28 @@ use lib.ListN.{length}
 use lib.Dec.{leb, ltb}
 use Rattle.rules.specs.Hall.{Hall}
 use Rattle.rules.specs.Steps.{Event}
-use Rattle.rules.specs.Table.{TableDone, openIf, openTable, openedTable, stepTable, runTable}
+use Rattle.rules.specs.Table.{TableDone, openTable, openedTable, stepTable, runTable}
 use Rattle.rules.specs.Numbers.{Refusal, refusalOf, Got, got, refused}
+use Rattle.rules.specs.laws.Effect.{in-range}
+use Rattle.rules.specs.laws.TableSteps.{accepted-open}
 use Rattle.sheet_rules.specs.Sheet.{Record, recordFor, callOf, codeOf, isCode, recordAt, Records, more, complete, stop, onward}
 use Rattle.sheet_rules.specs.Sheet.{recordsAt, callsIn, headerAt, lentTable, openingNumber, unopened, opened, openedIf, headed}
 use Rattle.sheet_rules.specs.Sheet.{mostBytes, reading}
 use Rattle.sheet_rules.specs.Tally.{Tally, zeros, counted, tallied, countsIn}
 use Rattle.sheet_rules.specs.Lines.{line, answerLine, endLine, eventLines, endingLine, linesFrom, linesOf, printed}
-use Rattle.sheet_rules.specs.laws.Sheet.{record-got, in-range, false-not-true}
+use Rattle.sheet_rules.specs.laws.Sheet.{record-got}
 use Rattle.sheet_rules.specs.laws.Tally.{tally-from-zeros}
 
 -- ---- What a reading that opened had before it.
-pub record Opened (sheet : List ℕ) (hall : Hall) (records : Records) : Type 0 where
-  pub accepted : openingNumber hall ≡ 0
-  pub next : ℕ
-  pub are : records ≡ recordsAt (length sheet) sheet next
+record Opened (sheet : List ℕ) (hall : Hall) (records : Records) : Type 0 where
+  accepted : openingNumber hall ≡ 0
+  next : ℕ
+  are : records ≡ recordsAt (length sheet) sheet next
 
 unopened-not-opened : {reason : Refusal} {hall : Hall} {records : Records} → unopened reason ≡ opened hall records → ⊥
 unopened-not-opened e = let z : _≡_ {A = ℕ} 0 1 = cc in omega arith
 
-pub opened-from : (sheet : List ℕ) (hall : Hall) (records : Records) → reading sheet ≡ opened hall records → Opened sheet hall records
+opened-from : (sheet : List ℕ) (hall : Hall) (records : Records) → reading sheet ≡ opened hall records → Opened sheet hall records
 unfolding reading
 opened-from sheet hall records e = by-length (leb (length sheet) mostBytes) e
   where
@@ -49,8 +51,8 @@ opened-from sheet hall records e = by-length (leb (length sheet) mostBytes) e
 
 pub opening-accepted : (sheet : List ℕ) (hall : Hall) (records : Records) → reading sheet ≡ opened hall records
     → openTable hall lentTable ≡ record { answer = record { number = 0; session = 0 }; after = openedTable hall lentTable }
-unfolding openTable openingNumber
-opening-accepted sheet hall records e = ap (λ (n : ℕ). openIf n hall lentTable) (opened-from sheet hall records e .accepted)
+unfolding openingNumber
+opening-accepted sheet hall records e = accepted-open hall lentTable (opened-from sheet hall records e .accepted)
 
 -- ---- Each record that is read has a step's code, so the step's code is the record's.
 abbrev EachCode : Records → Type 0
@@ -69,13 +71,13 @@ each-code (suc most) sheet at = by-place (ltb at (length sheet)) (recordAt sheet
     by-place false found e later = tt
 
 code-of-call : (code desk screen position session : ℕ) → isCode code ≡ true → codeOf (callOf (recordFor code desk screen position session)) ≡ code
-code-of-call zero desk screen position session good = absurd (false-not-true good)
+code-of-call zero desk screen position session good = absurd (omega (arith, in-range 0 5 good .0))
 code-of-call (suc zero) desk screen position session good = refl
 code-of-call (suc (suc zero)) desk screen position session good = refl
 code-of-call (suc (suc (suc zero))) desk screen position session good = refl
 code-of-call (suc (suc (suc (suc zero)))) desk screen position session good = refl
 code-of-call (suc (suc (suc (suc (suc zero))))) desk screen position session good = refl
-code-of-call (suc (suc (suc (suc (suc (suc n)))))) desk screen position session good = absurd (omega (arith, in-range (suc (suc (suc (suc (suc (suc n)))))) 5 good))
+code-of-call (suc (suc (suc (suc (suc (suc n)))))) desk screen position session good = absurd (omega (arith, in-range (suc (suc (suc (suc (suc (suc n)))))) 5 good .1))
 
 -- ---- The lines are those of the run.
 lines-from : (table : List ℕ) (index : ℕ) (total : Tally) (records : Records) → EachCode records

@@ -1,27 +1,28 @@
 -- Laws of the day sheet: every reader moves on, the reading goes record by record, and what is written is read back.
 use Prim.Native.Nat.{ℕ, zero, suc, _+_, _*_, _/_, _%_, _≤_, _<_}
 use native.Mathlib.Omega.{arith}
-use native.Mathlib.Bridge.{le-by-compare, IsLe}
-use native.Mathlib.Numerals.{bound}
 use mathlib.Core.Path.{_≡_, refl, sym, ap, _∙_, subst}
-use mathlib.Core.Bool.{Bool, true, false, cond, _&&_}
+use mathlib.Core.Bool.{Bool, true, false, cond}
 use mathlib.Core.List.{List, [], _∷_, _++_, append-assoc, append-nil}
 use lib.ListN.{length, drop, length-append, length-drop}
 use lib.Seq.{drop-length, drop-drop, drop-append-seam}
-use lib.Dec.{leb, ltb}
-use borrow.Author.Tests.{ltb-false, leb-true, lt-ltb, le-ltb, le-leb, lt-leb}
-use Rattle.rules.specs.Hall.{Hall, mostDesks, mostPositions, mostScreens}
-use Rattle.rules.specs.Steps.{firstNo, inRange}
+use lib.Dec.{leb, ltb, eqb}
+use borrow.Author.Tests.{ltb-false, leb-true, lt-ltb, le-ltb, le-leb, lt-leb, ne-eqb}
+use Rattle.rules.specs.Hall.{Hall, hallOf, mostDesks, mostPositions, mostScreens}
+use Rattle.rules.specs.Steps.{Collect, firstNo, inRange}
 use Rattle.rules.specs.Table.{mostWords, need, openQuestions, openIf, openTable}
-use Rattle.rules.specs.Numbers.{Refusal, Got, got, refused, andThen, Groups, ended, stopped, endless, before, groupsIn}
+use Rattle.rules.specs.Numbers.{Refusal, refusalOf, Got, got, refused, andThen, Groups, ended, stopped, endless, before, groupsIn}
 use Rattle.rules.specs.Numbers.{valueOf, numberOf, number, mostNumber}
-use Rattle.sheet_rules.specs.Sheet.{Record, recordFor, deskField, screenField}
+use Rattle.rules.specs.laws.Effect.{in-range}
+use Rattle.rules.specs.laws.Prefix.{need-at-most}
+use Rattle.rules.specs.laws.Tables.{Opens, hall-opens}
+use Rattle.sheet_rules.specs.Sheet.{Record, recordFor, callOf, deskField, screenField}
 use Rattle.sheet_rules.specs.Sheet.{positionField, sessionField, follows, fieldAt, fieldsAt, withCode, isCode, recordAt}
-use Rattle.sheet_rules.specs.Sheet.{Records, more, complete, stop, recordsAt, headerAt, lentTable, openingNumber, opened}
+use Rattle.sheet_rules.specs.Sheet.{Records, more, complete, stop, recordsAt, headerAt, lentTable, openingNumber, unopened, opened, headed}
 use Rattle.sheet_rules.specs.Sheet.{mostBytes, reading, Meaning, whole, Accepted, shortest, numberBytes, fieldBytes}
 use Rattle.sheet_rules.specs.Sheet.{fieldsBytes, recordBytes, recordsBytes, headerBytes, sheetBytes}
 use Rattle.sheet_rules.specs.Tally.{zeros}
-use Rattle.sheet_rules.specs.Lines.{line, endLine, printed}
+use Rattle.sheet_rules.specs.Lines.{line, endLine, linesOf, printed}
 
 -- ---- What a reader that got a value had before it.
 refused-not-got : {A : Type 0} {reason : Refusal} {value : A} {next : ℕ} → refused reason ≡ got value next → ⊥
@@ -52,7 +53,7 @@ same-got P first second at next e holds =
     subst (λ (n : ℕ). P second n) far (subst (λ a. P a at) same holds)
 
 -- ---- Every reader moves on, and stays in the sheet.
-pub record Onward (sheet : List ℕ) (at next : ℕ) : Type 0 where
+pub record Moved (sheet : List ℕ) (at next : ℕ) : Type 0 where
   pub past : at < next
   pub inside : next ≤ length sheet
 
@@ -74,11 +75,11 @@ groups-taken (suc most) (byte ∷ bytes) = one-more (ltb byte 128) (groupsIn mos
     one-more false stopped taken = tt
     one-more false endless taken = tt
 
-pub record NumberGot (limit : ℕ) (sheet : List ℕ) (at value next : ℕ) : Type 0 where
-  pub small : value ≤ limit
-  pub moved : Onward sheet at next
+record NumberGot (limit : ℕ) (sheet : List ℕ) (at value next : ℕ) : Type 0 where
+  small : value ≤ limit
+  moved : Moved sheet at next
 
-pub number-got : (limit : ℕ) (sheet : List ℕ) (at value next : ℕ) → number limit sheet at ≡ got value next
+number-got : (limit : ℕ) (sheet : List ℕ) (at value next : ℕ) → number limit sheet at ≡ got value next
     → NumberGot limit sheet at value next
 unfolding number
 number-got limit sheet at value next e = of-groups (groupsIn 3 (drop at sheet)) (groups-taken 3 (drop at sheet)) e
@@ -97,20 +98,20 @@ number-got limit sheet at value next e = of-groups (groupsIn 3 (drop at sheet)) 
     of-groups endless taken q = absurd (refused-not-got q)
 
 -- What a field holds: a number where it follows the code, else 0.
-abbrev pub Due : Bool → ℕ → Type 0
-Due true value = value ≤ mostNumber
-Due false value = value ≡ 0
+abbrev pub FieldHolds : Bool → ℕ → Type 0
+FieldHolds true value = value ≤ mostNumber
+FieldHolds false value = value ≡ 0
 
 -- A record that a sheet can have.
 pub record GoodRecord (entry : Record) : Type 0 where
   pub code : isCode (entry .code) ≡ true
-  pub desk : Due (follows (entry .code) deskField) (entry .desk)
-  pub screen : Due (follows (entry .code) screenField) (entry .screen)
-  pub position : Due (follows (entry .code) positionField) (entry .position)
-  pub session : Due (follows (entry .code) sessionField) (entry .session)
+  pub desk : FieldHolds (follows (entry .code) deskField) (entry .desk)
+  pub screen : FieldHolds (follows (entry .code) screenField) (entry .screen)
+  pub position : FieldHolds (follows (entry .code) positionField) (entry .position)
+  pub session : FieldHolds (follows (entry .code) sessionField) (entry .session)
 
 record FieldGot (present : Bool) (sheet : List ℕ) (at value next : ℕ) : Type 0 where
-  due : Due present value
+  holds : FieldHolds present value
   past : at ≤ next
   inside : next ≤ length sheet
 
@@ -119,11 +120,11 @@ field-got : (present : Bool) (sheet : List ℕ) (at value next : ℕ) → at ≤
     → FieldGot present sheet at value next
 field-got true sheet at value next h e =
     let g = number-got mostNumber sheet at value next e in
-    record { due = g .small; past = omega (arith, g .moved .past); inside = g .moved .inside }
+    record { holds = g .small; past = omega (arith, g .moved .past); inside = g .moved .inside }
 field-got false sheet at value next h e =
     let place : at ≡ next = cc in
     let none : value ≡ 0 = cc in
-    record { due = none; past = omega arith; inside = omega arith }
+    record { holds = none; past = omega arith; inside = omega arith }
 
 record FieldsGot (code : ℕ) (sheet : List ℕ) (at : ℕ) (entry : Record) (next : ℕ) : Type 0 where
   good : isCode code ≡ true → GoodRecord entry
@@ -144,14 +145,14 @@ fields-got code sheet at entry next h e =
     let g₄ = field-got (follows code sessionField) sheet (e₃ .1) (e₄ .0) (e₄ .1) (g₃ .inside) (e₄ .2) in
     same-got (FieldsGot code sheet at) (recordFor code (e₁ .0) (e₂ .0) (e₃ .0) (e₄ .0)) entry (e₄ .1) next (e₄ .3)
     (record {
-      good = λ fine. record { code = fine; desk = g₁ .due; screen = g₂ .due; position = g₃ .due; session = g₄ .due };
+      good = λ fine. record { code = fine; desk = g₁ .holds; screen = g₂ .holds; position = g₃ .holds; session = g₄ .holds };
       past = omega (arith, g₁ .past, g₂ .past, g₃ .past, g₄ .past);
       inside = g₄ .inside;
     })
 
 pub record RecordGot (sheet : List ℕ) (at : ℕ) (entry : Record) (next : ℕ) : Type 0 where
   pub good : GoodRecord entry
-  pub moved : Onward sheet at next
+  pub moved : Moved sheet at next
 
 pub record-got : (sheet : List ℕ) (at : ℕ) (entry : Record) (next : ℕ) → recordAt sheet at ≡ got entry next
     → RecordGot sheet at entry next
@@ -164,7 +165,7 @@ record-got sheet at entry next e =
     record { good = fields .good (e₂ .0); moved = record { past = omega (arith, g .moved .past, fields .past); inside = fields .inside } }
 
 pub header-got : (sheet : List ℕ) (at : ℕ) (hall : Hall) (next : ℕ) → headerAt sheet at ≡ got hall next
-    → Onward sheet at next
+    → Moved sheet at next
 unfolding headerAt
 header-got sheet at hall next e =
     let e₁ = then-got (number mostNumber sheet at) _ hall next e in
@@ -210,12 +211,19 @@ records-stop sheet at reason h e = one-further sheet at ∙ simp (lt-ltb at (len
 pub records-end : (sheet : List ℕ) (at : ℕ) → length sheet ≤ at → recordsAt (length sheet) sheet at ≡ complete
 records-end sheet at h = one-further sheet at ∙ simp (le-ltb at (length sheet) h)
 
--- ---- Bytes that stand in a sheet, from a place up to the next.
-pub record Stands (bytes sheet : List ℕ) (at next : ℕ) : Type 0 where
-  pub here : drop at sheet ≡ bytes ++ drop next sheet
-  pub far : next ≡ at + length bytes
+-- ---- The step that a record asks for: a code that is none of 1 to 4 is taken for the collect's.
+pub asks-collect : (entry : Record) → (1 ≤ entry .code → entry .code ≤ 4 → ⊥) → callOf entry ≡ Collect (entry .desk)
+asks-collect entry other = simp (is-no 1 (omega arith) (omega arith), is-no 2 (omega arith) (omega arith), is-no 3 (omega arith) (omega arith), is-no 4 (omega arith) (omega arith))
+  where
+    is-no : (step : ℕ) → 1 ≤ step → step ≤ 4 → eqb (entry .code) step ≡ false
+    is-no step low high = ne-eqb (entry .code) step (λ same. other (omega arith) (omega arith))
 
-pub stands-split : (first second sheet : List ℕ) (at next : ℕ) → Stands (first ++ second) sheet at next
+-- ---- Bytes that stand in a sheet, from a place up to the next.
+record Stands (bytes sheet : List ℕ) (at next : ℕ) : Type 0 where
+  here : drop at sheet ≡ bytes ++ drop next sheet
+  far : next ≡ at + length bytes
+
+stands-split : (first second sheet : List ℕ) (at next : ℕ) → Stands (first ++ second) sheet at next
     → Stands first sheet at (at + length first) × Stands second sheet (at + length first) next
 stands-split first second sheet at next h =
     (record { here = one; far = refl }, record { here = two; far = omega (arith, h .far, length-append first second) })
@@ -240,136 +248,86 @@ abbrev room : ℕ → ℕ
 room zero = 1
 room (suc most) = 128 * room most
 
--- the groups of the shortest form
-abbrev groupsOf : ℕ → ℕ → List ℕ
-groupsOf zero value = []
-groupsOf (suc most) value = cond (ltb value 128) (value ∷ []) ((value % 128) ∷ groupsOf most (value / 128))
+-- the groups that a number's shortest form is read as: one for each byte, and their value is the number
+record ReadBack (most value : ℕ) (rest : List ℕ) : Type 0 where
+  groups : List ℕ
+  found : groupsIn most (shortest most value ++ rest) ≡ ended groups
+  same : valueOf groups ≡ value
+  long : length groups ≡ length (shortest most value)
 
-groups-read-back : (most value : ℕ) (rest : List ℕ) → value < room most → 1 ≤ value + most
-    → groupsIn most (shortest most value ++ rest) ≡ ended (groupsOf most value)
-groups-read-back zero value rest h g = absurd (omega arith)
-groups-read-back (suc most) value rest h g =
-    by-size (ltb value 128) refl (λ big. groups-read-back most (value / 128) rest (omega arith) (omega arith))
+shortest-read-back : (most value : ℕ) (rest : List ℕ) → value < room most → 1 ≤ value + most → ReadBack most value rest
+shortest-read-back zero value rest h g = absurd (omega arith)
+shortest-read-back (suc most) value rest h g =
+    by-size (ltb value 128) refl (λ big. shortest-read-back most (value / 128) rest (omega arith) (omega arith))
   where
-    by-size : (small : Bool) → ltb value 128 ≡ small
-        → (128 ≤ value → groupsIn most (shortest most (value / 128) ++ rest) ≡ ended (groupsOf most (value / 128)))
-        → groupsIn (suc most) (shortest (suc most) value ++ rest) ≡ ended (groupsOf (suc most) value)
-    by-size true e later = simp e
+    by-size : (small : Bool) → ltb value 128 ≡ small → (128 ≤ value → ReadBack most (value / 128) rest) → ReadBack (suc most) value rest
+    by-size true e later = record { groups = value ∷ []; found = simp e; same = omega arith; long = simp e }
     by-size false e later =
-        let big : 128 ≤ value = ltb-false value 128 e in
+        let back = later (ltb-false value 128 e) in
         let low : (value % 128 + 128) % 128 ≡ value % 128 = omega arith in
-        simp (e, le-ltb (value % 128 + 128) 128 (omega arith), low, later big)
+        record {
+          groups = (value % 128) ∷ back .groups;
+          found = simp (e, le-ltb (value % 128 + 128) 128 (omega arith), low, back .found);
+          same = omega (arith, back .same);
+          long = simp (e, back .long);
+        }
 
-value-of-groups : (most value : ℕ) → value < room most → valueOf (groupsOf most value) ≡ value
-value-of-groups zero value h = omega arith
-value-of-groups (suc most) value h = by-size (ltb value 128) refl (value-of-groups most (value / 128) (omega arith))
-  where
-    by-size : (small : Bool) → ltb value 128 ≡ small → valueOf (groupsOf most (value / 128)) ≡ value / 128
-        → valueOf (groupsOf (suc most) value) ≡ value
-    by-size true e later = simp e (omega arith)
-    by-size false e later = simp (e, later) (omega arith)
+-- A reader finds a value wherever its bytes stand.
+abbrev ReadsBack : {A : Type 0} → (List ℕ → ℕ → Got A) → List ℕ → A → Type 0
+ReadsBack reader bytes value = (sheet : List ℕ) (at next : ℕ) → Stands bytes sheet at next → reader sheet at ≡ got value next
 
-one-byte-a-group : (most value : ℕ) → length (groupsOf most value) ≡ length (shortest most value)
-one-byte-a-group zero value = refl
-one-byte-a-group (suc most) value = by-size (ltb value 128) refl (one-byte-a-group most (value / 128))
-  where
-    by-size : (small : Bool) → ltb value 128 ≡ small
-        → length (groupsOf most (value / 128)) ≡ length (shortest most (value / 128))
-        → length (groupsOf (suc most) value) ≡ length (shortest (suc most) value)
-    by-size true e later = simp e
-    by-size false e later = simp (e, later)
-
-pub number-read-back : (limit value : ℕ) (sheet : List ℕ) (at next : ℕ) → value ≤ limit → limit ≤ mostNumber
-    → Stands (numberBytes value) sheet at next
-    → number limit sheet at ≡ got value next
+number-read-back : (limit value : ℕ) → value ≤ limit → limit ≤ mostNumber → ReadsBack (number limit) (numberBytes value) value
 unfolding number numberBytes
-number-read-back limit value sheet at next h g stands =
-    ap (λ (bytes : List ℕ). numberOf limit at (groupsIn 3 bytes)) (stands .here)
-    ∙ ap (numberOf limit at) (groups-read-back 3 value (drop next sheet) (omega arith) (omega arith))
-    ∙ simp (value-of-groups 3 value (omega arith), le-leb value limit h, place)
-  where
-    place : at + length (groupsOf 3 value) ≡ next
-    place = omega (arith, one-byte-a-group 3 value, stands .far)
+number-read-back limit value h g sheet at next stands =
+    let back = shortest-read-back 3 value (drop next sheet) (omega arith) (omega arith) in
+    let place : at + length (back .groups) ≡ next = omega (arith, back .long, stands .far) in
+    simp (stands .here, back .found, back .same, le-leb value limit h, place)
+
+-- a value, and then what is read after it
+then-read-back : {A B : Type 0} {first : List ℕ → ℕ → Got A} (rest : A → List ℕ → ℕ → Got B) (bytes later : List ℕ) {a : A} {b : B}
+    → ReadsBack first bytes a → ReadsBack (rest a) later b
+    → ReadsBack (λ sheet at. andThen (first sheet at) (λ value. rest value sheet)) (bytes ++ later) b
+then-read-back rest bytes later one two sheet at next stands =
+    let split = stands-split bytes later sheet at next stands in
+    simp (one sheet at (at + length bytes) (split .0)) (two sheet (at + length bytes) next (split .1))
+
+-- the last value, and what is made of it
+last-read-back : {A B : Type 0} {first : List ℕ → ℕ → Got A} (make : A → B) {bytes : List ℕ} {a : A} → ReadsBack first bytes a
+    → ReadsBack (λ sheet at. andThen (first sheet at) (λ value. got (make value))) bytes (make a)
+last-read-back make one sheet at next stands = simp (one sheet at next stands)
 
 -- ---- A written record is read back.
-field-read-back : (present : Bool) (value : ℕ) (sheet : List ℕ) (at next : ℕ) → Due present value
-    → Stands (fieldBytes present value) sheet at next
-    → fieldAt present mostNumber sheet at ≡ got value next
-field-read-back true value sheet at next due stands = number-read-back mostNumber value sheet at next due (omega arith) stands
-field-read-back false value sheet at next due stands = let place : next ≡ at = omega (arith, stands .far) in cc
+field-read-back : (present : Bool) (value : ℕ) → FieldHolds present value → ReadsBack (fieldAt present mostNumber) (fieldBytes present value) value
+field-read-back true value holds = number-read-back mostNumber value holds (omega arith)
+field-read-back false value holds = λ sheet at next stands. (let place : next ≡ at = omega (arith, stands .far) in cc)
 
-fields-read-back : (entry : Record) (sheet : List ℕ) (at next : ℕ) → GoodRecord entry
-    → Stands (fieldsBytes entry) sheet at next
-    → fieldsAt (entry .code) sheet at ≡ got entry next
-fields-read-back entry sheet at next good stands =
-    simp (
-      field-read-back (follows (entry .code) deskField) (entry .desk) sheet at at₁ (good .desk) (s₁ .0),
-      field-read-back (follows (entry .code) screenField) (entry .screen) sheet at₁ at₂ (good .screen) (s₂ .0),
-      field-read-back (follows (entry .code) positionField) (entry .position) sheet at₂ at₃ (good .position) (s₃ .0),
-      field-read-back (follows (entry .code) sessionField) (entry .session) sheet at₃ next (good .session) (s₃ .1),
-    )
-  where
-    desk : List ℕ
-    desk = fieldBytes (follows (entry .code) deskField) (entry .desk)
+fields-read-back : (entry : Record) → GoodRecord entry → ReadsBack (fieldsAt (entry .code)) (fieldsBytes entry) entry
+fields-read-back entry good =
+    then-read-back _ _ _ (field-read-back (follows (entry .code) deskField) (entry .desk) (good .desk))
+    (then-read-back _ _ _ (field-read-back (follows (entry .code) screenField) (entry .screen) (good .screen))
+    (then-read-back _ _ _ (field-read-back (follows (entry .code) positionField) (entry .position) (good .position))
+    (last-read-back (recordFor (entry .code) (entry .desk) (entry .screen) (entry .position))
+    (field-read-back (follows (entry .code) sessionField) (entry .session) (good .session)))))
 
-    screen : List ℕ
-    screen = fieldBytes (follows (entry .code) screenField) (entry .screen)
-
-    position : List ℕ
-    position = fieldBytes (follows (entry .code) positionField) (entry .position)
-
-    session : List ℕ
-    session = fieldBytes (follows (entry .code) sessionField) (entry .session)
-
-    at₁ : ℕ
-    at₁ = at + length desk
-
-    at₂ : ℕ
-    at₂ = at₁ + length screen
-
-    at₃ : ℕ
-    at₃ = at₂ + length position
-
-    s₁ : Stands desk sheet at at₁ × Stands (screen ++ (position ++ session)) sheet at₁ next
-    s₁ = stands-split desk (screen ++ (position ++ session)) sheet at next stands
-
-    s₂ : Stands screen sheet at₁ at₂ × Stands (position ++ session) sheet at₂ next
-    s₂ = stands-split screen (position ++ session) sheet at₁ next (s₁ .1)
-
-    s₃ : Stands position sheet at₂ at₃ × Stands session sheet at₃ next
-    s₃ = stands-split position session sheet at₂ next (s₂ .1)
-
-pub false-not-true : false ≡ true → ⊥
-false-not-true e = let z : _≡_ {A = ℕ} 0 1 = cc in omega arith
-
--- a number that is in its range is at most the range's end
-pub in-range : (value most : ℕ) → inRange value most ≡ true → value ≤ most
-in-range value most e = second (leb 1 value) (leb value most) refl e
-  where
-    second : (low high : Bool) → leb value most ≡ high → (low && high) ≡ true → value ≤ most
-    second true true q e = leb-true value most q
-    second true false q e = absurd (false-not-true e)
-    second false high q e = absurd (false-not-true e)
-
-pub record-read-back : (entry : Record) (sheet : List ℕ) (at next : ℕ) → GoodRecord entry
-    → Stands (recordBytes entry) sheet at next
-    → recordAt sheet at ≡ got entry next
+record-read-back : (entry : Record) → GoodRecord entry → ReadsBack recordAt (recordBytes entry) entry
 unfolding recordAt recordBytes
-record-read-back entry sheet at next good stands =
-    simp (
-      number-read-back mostNumber (entry .code) sheet at (at + length code) small (omega arith) (split .0),
-      good .code,
-      fields-read-back entry sheet (at + length code) next good (split .1),
-    )
-  where
-    small : entry .code ≤ mostNumber
-    small = omega (arith, in-range (entry .code) 5 (good .code))
+record-read-back entry good =
+    then-read-back _ _ _ (number-read-back mostNumber (entry .code) (omega (arith, in-range (entry .code) 5 (good .code) .1)) (omega arith))
+    (λ sheet at next stands. simp (good .code, fields-read-back entry good sheet at next stands))
 
-    code : List ℕ
-    code = numberBytes (entry .code)
+-- ---- "is the sheet at most 65,536 bytes? 18", and "18 prints `0 0 18 0`".
+pub too-long : (sheet : List ℕ) → mostBytes < length sheet → reading sheet ≡ unopened (refusalOf 0 18)
+unfolding reading
+too-long sheet long = simp (lt-leb (length sheet) mostBytes long)
 
-    split : Stands code sheet at (at + length code) × Stands (fieldsBytes entry) sheet (at + length code) next
-    split = stands-split code (fieldsBytes entry) sheet at next stands
+-- a sheet that is not is read by its header
+pub short-enough : (sheet : List ℕ) → length sheet ≤ mostBytes → {found : Got Hall} → headerAt sheet 0 ≡ found → reading sheet ≡ headed sheet found
+unfolding reading
+short-enough sheet short read = simp (le-leb (length sheet) mostBytes short, read)
+
+pub long-sheet : (sheet : List ℕ) → mostBytes < length sheet → printed sheet ≡ line 0 0 18 0 ++ endLine zeros
+unfolding printed
+long-sheet sheet long = ap linesOf (too-long sheet long)
 
 -- ---- A written sheet is read back.
 abbrev pub EachGood : List Record → Type 0
@@ -383,92 +341,35 @@ records-read-back [] sheet at good stands = records-end sheet at (omega (arith, 
 records-read-back (entry ∷ entries) sheet at good stands =
     let next : ℕ = at + length (recordBytes entry) in
     let split = stands-split (recordBytes entry) (recordsBytes entries) sheet at (length sheet) stands in
-    let e : recordAt sheet at ≡ got entry next = record-read-back entry sheet at next (good .0) (split .0) in
+    let e : recordAt sheet at ≡ got entry next = record-read-back entry (good .0) sheet at next (split .0) in
     let moved = record-got sheet at entry next e .moved in
     records-more sheet at entry next (omega (arith, moved .past, moved .inside)) e
     ∙ ap (more entry) (records-read-back entries sheet next (good .1) (split .1))
 
--- A header that opens has numbers in their ranges.
-record Ranges (hall : Hall) : Type 0 where
-  desks : hall .desks ≤ mostDesks
-  screens : hall .screens ≤ mostScreens
-  positions : hall .positions ≤ mostPositions
-
-ranges-from : (hall : Hall) → inRange (hall .desks) mostDesks ≡ true → inRange (hall .screens) mostScreens ≡ true
-    → inRange (hall .positions) mostPositions ≡ true
-    → Ranges hall
-ranges-from hall d c p =
-    record { desks = in-range (hall .desks) mostDesks d; screens = in-range (hall .screens) mostScreens c; positions = in-range (hall .positions) mostPositions p }
-
--- the opening's number, from the answers to its four questions
-abbrev fourAnswers : Bool → Bool → Bool → Bool → ℕ
-fourAnswers desks screens positions long = cond desks (cond screens (cond positions (cond long 0 4) 3) 2) 1
-
-opening-ranges : (hall : Hall) → openingNumber hall ≡ 0 → Ranges hall
-unfolding openingNumber
-opening-ranges hall e =
-    by-answers (inRange (hall .desks) mostDesks) (inRange (hall .screens) mostScreens) (inRange (hall .positions) mostPositions) (leb (need hall) (length lentTable))
-    refl refl refl e
-  where
-    by-answers : (desks screens positions long : Bool) → inRange (hall .desks) mostDesks ≡ desks
-        → inRange (hall .screens) mostScreens ≡ screens
-        → inRange (hall .positions) mostPositions ≡ positions → fourAnswers desks screens positions long ≡ 0 → Ranges hall
-    by-answers true true true long d c p q = ranges-from hall d c p
-    by-answers true true false long d c p q = absurd (omega arith)
-    by-answers true false positions long d c p q = absurd (omega arith)
-    by-answers false screens positions long d c p q = absurd (omega arith)
-
 -- "Is the table at least the need? 4": the table that the program lends is, so its opening gives 1, 2, 3 or 0.
-need-at-most : (hall : Hall) → Ranges hall → need hall ≤ mostWords
-unfolding IsLe
-need-at-most hall ranges =
-    grw (bound, ranges .positions, ranges .desks, ranges .screens, ranges .desks, ranges .desks, ranges .screens) (le-by-compare _ _ tt)
-
 pub opening-never-four : (hall : Hall) → openingNumber hall ≤ 3
 unfolding openingNumber lentTable
-opening-never-four hall = by-answers (inRange (hall .desks) mostDesks) (inRange (hall .screens) mostScreens) (inRange (hall .positions) mostPositions) refl refl refl
+opening-never-four hall =
+    by-answers (inRange (hall .desks) mostDesks) (inRange (hall .screens) mostScreens) (inRange (hall .positions) mostPositions) refl refl refl
   where
     by-answers : (desks screens positions : Bool) → inRange (hall .desks) mostDesks ≡ desks → inRange (hall .screens) mostScreens ≡ screens
-        → inRange (hall .positions) mostPositions ≡ positions → fourAnswers desks screens positions (leb (need hall) mostWords) ≤ 3
-    by-answers true true true d c p = rw (le-leb (need hall) mostWords (need-at-most hall (ranges-from hall d c p))) (omega arith)
+        → inRange (hall .positions) mostPositions ≡ positions
+        → cond {A = ℕ} desks (cond screens (cond positions (cond (leb (need hall) mostWords) 0 4) 3) 2) 1 ≤ 3
+    by-answers true true true d c p =
+        let opens : Opens hall =
+        record { desks = in-range (hall .desks) mostDesks d; screens = in-range (hall .screens) mostScreens c; positions = in-range (hall .positions) mostPositions p } in
+        rw (le-leb (need hall) mostWords (need-at-most hall opens)) (omega arith)
     by-answers true true false d c p = omega arith
     by-answers true false positions d c p = omega arith
     by-answers false screens positions d c p = omega arith
 
-pub header-read-back : (hall : Hall) (sheet : List ℕ) (at next : ℕ) → openingNumber hall ≡ 0
-    → Stands (headerBytes hall) sheet at next
-    → headerAt sheet at ≡ got hall next
-unfolding headerAt headerBytes
-header-read-back hall sheet at next opens stands =
-    simp (
-      number-read-back mostNumber (hall .desks) sheet at at₁ (omega (arith, ranges .desks)) (omega arith) (s₁ .0),
-      number-read-back mostNumber (hall .screens) sheet at₁ at₂ (omega (arith, ranges .screens)) (omega arith) (s₂ .0),
-      number-read-back mostNumber (hall .positions) sheet at₂ next (omega (arith, ranges .positions)) (omega arith) (s₂ .1),
-    )
-  where
-    ranges : Ranges hall
-    ranges = opening-ranges hall opens
-
-    desks : List ℕ
-    desks = numberBytes (hall .desks)
-
-    screens : List ℕ
-    screens = numberBytes (hall .screens)
-
-    positions : List ℕ
-    positions = numberBytes (hall .positions)
-
-    at₁ : ℕ
-    at₁ = at + length desks
-
-    at₂ : ℕ
-    at₂ = at₁ + length screens
-
-    s₁ : Stands desks sheet at at₁ × Stands (screens ++ positions) sheet at₁ next
-    s₁ = stands-split desks (screens ++ positions) sheet at next stands
-
-    s₂ : Stands screens sheet at₁ at₂ × Stands positions sheet at₂ next
-    s₂ = stands-split screens positions sheet at₁ next (s₁ .1)
+header-read-back : (hall : Hall) → openingNumber hall ≡ 0 → ReadsBack headerAt (headerBytes hall) hall
+unfolding headerAt headerBytes openingNumber
+header-read-back hall opens =
+    let asked : Opens hall = hall-opens hall lentTable opens .0 in
+    then-read-back _ _ _ (number-read-back mostNumber (hall .desks) (omega (arith, asked .desks .1)) (omega arith))
+    (then-read-back _ _ _ (number-read-back mostNumber (hall .screens) (omega (arith, asked .screens .1)) (omega arith))
+    (last-read-back (hallOf (hall .desks) (hall .screens)) (number-read-back mostNumber (hall .positions) (omega (arith, asked .positions .1)) (omega arith))))
 
 -- The board's answer to the opening, at the table that the program lends, has the reading's number.
 pub opening-answer : (hall : Hall) → openTable hall lentTable .answer ≡ record { number = openingNumber hall; session = 0 }
@@ -486,14 +387,10 @@ pub record GoodMeaning (meaning : Meaning) : Type 0 where
 
 pub reading-back : (meaning : Meaning) → GoodMeaning meaning → length (sheetBytes meaning) ≤ mostBytes
     → Accepted (sheetBytes meaning) meaning
-unfolding reading sheetBytes
+unfolding sheetBytes
 reading-back meaning good short =
-    simp (
-      le-leb (length sheet) mostBytes short,
-      header-read-back (meaning .header) sheet 0 (0 + length header) (good .opens) (split .0),
-      good .opens,
-    )
-    (ap (opened (meaning .header)) (records-read-back (meaning .records) sheet (0 + length header) (good .records) (split .1)))
+    short-enough sheet short (header-read-back (meaning .header) (good .opens) sheet 0 (0 + length header) (split .0))
+    ∙ simp (good .opens) (ap (opened (meaning .header)) (records-read-back (meaning .records) sheet (0 + length header) (good .records) (split .1)))
   where
     header : List ℕ
     header = headerBytes (meaning .header)
@@ -506,8 +403,3 @@ reading-back meaning good short =
 
     split : Stands header sheet 0 (0 + length header) × Stands records sheet (0 + length header) (length sheet)
     split = stands-split header records sheet 0 (length sheet) (stands-whole sheet)
-
--- ---- "is the sheet at most 65,536 bytes? 18", and "18 prints `0 0 18 0`".
-pub long-sheet : (sheet : List ℕ) → mostBytes < length sheet → printed sheet ≡ line 0 0 18 0 ++ endLine zeros
-unfolding reading printed
-long-sheet sheet long = simp (lt-leb (length sheet) mostBytes long)

@@ -6,13 +6,13 @@ use mathlib.Core.Bool.{Bool, true, false, cond, not}
 use mathlib.Core.List.{List, [], _∷_}
 use lib.Dec.{ltb, eqb}
 use borrow.Author.Tests.{ltb-true, ltb-false, not-true}
-use Rattle.rules.specs.Steps.{Call, Take, Drop, Swap, Retire, Collect, Answer, Event, isNone}
+use Rattle.rules.specs.Steps.{Call, Take, Drop, Swap, Retire, Collect, Answer, Event, isNone, isSession}
 use Rattle.rules.specs.History.{deed, lacksRoom, collects, handsBack, nothing, isHandBack, oneIf, howMany}
 use Rattle.sheet_rules.specs.Sheet.{Record, recordFor, callOf}
 use Rattle.sheet_rules.specs.Tally.{Tally, tallyOf, zeros, isAccepted, isRefused, isHandedBack, largestCount, oneMore}
 use Rattle.sheet_rules.specs.Tally.{oneMoreIf, counted, tallied, countsIn}
 
--- "A refused step changes only the count of refused steps."
+-- A refused step hands nothing back.
 pub refused-hands-nothing : (call : Call) (n session : ℕ) → isHandBack (deed call (suc n) session) ≡ false
 refused-hands-nothing (Take d c p) n session = refl
 refused-hands-nothing (Drop d c) n session = refl
@@ -24,6 +24,15 @@ refused-hands-nothing (Retire d) n session = either (eqb (suc n) 14)
     either false = refl
 refused-hands-nothing (Collect d) n session = refl
 
+-- "sessions handed back (replies to collect other than 0)"
+pub collect-hands-back : (d session : ℕ) → isHandBack (deed (Collect d) 0 session) ≡ isSession session
+collect-hands-back d session = by-session (isNone session)
+  where
+    by-session : (none : Bool) → isHandBack (cond none (collects d) (handsBack d session)) ≡ not none
+    by-session true = refl
+    by-session false = refl
+
+-- "A refused step changes only the count of refused steps."
 pub refused-step : (total : Tally) (event : Event) → isRefused event ≡ true
     → counted total event ≡ tallyOf (total .accepted) (oneMore (total .refused)) (total .handedBack)
 unfolding counted
@@ -55,11 +64,6 @@ counted-by-code total entry answer =
         cond take (Take desk screen position)
         (cond drop (Drop desk screen) (cond swap (Swap desk position session) (cond retire (Retire desk) (Collect desk))))
 
-    collected : (none : Bool) (session : ℕ)
-        → isHandBack (cond none (collects 0) (handsBack 0 session)) ≡ isHandBack (cond none (collects (entry .desk)) (handsBack (entry .desk) session))
-    collected true session = refl
-    collected false session = refl
-
     by-code : (take drop swap retire : Bool) (session : ℕ)
         → isHandBack (deed (step take drop swap retire 0 0 0 0) 0 session)
         ≡ isHandBack (deed (step take drop swap retire (entry .desk) (entry .screen) (entry .position) (entry .session)) 0 session)
@@ -67,7 +71,7 @@ counted-by-code total entry answer =
     by-code false true swap retire session = refl
     by-code false false true retire session = refl
     by-code false false false true session = refl
-    by-code false false false false session = collected (isNone session) session
+    by-code false false false false session = collect-hands-back 0 session ∙ sym (collect-hands-back (entry .desk) session)
 
     same : (n : ℕ)
         → isHandBack (deed (callOf (recordFor (entry .code) 0 0 0 0)) n (answer .session)) ≡ isHandBack (deed (callOf entry) n (answer .session))
@@ -96,12 +100,12 @@ stays-up-to true count h = by-room (ltb count largestCount) refl
     by-room false e = h
 
 -- A total that 32 bits hold, and the same total with the counts of a list of replies added, each up to the largest.
-pub record Fits (total : Tally) : Type 0 where
-  pub accepted : total .accepted ≤ largestCount
-  pub refused : total .refused ≤ largestCount
-  pub handedBack : total .handedBack ≤ largestCount
+record Fits (total : Tally) : Type 0 where
+  accepted : total .accepted ≤ largestCount
+  refused : total .refused ≤ largestCount
+  handedBack : total .handedBack ≤ largestCount
 
-abbrev pub withCounts : Tally → List Event → Tally
+abbrev withCounts : Tally → List Event → Tally
 withCounts total events =
     tallyOf
     (min (total .accepted + howMany isAccepted events) largestCount)
@@ -113,7 +117,7 @@ same-tally : (first second : Tally) → first .accepted ≡ second .accepted →
 same-tally first second a r h = λ i. tallyOf (a i) (r i) (h i)
 
 -- From any total that 32 bits hold.
-pub tally-from : (total : Tally) (events : List Event) → Fits total → tallied total events ≡ withCounts total events
+tally-from : (total : Tally) (events : List Event) → Fits total → tallied total events ≡ withCounts total events
 unfolding counted
 tally-from total [] fits =
     same-tally total (withCounts total []) (omega (arith, fits .accepted)) (omega (arith, fits .refused)) (omega (arith, fits .handedBack))
