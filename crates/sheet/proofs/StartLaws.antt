@@ -5,21 +5,21 @@ use mathlib.Core.Path.{_≡_, refl, sym, ap, _∙_}
 use mathlib.Core.Bool.{false}
 use mathlib.Core.List.{List, _++_, append-nil}
 use lib.ListN.{length}
-use Rattle.rules.specs.Hall.{Hall}
+use Rattle.rules.specs.Hall.{Hall, hallLimits}
 use Rattle.rules.specs.Steps.{Answer}
 use Rattle.rules.specs.Table.{TableDone, openIf, openTable}
-use Rattle.rules.specs.Numbers.{refusalOf, got}
+use Rattle.rules.specs.Numbers.{got, refusalOf}
 use Rattle.reply.specs.Answer.{answerOf, told}
 use Rattle.reply.specs.declared.Reply.{Reply}
-use Rattle.sheet_rules.specs.Sheet.{recordsAt, headerAt, lentTable, openingNumber, unopened, opened, openedIf, mostBytes, reading}
+use Rattle.sheet_rules.specs.Sheet.{headerAt, lentTable, mostBytes, opened, openedIf, openingNumber, reading, recordsAt, unopened}
 use Rattle.sheet_rules.specs.Tally.{zeros}
-use Rattle.sheet_rules.specs.Lines.{line, answerLine, endLine, linesFrom, linesOf, printed}
-use Rattle.sheet_rules.specs.laws.Sheet.{header-got, short-enough, opening-answer}
+use Rattle.sheet_rules.specs.Lines.{answerLine, endLine, line, linesFrom, linesOf, printed}
+use Rattle.sheet_rules.specs.laws.Sheet.{header-got, opening-answer, short-enough}
 use Rattle.lines.specs.Put.{Put}
 use Rattle.tally.specs.declared.Tally.{Tally}
 use Rattle.sheet.specs.declared.State.{State}
-use Rattle.sheet.specs.Turn.{finishedAt, startTable, callsOf, Started}
-use Rattle.sheet.proofs.TurnLaws.{put-within, put-first, put-rest}
+use Rattle.sheet.specs.Turn.{Started, callsOf, finishedAt, startTable}
+use Rattle.sheet.proofs.TurnLaws.{put-first, put-rest, put-within}
 
 -- before anything is read, and at the first record
 abbrev noTally : Tally
@@ -32,7 +32,7 @@ abbrev atFirst : ℕ → State
 atFirst next = record { place = next; index = 1; tally = noTally; finished = false }
 
 -- the reading of a sheet whose header was read, by the number that the board replied to the opening
-opening-number : (hall : Hall) (reply : Reply) (after : List ℕ) {number : ℕ} → told reply after ≡ openTable hall lentTable
+opening-number : (hall : Hall) (reply : Reply) (after : List ℕ) {number : ℕ} → told reply after ≡ openTable hallLimits hall lentTable
     → number ≡ answerOf reply .number
     → openingNumber hall ≡ number
 opening-number hall reply after tells is-number =
@@ -61,7 +61,7 @@ module _ {sheet out outAfter : List ℕ} {end : ℕ} where
 
   -- The header was read, and the board replied to the opening.
   module _ (reply : Reply) {hall : Hall} {next : ℕ} {after : List ℕ} {number : ℕ} (short : length sheet ≤ mostBytes)
-      (read : headerAt sheet 0 ≡ got hall next) (tells : told reply after ≡ openTable hall lentTable) (is-number : number ≡ answerOf reply .number) where
+      (read : headerAt sheet 0 ≡ got hall next) (tells : told reply after ≡ openTable hallLimits hall lentTable) (is-number : number ≡ answerOf reply .number) where
     pub started-refused : {is : State} → (number ≡ 0 → ⊥) → Put out outAfter 0 (line 0 0 number 0 ++ endLine zeros) end → is ≡ finishedAt atHeader
         → Started sheet out is after outAfter end
     unfolding openTable openingNumber
@@ -83,7 +83,7 @@ module _ {sheet out outAfter : List ℕ} {end : ℕ} where
       within = put-within put;
       lines =
           (λ i. put-first put i ++ linesFrom (leaves i) 1 zeros (recordsAt (length sheet) sheet next))
-          ∙ ap (λ (answer : Answer). answerLine 0 0 answer ++ linesFrom (openTable hall lentTable .after) 1 zeros (recordsAt (length sheet) sheet next)) (sym answers)
+          ∙ ap (λ (answer : Answer). answerLine 0 0 answer ++ linesFrom (openTable hallLimits hall lentTable .after) 1 zeros (recordsAt (length sheet) sheet next)) (sym answers)
           ∙ sym (ap linesOf reads);
       run = sym (ap callsOf reads);
       table = leaves ∙ sym (ap startTable reads);
@@ -97,8 +97,8 @@ module _ {sheet out outAfter : List ℕ} {end : ℕ} where
         reads : reading sheet ≡ opened hall (recordsAt (length sheet) sheet next)
         reads = reads-by sheet short read opening
 
-        leaves : after ≡ openTable hall lentTable .after
+        leaves : after ≡ openTable hallLimits hall lentTable .after
         leaves = ap (λ (done : TableDone). done .after) tells
 
-        answers : openTable hall lentTable .answer ≡ record { number = 0; session = 0 }
+        answers : openTable hallLimits hall lentTable .answer ≡ record { number = 0; session = 0 }
         answers = opening-answer hall ∙ ap (λ (n : ℕ). record { number = n; session = 0 }) opening

@@ -8,22 +8,23 @@ use mathlib.Core.Logic.{_⊎_, inl, inr, ⊎-elim}
 use mathlib.Core.List.{List, [], _∷_, _++_, append-nil}
 use lib.ListN.{length, take, drop, length-append}
 use lib.Seq.{take-at, drop-at}
+use Rattle.rules.specs.Hall.{hallLimits}
 use Rattle.rules.specs.Steps.{Answer}
 use Rattle.rules.specs.Table.{TableDone, stepTable}
-use Rattle.rules.specs.Numbers.{refusalOf, got, refused}
+use Rattle.rules.specs.Numbers.{got, refusalOf, refused}
 use Rattle.reply.specs.Answer.{answerOf, told}
 use Rattle.reply.specs.declared.Reply.{Reply}
-use Rattle.sheet_rules.specs.Sheet.{Record, callOf, recordAt, Records, more, complete, stop, recordsAt, callsIn}
+use Rattle.sheet_rules.specs.Sheet.{Record, Records, callOf, callsIn, complete, more, recordAt, recordsAt, stop}
 use Rattle.sheet_rules.specs.Tally.{counted}
-use Rattle.sheet_rules.specs.Lines.{line, answerLine, endLine, linesFrom}
-use Rattle.sheet_rules.specs.laws.Sheet.{record-got, records-more, records-stop, records-end}
+use Rattle.sheet_rules.specs.Lines.{answerLine, endLine, line, linesFrom}
+use Rattle.sheet_rules.specs.laws.Sheet.{record-got, records-end, records-more, records-stop}
 use Rattle.sheet_rules.specs.laws.Tally.{counted-by-code}
-use Rattle.lines.specs.Put.{laid, Put}
+use Rattle.lines.specs.Put.{Put, laid}
 use Rattle.lines.specs.laws.Put.{put-none, put-on}
 use Rattle.tally.specs.Count.{eventOf, tallyIs}
 use Rattle.tally.specs.declared.Tally.{Tally}
 use Rattle.sheet.specs.declared.State.{State}
-use Rattle.sheet.specs.Turn.{toCome, callsToCome, turnsLeft, recordRoom, finishedAt, Onward, Filling, Turn}
+use Rattle.sheet.specs.Turn.{Filling, Onward, Turn, callsToCome, finishedAt, recordRoom, toCome, turnsLeft}
 use Rattle.sheet.specs.laws.Turns.{piece-none, piece-on}
 
 -- ---- Bytes put at the start of a buffer.
@@ -63,7 +64,7 @@ module _ {sheet : List ℕ} {was : State} (unfinished : was .finished ≡ false)
   -- A record was run.
   module _ {entry : Record} {next : ℕ} (inside : was .place < length sheet) (read : recordAt sheet (was .place) ≡ got entry next) where
     pub ran : (reply : Reply) {before after : List ℕ} {number session : ℕ} {total : Tally} {out outAfter : List ℕ} {at end : ℕ}
-        → told reply after ≡ stepTable before (callOf entry)
+        → told reply after ≡ stepTable hallLimits before (callOf entry)
         → number ≡ answerOf reply .number
         → session ≡ answerOf reply .session
         → tallyIs total ≡ counted (tallyIs (was .tally)) (eventOf (entry .code) number session)
@@ -88,13 +89,13 @@ module _ {sheet : List ℕ} {was : State} (unfinished : was .finished ≡ false)
         are : recordsAt (length sheet) sheet (was .place) ≡ more entry rest
         are = records-more sheet (was .place) entry next inside read
 
-        answers : record { number = number; session = session } ≡ stepTable before (callOf entry) .answer
+        answers : record { number = number; session = session } ≡ stepTable hallLimits before (callOf entry) .answer
         answers = (λ i. record { number = is-number i; session = is-session i }) ∙ ap (λ (done : TableDone). done .answer) tells
 
-        leaves : after ≡ stepTable before (callOf entry) .after
+        leaves : after ≡ stepTable hallLimits before (callOf entry) .after
         leaves = ap (λ (done : TableDone). done .after) tells
 
-        total-is : tallyIs total ≡ counted (tallyIs (was .tally)) (record { call = callOf entry; answer = stepTable before (callOf entry) .answer })
+        total-is : tallyIs total ≡ counted (tallyIs (was .tally)) (record { call = callOf entry; answer = stepTable hallLimits before (callOf entry) .answer })
         total-is =
             counts
             ∙ counted-by-code (tallyIs (was .tally)) entry (record { number = number; session = session })

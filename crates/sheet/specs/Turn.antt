@@ -5,9 +5,10 @@ use mathlib.Core.Path.{_≡_}
 use mathlib.Core.Bool.{true, false, cond}
 use mathlib.Core.List.{List, [], _∷_, _++_}
 use lib.ListN.{length, take, drop}
+use Rattle.rules.specs.Hall.{hallLimits}
 use Rattle.rules.specs.Steps.{Call}
 use Rattle.rules.specs.Table.{endTable, openTable}
-use Rattle.sheet_rules.specs.Sheet.{recordsAt, callsIn, lentTable, Reading, unopened, opened, reading}
+use Rattle.sheet_rules.specs.Sheet.{Reading, callsIn, lentTable, opened, reading, recordsAt, unopened}
 use Rattle.sheet_rules.specs.Lines.{linesFrom, printed}
 use Rattle.lines.specs.Put.{Put}
 use Rattle.tally.specs.Count.{tallyIs}
@@ -42,7 +43,7 @@ pub record Piece (sheet : List ℕ) (was : State) (before bytes : List ℕ) (is 
   pub lines : bytes ++ toCome sheet is after ≡ toCome sheet was before
   pub calls : List Call
   pub run : calls ++ callsToCome sheet is ≡ callsToCome sheet was
-  pub table : after ≡ endTable before calls
+  pub table : after ≡ endTable hallLimits before calls
 
 -- There are fewer turns left, unless there were none. A record's number is at most its place, so that numbers do not run over.
 pub record Onward (sheet : List ℕ) (was is : State) : Type 0 where
@@ -67,7 +68,7 @@ pub record Turn (sheet : List ℕ) (was : State) (before out : List ℕ) (is : S
 -- the table once the header was read, and the steps to run
 abbrev pub startTable : Reading → List ℕ
 startTable (unopened reason) = lentTable
-startTable (opened hall records) = openTable hall lentTable .after
+startTable (opened hall records) = openTable hallLimits hall lentTable .after
 
 abbrev pub callsOf : Reading → List Call
 callsOf (unopened reason) = []
@@ -75,7 +76,7 @@ callsOf (opened hall records) = callsIn records
 
 -- the table once all steps of a sheet are run
 abbrev pub sheetTable : List ℕ → List ℕ
-sheetTable sheet = endTable (startTable (reading sheet)) (callsOf (reading sheet))
+sheetTable sheet = endTable hallLimits (startTable (reading sheet)) (callsOf (reading sheet))
 
 -- The first bytes to be printed: the header's line, or all there is where the reading ends before a record.
 pub record Started (sheet out : List ℕ) (is : State) (after outAfter : List ℕ) (put : ℕ) : Type 0 where

@@ -22,6 +22,7 @@ ghost use mathlib.Core.Bool.{false};
 ghost use mathlib.Core.List.{_++_};
 ghost use Prim.Native.Nat.{_+_, _≤_};
 ghost use lib.ListN.{length};
+ghost use Rattle.rules.specs.Hall.{hallLimits};
 ghost use Rattle.rules.specs.Table.{stepTable};
 ghost use Rattle.reply.specs.Answer.{told};
 ghost use Rattle.sheet_rules.specs.Sheet.{callOf, lentTable};
@@ -60,7 +61,7 @@ pub struct Filled {
 
 // The step that a record asks for. (Its code is 1 to 5: the reader keeps the others out.)
 pub fn run_record(table: &mut [u16], entry: Record) -> Reply
-    ensures { λ r. ⌜ told r (now (table .exit)) ≡ stepTable (now (table .entry)) (callOf (recordOf entry)) ⌝ }
+    ensures { λ r. ⌜ told r (now (table .exit)) ≡ stepTable hallLimits (now (table .entry)) (callOf (recordOf entry)) ⌝ }
 {
     let code = entry.code;
     match code {

@@ -5,10 +5,10 @@ use mathlib.Core.Bool.{Bool, true, false, cond}
 use mathlib.Core.List.{List, [], _∷_, _++_}
 use lib.ListN.{length, getD, replicate}
 use lib.Dec.{leb, ltb, eqb}
-use Rattle.rules.specs.Hall.{Hall, hallOf}
-use Rattle.rules.specs.Steps.{Call, Take, Drop, Swap, Retire, Collect, firstNo, inRange}
+use Rattle.rules.specs.Hall.{Hall, hallLimits, hallOf}
+use Rattle.rules.specs.Steps.{Call, Collect, Drop, Retire, Swap, Take, firstNo, inRange}
 use Rattle.rules.specs.Table.{mostWords, openQuestions}
-use Rattle.rules.specs.Numbers.{Refusal, refusalOf, Got, got, refused, refusal, andThen, number, mostNumber}
+use Rattle.rules.specs.Numbers.{Got, Refusal, andThen, got, mostNumber, number, refusal, refusalOf, refused}
 
 -- ---- Records.
 
@@ -136,7 +136,7 @@ lentTable = replicate mostWords 0
 
 -- The board's number for the opening of this hall: that of its first question answered no, or 0.
 unfoldable pub openingNumber : Hall → ℕ
-openingNumber hall = firstNo (openQuestions hall lentTable)
+openingNumber hall = firstNo (openQuestions hallLimits hall lentTable)
 
 -- What a reading finds: what ended it before the hall was open, or the hall and its records.
 pub data Reading : Type 0 where

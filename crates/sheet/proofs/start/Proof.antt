@@ -3,14 +3,15 @@ use native.Mathlib.Omega.{arith}
 use mathlib.Core.Path.{_≡_, sym, ap, _∙_}
 use Prim.Native.Nat.{ℕ}
 use borrow.Author.Needs.{needs}
-use Rattle.rules.specs.Numbers.{got, refused, refusalOf}
+use Rattle.rules.specs.Hall.{hallLimits}
+use Rattle.rules.specs.Numbers.{got, refusalOf, refused}
 use Rattle.rules.specs.Table.{openTable}
 use Rattle.reply.specs.Answer.{told}
 use Rattle.sheet_rules.specs.Sheet.{headerAt, lentTable}
-use Rattle.sheet_rules.specs.laws.Sheet.{too-long, short-enough}
+use Rattle.sheet_rules.specs.laws.Sheet.{short-enough, too-long}
 use Rattle.reader.specs.Told.{headerOf, toldHeader}
 use Rattle.lines.specs.laws.Longest.{line-length}
-use Rattle.sheet.proofs.StartLaws.{started-stopped, started-refused, started-opened}
+use Rattle.sheet.proofs.StartLaws.{started-opened, started-refused, started-stopped}
 use Rattle.sheet.proofs.start.Statement.{statement}
 use Rattle.sheet.proofs.start.Tie as tie
 
@@ -21,8 +22,8 @@ header-read c = sym (c .before .before .before .read-header .ensures) ∙ ap tol
 -- what the board replied to the opening
 opening : (c : tie.After-number) →
     let replied = c .before .before .before .«open» in
-    told (replied .result) (replied .last .0) ≡ openTable (headerOf (c .before .before .before .before .before .before .header .given .0 .0)) lentTable
-opening c = c .before .before .before .«open» .ensures ∙ ap (openTable _) (c .before .before .before .before .before .before .before .before .before .before .before .before .before .pre .0)
+    told (replied .result) (replied .last .0) ≡ openTable hallLimits (headerOf (c .before .before .before .before .before .before .header .given .0 .0)) lentTable
+opening c = c .before .before .before .«open» .ensures ∙ ap (openTable hallLimits _) (c .before .before .before .before .before .before .before .before .before .before .before .before .before .pre .0)
 
 stop-requires : tie.Need-stop-requires
 stop-requires c κs = search needs

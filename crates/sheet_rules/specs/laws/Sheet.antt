@@ -8,21 +8,21 @@ use lib.ListN.{length, drop, length-append, length-drop}
 use lib.Seq.{drop-length, drop-drop, drop-append-seam}
 use lib.Dec.{leb, ltb, eqb}
 use borrow.Author.Tests.{ltb-false, leb-true, lt-ltb, le-ltb, le-leb, lt-leb, ne-eqb}
-use Rattle.rules.specs.Hall.{Hall, hallOf, mostDesks, mostPositions, mostScreens}
+use Rattle.rules.specs.Hall.{Hall, hallLimits, hallOf, mostDesks, mostPositions, mostScreens}
 use Rattle.rules.specs.Steps.{Collect, firstNo, inRange}
-use Rattle.rules.specs.Table.{mostWords, need, openQuestions, openIf, openTable}
-use Rattle.rules.specs.Numbers.{Refusal, refusalOf, Got, got, refused, andThen, Groups, ended, stopped, endless, before, groupsIn}
-use Rattle.rules.specs.Numbers.{valueOf, numberOf, number, mostNumber}
+use Rattle.rules.specs.Table.{mostWords, need, openIf, openQuestions, openTable}
+use Rattle.rules.specs.Numbers.{Got, Groups, Refusal, andThen, before, ended, endless, got, groupsIn, mostNumber, number, numberOf, refusalOf, refused, stopped}
+use Rattle.rules.specs.Numbers.{valueOf}
 use Rattle.rules.specs.laws.Effect.{in-range}
+use Rattle.rules.specs.laws.Bools.{and-true}
 use Rattle.rules.specs.laws.Prefix.{need-at-most}
-use Rattle.rules.specs.laws.Tables.{Opens, hall-opens}
-use Rattle.sheet_rules.specs.Sheet.{Record, recordFor, callOf, deskField, screenField}
-use Rattle.sheet_rules.specs.Sheet.{positionField, sessionField, follows, fieldAt, fieldsAt, withCode, isCode, recordAt}
-use Rattle.sheet_rules.specs.Sheet.{Records, more, complete, stop, recordsAt, headerAt, lentTable, openingNumber, unopened, opened, headed}
-use Rattle.sheet_rules.specs.Sheet.{mostBytes, reading, Meaning, whole, Accepted, shortest, numberBytes, fieldBytes}
-use Rattle.sheet_rules.specs.Sheet.{fieldsBytes, recordBytes, recordsBytes, headerBytes, sheetBytes}
+use Rattle.rules.specs.laws.Tables.{hall-opens, limits-fit}
+use Rattle.sheet_rules.specs.Sheet.{Accepted, Meaning, Record, Records, callOf, complete, deskField, fieldAt, fieldBytes, fieldsAt, fieldsBytes, follows}
+use Rattle.sheet_rules.specs.Sheet.{headed, headerAt, headerBytes, isCode, lentTable, more, mostBytes, numberBytes, opened, openingNumber, positionField}
+use Rattle.sheet_rules.specs.Sheet.{reading, recordAt, recordBytes, recordFor, recordsAt, recordsBytes, screenField, sessionField, sheetBytes, shortest}
+use Rattle.sheet_rules.specs.Sheet.{stop, unopened, whole, withCode}
 use Rattle.sheet_rules.specs.Tally.{zeros}
-use Rattle.sheet_rules.specs.Lines.{line, endLine, linesOf, printed}
+use Rattle.sheet_rules.specs.Lines.{endLine, line, linesOf, printed}
 
 -- ---- What a reader that got a value had before it.
 refused-not-got : {A : Type 0} {reason : Refusal} {value : A} {next : ℕ} → refused reason ≡ got value next → ⊥
@@ -356,9 +356,8 @@ opening-never-four hall =
         → inRange (hall .positions) mostPositions ≡ positions
         → cond {A = ℕ} desks (cond screens (cond positions (cond (leb (need hall) mostWords) 0 4) 3) 2) 1 ≤ 3
     by-answers true true true d c p =
-        let opens : Opens hall =
-        record { desks = in-range (hall .desks) mostDesks d; screens = in-range (hall .screens) mostScreens c; positions = in-range (hall .positions) mostPositions p } in
-        rw (le-leb (need hall) mostWords (need-at-most hall opens)) (omega arith)
+        let inside = and-true (inRange (hall .desks) mostDesks) _ d (and-true (inRange (hall .screens) mostScreens) _ c p) in
+        rw (le-leb (need hall) mostWords (need-at-most hall (limits-fit hallLimits hall inside))) (omega arith)
     by-answers true true false d c p = omega arith
     by-answers true false positions d c p = omega arith
     by-answers false screens positions d c p = omega arith
@@ -366,15 +365,15 @@ opening-never-four hall =
 header-read-back : (hall : Hall) → openingNumber hall ≡ 0 → ReadsBack headerAt (headerBytes hall) hall
 unfolding headerAt headerBytes openingNumber
 header-read-back hall opens =
-    let asked : Opens hall = hall-opens hall lentTable opens .0 in
+    let asked = limits-fit hallLimits hall (hall-opens hallLimits hall lentTable opens .0) in
     then-read-back _ _ _ (number-read-back mostNumber (hall .desks) (omega (arith, asked .desks .1)) (omega arith))
     (then-read-back _ _ _ (number-read-back mostNumber (hall .screens) (omega (arith, asked .screens .1)) (omega arith))
     (last-read-back (hallOf (hall .desks) (hall .screens)) (number-read-back mostNumber (hall .positions) (omega (arith, asked .positions .1)) (omega arith))))
 
 -- The board's answer to the opening, at the table that the program lends, has the reading's number.
-pub opening-answer : (hall : Hall) → openTable hall lentTable .answer ≡ record { number = openingNumber hall; session = 0 }
+pub opening-answer : (hall : Hall) → openTable hallLimits hall lentTable .answer ≡ record { number = openingNumber hall; session = 0 }
 unfolding openTable openingNumber
-opening-answer hall = by-number (firstNo (openQuestions hall lentTable))
+opening-answer hall = by-number (firstNo (openQuestions hallLimits hall lentTable))
   where
     by-number : (n : ℕ) → openIf n hall lentTable .answer ≡ record { number = n; session = 0 }
     by-number zero = refl
