@@ -12,7 +12,6 @@ use Rattle.rules.specs.History.{handsBack, lacksRoom, retirements, retir
 use Rattle.rules.specs.Steps.{Call, Collect, Drop, Event, Retire, Swap, Take, inRange, isSession}
 use Rattle.rules.specs.Table.{hallIn, listIn, listPlace, need, openTable, positionWord, recordOf, recordStart, recordWidth, screenWord, sound}
 use Rattle.rules.specs.Table.{stepTable, usedIn, waitingPlace}
-use Rattle.rules.specs.laws.Links.{link}
 
 -- ---- Demand 1. "an accepted call writes only the words its step names"
 

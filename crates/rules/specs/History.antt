@@ -4,9 +4,8 @@ use Prim.Native.Nat.{ℕ, zero, suc, _+_, _≤_, _<_}
 use mathlib.Core.Path.{_≡_}
 use mathlib.Core.Bool.{Bool, true, false, cond}
 use mathlib.Core.List.{List, [], _∷_}
-use lib.ListN.{take, drop}
 use lib.Dec.{eqb}
-use Rattle.rules.specs.Steps.{Call, Collect, Drop, Event, Retire, Swap, Take, isNone, retire}
+use Rattle.rules.specs.Steps.{Call, Collect, Drop, Event, Retire, Swap, Take, isNone}
 
 -- ---- What a call with its answer did.
 pub data Deed : Type 0 where

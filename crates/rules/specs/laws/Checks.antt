@@ -10,7 +10,6 @@ use borrow.Author.Tests.{eq-eqb, eqb-true}
 use Rattle.rules.specs.History.{Deed, Disciplined, Unshown, collects, copies, deed, deedAt, deedsOf, drops, handsBack, isCollect}
 use Rattle.rules.specs.History.{isRetireAttempt, lacksRoom, nothing, oneIf, own, retires, swaps, takes}
 use Rattle.rules.specs.Steps.{Event}
-use Rattle.rules.specs.laws.Links.{next}
 use Rattle.rules.specs.laws.Lists.{matches, matches-same}
 use Rattle.rules.specs.laws.Runs.{CollectBefore, Spaced}
 

@@ -6,7 +6,6 @@ use mathlib.Core.Bool.{Bool, true, false}
 use mathlib.Core.List.{List, [], _∷_, _++_, append-assoc}
 use lib.ListN.{length, take, drop, replicate, length-append, length-replicate, length-drop, take-append-drop}
 use lib.Seq.{take-at, drop-at, take-append-seam, drop-append-seam, length-take-le, drop-append-add}
-use lib.Dec.{T}
 use borrow.Author.Tests.{eq-eqb, ne-eqb}
 use Rattle.rules.specs.Hall.{Desk, TestedPlace, marked, unmarked}
 use Rattle.rules.specs.Table.{allMarks, bitValue, bitsOfWord, bitsOfWords, decodeDesk, encodeDesk, listOf, markWords, marksOf, ones, placesOf, sessionsOf}

@@ -8,7 +8,7 @@ use mathlib.Core.List.{List, [], _∷_, _++_}
 use lib.ListN.{length}
 use lib.Dec.{eqb}
 use borrow.Author.Tests.{eq-eqb, ne-eqb}
-use Rattle.rules.specs.Hall.{Desk, Hall, State, allScreens, deskOf, screenIndex, unmarked}
+use Rattle.rules.specs.Hall.{Desk, Hall, State, allScreens, deskOf, screenIndex}
 use Rattle.rules.specs.History.{Deed, DroppedBefore, Linked, collects, copies, deed, deedAt, drops, handsBack, lacksRoom, nothing, own, retires}
 use Rattle.rules.specs.History.{swaps, takes}
 use Rattle.rules.specs.Steps.{Call, begin, collect, end, owe, retire, run, step}

@@ -13,7 +13,6 @@ use Rattle.rules.specs.Steps.{Call, Event, end, owe, run, step}
 use Rattle.rules.specs.laws.Collect.{Orderly, collect-copies, collect-places, copiesOn, retire-copies, retire-places}
 use Rattle.rules.specs.laws.Effect.{Effect, Formed, effect, formed-step}
 use Rattle.rules.specs.laws.HandBack.{Due, due-collect, due-end, due-retire, isReady, nextReading, noReading, thisReading}
-use Rattle.rules.specs.laws.Links.{next}
 use Rattle.rules.specs.laws.Lists.{matches, matches-other, one-if-le}
 use Rattle.rules.specs.laws.Room.{Room, collect-room, retire-room}
 use Rattle.rules.specs.laws.Sound.{Sound, collect-sound, retire-sound, sound-orderly, sound-owe}

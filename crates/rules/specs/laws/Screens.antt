@@ -12,7 +12,6 @@ use Rattle.rules.specs.Hall.{Hall, State, allScreens, deskOf, screenInde
 use Rattle.rules.specs.History.{Deed, Shows, collects, copies, deed, deedAt, drops, handsBack, lacksRoom, nothing, refusedDeed, retires, swaps}
 use Rattle.rules.specs.History.{takes}
 use Rattle.rules.specs.Steps.{Call, Collect, Drop, Retire, Swap, Take, collect, decide, end, firstNo, perform, questions, run, step}
-use Rattle.rules.specs.laws.Checks.{nowhere}
 use Rattle.rules.specs.laws.Effect.{Formed, formed-step}
 use Rattle.rules.specs.laws.Links.{drop-facts, set-at, take-facts}
 use Rattle.rules.specs.laws.Lists.{matches-other}
