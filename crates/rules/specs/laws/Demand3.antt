@@ -16,7 +16,7 @@ use Rattle.rules.specs.laws.HandBack.{due-start}
 use Rattle.rules.specs.laws.Links.{Range}
 use Rattle.rules.specs.laws.Runs.{copies-run, due-run, formed-run, places-run, room-run, sound-run}
 use Rattle.rules.specs.laws.Screens.{AllShown, all-shown-run, hidden-run}
-use Rattle.rules.specs.laws.Splits.{count-split, deeds-past, deeds-split, range-run, run-take}
+use Rattle.rules.specs.laws.Splits.{count-split, deeds-past, range-run, run-take, tells-from, tells-itself}
 
 module _ (H : Hall) (some : 1 ≤ allScreens H) (cs : List Call) where
   -- ---- Room.
@@ -50,11 +50,10 @@ module _ (H : Hall) (some : 1 ≤ allScreens H) (cs : List Call) (B : ℕ) (enou
       let f : ℕ → Deed = deedAt (run H (fresh H) cs) in
       let formed = formed-run H (take n cs) (fresh H) (fresh-formed H) in
       let ok = sound-run H d some hd (take n cs) (fresh H) (fresh-formed H) (fresh-sound H d) in
-      let zero-plus : (i : ℕ) → f (0 + i) ≡ f i = (λ i. let e : 0 + i ≡ i = omega arith in ap f e) in
       let shown : AllShown H f n (end H (fresh H) (take n cs)) =
       subst (λ (m : ℕ). AllShown H f m (end H (fresh H) (take n cs))) (omega arith)
-      (all-shown-run H f s hs n cs (fresh H) 0 zero-plus (fresh-formed H) (fresh-shown H f) hn) in
-      let hidden = hidden-run H f s hs k (drop n cs) (end H (fresh H) (take n cs)) n (deeds-split H n cs (fresh H)) formed shown unshown in
+      (all-shown-run H f n cs (fresh H) 0 (tells-itself (run H (fresh H) cs)) (fresh-formed H) (fresh-shown H f) hn) in
+      let hidden = hidden-run H f s hs k (drop n cs) (end H (fresh H) (take n cs)) n (tells-from H n cs (fresh H)) formed shown unshown in
       let c1 = copies-run H d some hd s hs (take n cs) (fresh H) (fresh-formed H) (fresh-sound H d) in
       let c2 = copies-run H d some hd s hs (take k (drop n cs)) (end H (fresh H) (take n cs)) formed ok in
       let du =

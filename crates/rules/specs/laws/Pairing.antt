@@ -9,18 +9,19 @@ use lib.ListN.{length}
 use lib.Dec.{eqb}
 use borrow.Author.Tests.{eq-eqb, ne-eqb}
 use Rattle.rules.specs.Hall.{Desk, Hall, State, allScreens, deskOf, screenIndex}
-use Rattle.rules.specs.History.{Deed, DroppedBefore, Linked, collects, copies, deed, deedAt, drops, handsBack, lacksRoom, nothing, own, retires}
+use Rattle.rules.specs.History.{Deed, DroppedBefore, Linked, collects, copies, deed, drops, handsBack, lacksRoom, nothing, own, retires}
 use Rattle.rules.specs.History.{swaps, takes}
 use Rattle.rules.specs.Steps.{Call, begin, collect, end, owe, retire, run, step}
 use Rattle.rules.specs.laws.Collect.{Orderly, beforeHandBack, begin-keeps}
 use Rattle.rules.specs.laws.Effect.{Effect, Formed, effect, formed-step}
-use Rattle.rules.specs.laws.Links.{Link, Range, ScreensAgree, agree-step, beforeRetire, beforeSwap, link, linkedTo, range-step}
+use Rattle.rules.specs.laws.Links.{Link, Range, ScreensAgree, agree-step, beforeRetire, beforeSwap, link, linkedTo}
 use Rattle.rules.specs.laws.Links.{take-finds-unlinked, unlinked}
 use Rattle.rules.specs.laws.Lists.{copies-append, matches, matches-at-most-one, matches-other, matches-same}
 use Rattle.rules.specs.laws.OwnDeeds.{own-handed, own-hands-back, own-retires}
 use Rattle.rules.specs.laws.Runs.{sound-step}
 use Rattle.rules.specs.laws.ScreenIndex.{screen-in}
 use Rattle.rules.specs.laws.Sound.{Sound, sound-orderly}
+use Rattle.rules.specs.laws.Splits.{Tells, tells-first, tells-rest}
 use Rattle.rules.specs.laws.Tokens.{Leaves, Tokens, begin-tokens, hand-back-other, hand-back-same, live, live-at, live-next, scan-tokens}
 use Rattle.rules.specs.laws.Tokens.{sum-le, sumOver, ties}
 use Rattle.rules.specs.laws.Track.{linked-tied}
@@ -200,9 +201,6 @@ module _ (H : Hall) (f : ℕ → Deed) (d s n : ℕ) where
       is-unused a r h q c z (yes t) = let e = sym (now a t) ∙ z in omega (arith, l .same r, g .single r, ap (matches r) e, matches-same r)
       is-unused a r h q c z (no t) = g .unused a r (omega arith) q (omega (arith, l .same r)) (sym (past a t) ∙ z)
 
-shift : (f : ℕ → Deed) (a b : ℕ) → a ≡ b → f a ≡ f b
-shift f a b e = ap f e
-
 -- One call.
 module _ (H : Hall) (f : ℕ → Deed) (sane : (m : ℕ) → Range H (f m))
     (calm : (i x c p v : ℕ) → f i ≡ takes x c p v → link H f (screenIndex H x c) i ≡ unlinked) (hS : 1 ≤ allScreens H) (d s : ℕ) (hd : 1 ≤ d)
@@ -280,33 +278,27 @@ module _ (H : Hall) (f : ℕ → Deed) (sane : (m : ℕ) → Range H (f m))
       by-cases (handsBack by v) o e = rw (e .1 .after) (handing v (e .1 .session) (own-handed d by v (f n) o) (ℕ-discrete s v))
       by-cases nothing o e = same-list nothing o (λ t. let z : _≡_ {A = ℕ} 0 1 = cc in omega arith) (e .owed) (e .after)
 
-  -- A list of calls: the list of events stands in f from place n on.
-  pub guard-along : (cs : List Call) (st : State) (n : ℕ) → ((i : ℕ) → f (n + i) ≡ deedAt (run H st cs) i) → Formed H st
-      → Sound (allScreens H) (deskOf st d) → ScreensAgree H f n st
-      → Guard H f d s n (deskOf st d) → Guard H f d s (n + length cs) (deskOf (end H st cs) d)
-  guard-along [] st n sh formed ok ag g = subst (λ (m : ℕ). Guard H f d s m (deskOf st d)) (omega arith) g
-  guard-along (c ∷ cs) st n sh formed ok ag g =
-      let q : f n ≡ deed c (step H st c .answer .number) (step H st c .answer .session) = shift f n (n + 0) (omega arith) ∙ sh 0 in
+  -- A list of calls, whose deeds f tells from place n on.
+  pub guard-along : (cs : List Call) (st : State) (n : ℕ) → Tells f n (run H st cs) → Formed H st → Sound (allScreens H) (deskOf st d)
+      → ScreensAgree H f n st → Guard H f d s n (deskOf st d) → Guard H f d s (n + length cs) (deskOf (end H st cs) d)
+  guard-along [] st n tells formed ok ag g = subst (λ (m : ℕ). Guard H f d s m (deskOf st d)) (omega arith) g
+  guard-along (c ∷ cs) st n tells formed ok ag g =
+      let q = tells-first tells in
       subst (λ (m : ℕ). Guard H f d s m (deskOf (end H (step H st c .after) cs) d)) (omega arith)
-      (guard-along cs (step H st c .after) (suc n) (λ i. shift f (suc n + i) (n + suc i) (omega arith) ∙ sh (suc i)) (formed-step H st d formed hd c) (sound-step H d hS hd st c formed ok) (agree-step H st formed f n ag c q) (guard-step n st c formed (sound-orderly (allScreens H) (deskOf st d) ok) ag q g))
+      (guard-along cs (step H st c .after) (suc n) (tells-rest tells) (formed-step H st d formed hd c) (sound-step H d hS hd st c formed ok)
+      (agree-step H st formed f n ag c q) (guard-step n st c formed (sound-orderly (allScreens H) (deskOf st d) ok) ag q g))
 
--- Of the list of events alone.
-pub in-range-run : (H : Hall) (cs : List Call) (st : State) → Formed H st → (m : ℕ) → Range H (deedAt (run H st cs) m)
-in-range-run H [] st formed m = tt
-in-range-run H (c ∷ cs) st formed zero = range-step H st formed c
-in-range-run H (c ∷ cs) st formed (suc m) = in-range-run H cs (step H st c .after) (formed-step H st 1 formed (omega arith) c) m
-
-pub takes-find-unlinked : (H : Hall) (f : ℕ → Deed) (cs : List Call) (st : State) (n : ℕ) → ((i : ℕ) → f (n + i) ≡ deedAt (run H st cs) i) → Formed H st
+-- An accepted take finds its screen unlinked.
+pub takes-find-unlinked : (H : Hall) (f : ℕ → Deed) (cs : List Call) (st : State) (n : ℕ) → Tells f n (run H st cs) → Formed H st
     → ScreensAgree H f n st → (m x c p v : ℕ) → f (n + m) ≡ takes x c p v → link H f (screenIndex H x c) (n + m) ≡ unlinked
-takes-find-unlinked H f [] st n sh formed ag m x y p v t =
-    let k : nothing ≡ takes x y p v = sym (sh m) ∙ t in let z : _≡_ {A = ℕ} 0 1 = cc in absurd (omega arith)
-takes-find-unlinked H f (c ∷ cs) st n sh formed ag zero x y p v t =
+takes-find-unlinked H f [] st n tells formed ag m x y p v t =
+    let k : nothing ≡ takes x y p v = sym (tells .at m) ∙ t in let z : _≡_ {A = ℕ} 0 1 = cc in absurd (omega arith)
+takes-find-unlinked H f (c ∷ cs) st n tells formed ag zero x y p v t =
     let e : n ≡ n + 0 = omega arith in
-    let q : f n ≡ deed c (step H st c .answer .number) (step H st c .answer .session) = ap f e ∙ sh 0 in
-    subst (λ (k : ℕ). link H f (screenIndex H x y) k ≡ unlinked) e (take-finds-unlinked H st formed f n ag c q x y p v (ap f e ∙ t))
-takes-find-unlinked H f (c ∷ cs) st n sh formed ag (suc m) x y p v t =
-    let e : n ≡ n + 0 = omega arith in
+    subst (λ (k : ℕ). link H f (screenIndex H x y) k ≡ unlinked) e
+    (take-finds-unlinked H st formed f n ag c (tells-first tells) x y p v (ap f e ∙ t))
+takes-find-unlinked H f (c ∷ cs) st n tells formed ag (suc m) x y p v t =
     let u : suc n + m ≡ n + suc m = omega arith in
-    let q : f n ≡ deed c (step H st c .answer .number) (step H st c .answer .session) = ap f e ∙ sh 0 in
     subst (λ (k : ℕ). link H f (screenIndex H x y) k ≡ unlinked) u
-    (takes-find-unlinked H f cs (step H st c .after) (suc n) (λ i. shift f (suc n + i) (n + suc i) (omega arith) ∙ sh (suc i)) (formed-step H st 1 formed (omega arith) c) (agree-step H st formed f n ag c q) m x y p v (ap f u ∙ t))
+    (takes-find-unlinked H f cs (step H st c .after) (suc n) (tells-rest tells) (formed-step H st 1 formed (omega arith) c)
+    (agree-step H st formed f n ag c (tells-first tells)) m x y p v (ap f u ∙ t))

@@ -9,7 +9,7 @@ use lib.ListN.{length, take, getD, set}
 use lib.Dec.{eqb}
 use borrow.Author.Tests.{eqb-true, eqb-false}
 use Rattle.rules.specs.Hall.{Hall, State, allScreens, deskOf, screenIndex}
-use Rattle.rules.specs.History.{Deed, Shows, collects, copies, deed, deedAt, drops, handsBack, lacksRoom, nothing, refusedDeed, retires, swaps}
+use Rattle.rules.specs.History.{Deed, Shows, collects, copies, deed, drops, handsBack, lacksRoom, nothing, refusedDeed, retires, swaps}
 use Rattle.rules.specs.History.{takes}
 use Rattle.rules.specs.Steps.{Call, Collect, Drop, Retire, Swap, Take, collect, decide, end, firstNo, perform, questions, run, step}
 use Rattle.rules.specs.laws.Effect.{Formed, formed-step}
@@ -17,6 +17,7 @@ use Rattle.rules.specs.laws.Links.{drop-facts, set-at, take-facts}
 use Rattle.rules.specs.laws.Lists.{matches-other}
 use Rattle.rules.specs.laws.Runs.{Hidden}
 use Rattle.rules.specs.laws.ScreenIndex.{screen-in}
+use Rattle.rules.specs.laws.Splits.{Tells, tells-first, tells-rest}
 
 pub record ShownBy (H : Hall) (f : ℕ → Deed) (n x v : ℕ) : Type 0 where
   pub desk : ℕ
@@ -138,35 +139,28 @@ copies-none : (s : ℕ) (xs : List ℕ) → ((x : ℕ) → getD xs x 0 ≡ s →
 copies-none s [] h = refl
 copies-none s (y ∷ xs) h = omega (arith, matches-other s y (λ q. h 0 (sym q)), copies-none s xs (λ x. h (suc x)))
 
-module _ (H : Hall) (f : ℕ → Deed) (s : ℕ) (hs : s ≡ 0 → ⊥) where
+module _ (H : Hall) (f : ℕ → Deed) where
   -- where no screen shows s before any of k calls
-  pub hidden-run : (k : ℕ) (cs : List Call) (st : State) (n : ℕ) → ((i : ℕ) → f (n + i) ≡ deedAt (run H st cs) i) → Formed H st → AllShown H f n st
+  pub hidden-run : (s : ℕ) → (s ≡ 0 → ⊥) → (k : ℕ) (cs : List Call) (st : State) (n : ℕ) → Tells f n (run H st cs) → Formed H st → AllShown H f n st
       → ((m d c : ℕ) → n ≤ m → m < n + k → Shows f m d c s → ⊥) → Hidden H s st (take k cs)
-  hidden-run zero cs st n at formed shown hid = tt
-  hidden-run (suc k) [] st n at formed shown hid = tt
-  hidden-run (suc k) (c ∷ cs) st n at formed shown hid = (
+  hidden-run s hs zero cs st n tells formed shown hid = tt
+  hidden-run s hs (suc k) [] st n tells formed shown hid = tt
+  hidden-run s hs (suc k) (c ∷ cs) st n tells formed shown hid = (
     copies-none s (st .shown) nowhere,
-    hidden-run k cs (step H st c .after) (suc n) (λ i. shift (suc n + i) (n + suc i) (omega arith) ∙ at (suc i))
-        (formed-step H st 1 formed (omega arith) c)
-        (all-shown-step H f n st formed shown c (shift n (n + 0) (omega arith) ∙ at 0)) (λ m d c a b. hid m d c (omega arith) (omega arith)),
+    hidden-run s hs k cs (step H st c .after) (suc n) (tells-rest tells) (formed-step H st 1 formed (omega arith) c)
+        (all-shown-step H f n st formed shown c (tells-first tells)) (λ m d c a b. hid m d c (omega arith) (omega arith)),
   )
     where
-      shift : (a b : ℕ) → a ≡ b → f a ≡ f b
-      shift a b e = ap f e
-
       nowhere : (x : ℕ) → getD (st .shown) x 0 ≡ s → ⊥
       nowhere x e =
           let k = shown x (λ z. hs (sym e ∙ z)) in
           hid n (k .desk) (k .screen) (omega arith) (omega arith) (subst (Shows f n (k .desk) (k .screen)) e (k .shows))
 
-  pub all-shown-run : (k : ℕ) (cs : List Call) (st : State) (n : ℕ) → ((i : ℕ) → f (n + i) ≡ deedAt (run H st cs) i) → Formed H st → AllShown H f n st
-      → k ≤ length cs → AllShown H f (n + k) (end H st (take k cs))
-  all-shown-run zero cs st n at formed shown l = subst (λ (m : ℕ). AllShown H f m st) (omega arith) shown
-  all-shown-run (suc k) [] st n at formed shown l = absurd (omega arith)
-  all-shown-run (suc k) (c ∷ cs) st n at formed shown l =
+  pub all-shown-run : (k : ℕ) (cs : List Call) (st : State) (n : ℕ) → Tells f n (run H st cs) → Formed H st → AllShown H f n st → k ≤ length cs
+      → AllShown H f (n + k) (end H st (take k cs))
+  all-shown-run zero cs st n tells formed shown l = subst (λ (m : ℕ). AllShown H f m st) (omega arith) shown
+  all-shown-run (suc k) [] st n tells formed shown l = absurd (omega arith)
+  all-shown-run (suc k) (c ∷ cs) st n tells formed shown l =
       subst (λ (m : ℕ). AllShown H f m (end H (step H st c .after) (take k cs))) (omega arith)
-      (all-shown-run k cs (step H st c .after) (suc n) (λ i. shift (suc n + i) (n + suc i) (omega arith) ∙ at (suc i)) (formed-step H st 1 formed (omega arith) c)
-      (all-shown-step H f n st formed shown c (shift n (n + 0) (omega arith) ∙ at 0)) (omega arith))
-    where
-      shift : (a b : ℕ) → a ≡ b → f a ≡ f b
-      shift a b e = ap f e
+      (all-shown-run k cs (step H st c .after) (suc n) (tells-rest tells) (formed-step H st 1 formed (omega arith) c)
+      (all-shown-step H f n st formed shown c (tells-first tells)) (omega arith))

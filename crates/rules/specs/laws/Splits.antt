@@ -21,18 +21,6 @@ run-take H (suc i) [] st = refl
 run-take H (suc i) (c ∷ cs) st =
     ap {B = List Event} (λ r. record { call = c; answer = step H st c .answer } ∷ r) (run-take H i cs (step H st c .after))
 
-pub end-split : (H : Hall) (n k : ℕ) (cs : List Call) (st : State) → end H st (take (n + k) cs) ≡ end H (end H st (take n cs)) (take k (drop n cs))
-end-split H zero k cs st = let e : 0 + k ≡ k = omega arith in ap (λ (m : ℕ). end H st (take m cs)) e
-end-split H (suc n) k [] st = nil (suc n + k) k
-  where
-    nil : (m j : ℕ) → end H st (take m []) ≡ end H st (take j [])
-    nil zero zero = refl
-    nil zero (suc j) = refl
-    nil (suc m) zero = refl
-    nil (suc m) (suc j) = refl
-end-split H (suc n) k (c ∷ cs) st =
-    let e : suc n + k ≡ suc (n + k) = omega arith in ap (λ (m : ℕ). end H st (take m (c ∷ cs))) e ∙ end-split H n k cs (step H st c .after)
-
 pub count-split : (test : Deed → Bool) (d : ℕ) (H : Hall) (n k : ℕ) (cs : List Call) (st : State)
     → howMany test (deedsOf d (run H st (take (n + k) cs))) ≡ howMany test (deedsOf d (run H st (take n cs))) + howMany test (deedsOf d (run H (end H st (take n cs)) (take k (drop n cs))))
 count-split test d H zero k cs st = let e : 0 + k ≡ k = omega arith in ap (λ (m : ℕ). howMany test (deedsOf d (run H st (take m cs)))) e ∙ omega arith
@@ -47,13 +35,28 @@ count-split test d H (suc n) k (c ∷ cs) st =
     let e : suc n + k ≡ suc (n + k) = omega arith in
     ap (λ (m : ℕ). howMany test (deedsOf d (run H st (take m (c ∷ cs))))) e ∙ omega (arith, count-split test d H n k cs (step H st c .after))
 
+-- ---- A function from places to deeds that tells, from place n on, the deeds of a history.
+pub record Tells (f : ℕ → Deed) (n : ℕ) (history : List Event) : Type 0 where
+  pub at : (i : ℕ) → f (n + i) ≡ deedAt history i
+
+pub tells-first : {f : ℕ → Deed} {n : ℕ} {history : List Event} → Tells f n history → f n ≡ deedAt history 0
+tells-first {f} {n} t = let e : n ≡ n + 0 = omega arith in ap f e ∙ t .at 0
+
+pub tells-rest : {f : ℕ → Deed} {n : ℕ} {event : Event} {history : List Event} → Tells f n (event ∷ history) → Tells f (suc n) history
+tells-rest {f} {n} t = record { at = λ i. (let e : suc n + i ≡ n + suc i = omega arith in ap f e ∙ t .at (suc i)) }
+
+pub tells-itself : (history : List Event) → Tells (deedAt history) 0 history
+tells-itself history = record { at = λ i. (let e : 0 + i ≡ i = omega arith in ap (deedAt history) e) }
+
 -- the deeds after the first n
-pub deeds-split : (H : Hall) (n : ℕ) (cs : List Call) (st : State) (i : ℕ)
-    → deedAt (run H st cs) (n + i) ≡ deedAt (run H (end H st (take n cs)) (drop n cs)) i
-deeds-split H zero cs st i = let e : 0 + i ≡ i = omega arith in ap (deedAt (run H st cs)) e
-deeds-split H (suc n) [] st i = refl
-deeds-split H (suc n) (c ∷ cs) st i =
-    let e : suc n + i ≡ suc (n + i) = omega arith in ap (deedAt (run H st (c ∷ cs))) e ∙ deeds-split H n cs (step H st c .after) i
+pub tells-from : (H : Hall) (n : ℕ) (cs : List Call) (st : State) → Tells (deedAt (run H st cs)) n (run H (end H st (take n cs)) (drop n cs))
+tells-from H n cs st = record { at = at n cs st }
+  where
+    at : (n : ℕ) (cs : List Call) (st : State) (i : ℕ) → deedAt (run H st cs) (n + i) ≡ deedAt (run H (end H st (take n cs)) (drop n cs)) i
+    at zero cs st i = tells-itself (run H st cs) .at i
+    at (suc n) [] st i = refl
+    at (suc n) (c ∷ cs) st i =
+        let e : suc n + i ≡ suc (n + i) = omega arith in ap (deedAt (run H st (c ∷ cs))) e ∙ at n cs (step H st c .after) i
 
 -- past the end nothing is done
 pub deeds-past : (H : Hall) (cs : List Call) (st : State) (a : ℕ) → length cs ≤ a → deedAt (run H st cs) a ≡ nothing
