@@ -12,7 +12,8 @@ use Rattle.rules.specs.History.{Deed, takes, swaps, retires, handsBack, 
 use Rattle.rules.specs.Demands.{Guarantee, BackWithin, exactBound}
 use Rattle.rules.specs.Theorems.{demand-2, demand-3, back-sooner}
 use Rattle.rules.specs.Cases.{_⇒_, ok}
-use Rattle.rules.specs.laws.Checks.{disciplined, placesWhere, nowhere, only-at, one-of-two, isDrop, never-shown}
+use Rattle.rules.specs.laws.Checks.{disciplined, placesWhere, nowhere, only-at, one-of-two, never-shown}
+use Rattle.rules.specs.laws.OwnDeeds.{isDrop}
 
 -- a history of a hall that is opened in a table of 9s
 abbrev historyOf : Hall → ℕ → List Call → List Event

@@ -8,6 +8,7 @@ pub mod Sound
 pub mod HandBack
 pub mod Parts
 pub mod Effect
+pub mod Owed
 pub mod Runs
 pub mod ScreenIndex
 pub mod Links

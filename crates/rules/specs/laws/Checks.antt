@@ -139,16 +139,6 @@ isTakeOf s (collects d) = false
 isTakeOf s (handsBack d session) = false
 isTakeOf s nothing = false
 
-abbrev pub isDrop : Deed → Bool
-isDrop (takes d c p session) = false
-isDrop (drops d c) = true
-isDrop (swaps d p) = false
-isDrop (retires d session) = false
-isDrop (lacksRoom d) = false
-isDrop (collects d) = false
-isDrop (handsBack d session) = false
-isDrop nothing = false
-
 -- a session that is never taken is never shown
 pub never-shown : (s : ℕ) (es : List Event) → placesWhere (isTakeOf s) 0 es ≡ [] → (from upTo : ℕ) → Unshown (deedAt es) s from upTo
 never-shown s es q from upTo n d c a b shows = nowhere (isTakeOf s) refl es q (shows .takenAt) (ap (isTakeOf s) (shows .take) ∙ eq-eqb s s refl)

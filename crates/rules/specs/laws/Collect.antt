@@ -180,3 +180,20 @@ retire-copies s v D q = omega (arith, copies-append s (D .waiting) (D .owed ∷ 
 
 pub retire-places : (D : Desk) → usedPlaces (retire D) ≡ usedPlaces D + 1
 retire-places D = omega (arith, length-append (D .waiting) (D .owed ∷ []))
+
+-- A collect leaves what the desk owes.
+pub owed-collect : (S : ℕ) (shown : List ℕ) (D : Desk) → collect S shown D .after .owed ≡ D .owed
+owed-collect S shown D =
+    settled (eqb (scan shown (begin D) .scanned) S) (scan shown (begin D)) ∙ scanned (begin D .tested) (begin D) ∙ begun (D .tested)
+  where
+    settled : (b : Bool) (E : Desk) → settleIf b E .owed ≡ E .owed
+    settled true E = refl
+    settled false E = refl
+
+    scanned : (t : List TestedPlace) (E : Desk) → scanAt t (nextScreens shown E) E .owed ≡ E .owed
+    scanned [] E = refl
+    scanned (p ∷ ps) E = refl
+
+    begun : (t : List TestedPlace) → beginAt t D .owed ≡ D .owed
+    begun [] = refl
+    begun (p ∷ ps) = refl

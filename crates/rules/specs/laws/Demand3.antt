@@ -11,9 +11,9 @@ use Rattle.rules.specs.Hall.{Hall, State, allScreens, deskOf, fresh, use
 use Rattle.rules.specs.History.{Deed, Disciplined, Shows, collectsOf, deedAt, handBacks, handBacksOf, isCollect, isHandBackOf, lacksRoom}
 use Rattle.rules.specs.History.{nothing, retirements, retirementsOf, retires}
 use Rattle.rules.specs.Steps.{Call, end, run}
+use Rattle.rules.specs.laws.Effect.{Range}
 use Rattle.rules.specs.laws.Fresh.{fresh-copies, fresh-formed, fresh-places, fresh-room, fresh-shown, fresh-sound}
 use Rattle.rules.specs.laws.HandBack.{due-start}
-use Rattle.rules.specs.laws.Links.{Range}
 use Rattle.rules.specs.laws.Runs.{copies-run, due-run, formed-run, places-run, room-run, sound-run}
 use Rattle.rules.specs.laws.Screens.{AllShown, all-shown-run, hidden-run}
 use Rattle.rules.specs.laws.Splits.{count-split, deeds-past, range-run, run-take, tells-from, tells-itself}

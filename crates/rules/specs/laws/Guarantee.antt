@@ -9,8 +9,9 @@ use Rattle.rules.specs.Demands.{Guarantee}
 use Rattle.rules.specs.Hall.{Hall, allScreens, deskOf, fresh, screenIndex}
 use Rattle.rules.specs.History.{Deed, collects, deedAt, drops, handsBack, lacksRoom, nothing, retires, swaps, takes}
 use Rattle.rules.specs.Steps.{Call, end, run}
+use Rattle.rules.specs.laws.Effect.{Range}
 use Rattle.rules.specs.laws.Fresh.{fresh-copies, fresh-formed, fresh-sound}
-use Rattle.rules.specs.laws.Links.{Range, ScreensAgree, link, unlinked}
+use Rattle.rules.specs.laws.Links.{ScreensAgree, link, unlinked}
 use Rattle.rules.specs.laws.Pairing.{Good, Guard, guard-along, takes-find-unlinked}
 use Rattle.rules.specs.laws.Splits.{deeds-past, range-run, tells-itself}
 

@@ -1,12 +1,13 @@
 -- How often a session stands in a list.
-use Prim.Native.Nat.{ℕ, zero, suc, _+_, _≤_}
+use Prim.Native.Nat.{ℕ, zero, suc, _+_, _≤_, _<_}
 use native.Mathlib.Omega.{arith}
-use mathlib.Core.Path.{_≡_, refl, ap}
-use mathlib.Core.Bool.{Bool, true, false}
+use mathlib.Core.Path.{_≡_, refl, sym, ap, _∙_}
+use mathlib.Core.Bool.{Bool, true, false, cond}
 use mathlib.Core.List.{List, [], _∷_, _++_}
-use lib.ListN.{length, take, drop, drop-of-length-le}
+use lib.ListN.{length, getD, take, drop, set, drop-of-length-le}
+use lib.Seq.{getD-set-same, getD-set-other}
 use lib.Dec.{eqb}
-use borrow.Author.Tests.{eq-eqb, ne-eqb}
+use borrow.Author.Tests.{eqb-true, eqb-false, eq-eqb, ne-eqb}
 use Rattle.rules.specs.History.{copies, oneIf}
 
 -- 1 where two sessions are the same, and else 0
@@ -52,3 +53,11 @@ drop-after-first n (x ∷ xs) = refl
 
 pub copies-past-end : (s n : ℕ) (xs : List ℕ) → length xs ≤ n → copies s (drop n xs) ≡ 0
 copies-past-end s n xs h = ap (copies s) (drop-of-length-le xs h)
+
+-- a place of a list after a store
+pub get-after-set : (xs : List ℕ) (i j v : ℕ) → i < length xs → getD (set xs i v) j 0 ≡ cond (eqb i j) v (getD xs j 0)
+get-after-set xs i j v h = by-cases (eqb i j) refl
+  where
+    by-cases : (b : Bool) → eqb i j ≡ b → getD (set xs i v) j 0 ≡ cond b v (getD xs j 0)
+    by-cases true t = ap (λ (m : ℕ). getD (set xs i v) m 0) (sym (eqb-true i j t)) ∙ getD-set-same xs i v 0 h
+    by-cases false t = let ne = eqb-false i j t in getD-set-other xs i j v 0 (λ m. ne (sym m))

@@ -1,4 +1,4 @@
--- A desk's own deeds.
+-- Deeds: which are a drop or a swap, and which are a desk's own.
 use Prim.Native.Nat.{ℕ}
 use native.Mathlib.Omega.{arith}
 use mathlib.Core.Path.{_≡_, refl, sym, ap, _∙_}
@@ -6,6 +6,26 @@ use mathlib.Core.Bool.{cond, Bool, true, false}
 use lib.Dec.{eqb}
 use borrow.Author.Tests.{eqb-true, eq-eqb}
 use Rattle.rules.specs.History.{Deed, collects, drops, handsBack, lacksRoom, nothing, own, retires, swaps, takes}
+
+abbrev pub isDrop : Deed → Bool
+isDrop (takes d c p session) = false
+isDrop (drops d c) = true
+isDrop (swaps d p) = false
+isDrop (retires d session) = false
+isDrop (lacksRoom d) = false
+isDrop (collects d) = false
+isDrop (handsBack d session) = false
+isDrop nothing = false
+
+abbrev pub isSwap : Deed → Bool
+isSwap (takes d c p session) = false
+isSwap (drops d c) = false
+isSwap (swaps d p) = true
+isSwap (retires d session) = false
+isSwap (lacksRoom d) = false
+isSwap (collects d) = false
+isSwap (handsBack d session) = false
+isSwap nothing = false
 
 pub data Own (d : ℕ) (D : Deed) : Type 0 where
   othersDeed : own d D ≡ nothing → Own d D

@@ -13,8 +13,8 @@ use Rattle.rules.specs.History.{Deed, DroppedBefore, Linked, collects, c
 use Rattle.rules.specs.History.{swaps, takes}
 use Rattle.rules.specs.Steps.{Call, begin, collect, end, owe, retire, run, step}
 use Rattle.rules.specs.laws.Collect.{Orderly, beforeHandBack, begin-keeps}
-use Rattle.rules.specs.laws.Effect.{Effect, Formed, effect, formed-step}
-use Rattle.rules.specs.laws.Links.{Link, Range, ScreensAgree, agree-step, beforeRetire, beforeSwap, link, linkedTo}
+use Rattle.rules.specs.laws.Effect.{Effect, Formed, Range, effect, formed-step}
+use Rattle.rules.specs.laws.Links.{Link, ScreensAgree, agree-step, beforeRetire, beforeSwap, link, linkedTo}
 use Rattle.rules.specs.laws.Links.{take-finds-unlinked, unlinked}
 use Rattle.rules.specs.laws.Lists.{copies-append, matches, matches-at-most-one, matches-other, matches-same}
 use Rattle.rules.specs.laws.OwnDeeds.{own-handed, own-hands-back, own-retires}
@@ -210,7 +210,7 @@ module _ (H : Hall) (f : ℕ → Deed) (sane : (m : ℕ) → Range H (f m))
       → Guard H f d s n (deskOf st d) → Guard H f d s (suc n) (deskOf (step H st c .after) d)
   guard-step n st c formed ok ag q g =
       by-cases (own d (f n)) refl
-      (subst (λ (D : Deed). Effect (allScreens H) (st .shown) (deskOf st d) (deskOf (step H st c .after) d) (own d D)) (sym q) (effect H st d formed hd c))
+      (subst (λ (D : Deed). Effect (allScreens H) (st .shown) (deskOf st d) (deskOf (step H st c .after) d) (own d D)) (sym q) (effect H st formed d hd c))
     where
       below : (r : ℕ) → 1 ≤ g .count r → r < n
       below r h = g .mine r h .0
@@ -285,7 +285,7 @@ module _ (H : Hall) (f : ℕ → Deed) (sane : (m : ℕ) → Range H (f m))
   guard-along (c ∷ cs) st n tells formed ok ag g =
       let q = tells-first tells in
       subst (λ (m : ℕ). Guard H f d s m (deskOf (end H (step H st c .after) cs) d)) (omega arith)
-      (guard-along cs (step H st c .after) (suc n) (tells-rest tells) (formed-step H st d formed hd c) (sound-step H d hS hd st c formed ok)
+      (guard-along cs (step H st c .after) (suc n) (tells-rest tells) (formed-step H st formed c) (sound-step H d hS hd st c formed ok)
       (agree-step H st formed f n ag c q) (guard-step n st c formed (sound-orderly (allScreens H) (deskOf st d) ok) ag q g))
 
 -- An accepted take finds its screen unlinked.
@@ -300,5 +300,5 @@ takes-find-unlinked H f (c ∷ cs) st n tells formed ag zero x y p v t =
 takes-find-unlinked H f (c ∷ cs) st n tells formed ag (suc m) x y p v t =
     let u : suc n + m ≡ n + suc m = omega arith in
     subst (λ (k : ℕ). link H f (screenIndex H x y) k ≡ unlinked) u
-    (takes-find-unlinked H f cs (step H st c .after) (suc n) (tells-rest tells) (formed-step H st 1 formed (omega arith) c)
+    (takes-find-unlinked H f cs (step H st c .after) (suc n) (tells-rest tells) (formed-step H st formed c)
     (agree-step H st formed f n ag c (tells-first tells)) m x y p v (ap f u ∙ t))

@@ -14,8 +14,7 @@ use Rattle.rules.specs.Steps.{Call, Collect, Drop, Retire, Swap, Take, c
 use Rattle.rules.specs.Table.{TableDone, decode, decodeDesk, encodeDesk, everyRecord, hallIn, headerWords, mostWords, need, openQuestions, openTable}
 use Rattle.rules.specs.Table.{openedTable, pieces, positionWord, putRecord, recordOf, recordSound, recordStart, recordWidth, recordsIn, widthFor}
 use Rattle.rules.specs.Table.{screenWord, sound, stepTable, written}
-use Rattle.rules.specs.laws.Effect.{Formed, in-range}
-use Rattle.rules.specs.laws.Links.{desk-fact, drop-facts, position-asked, swap-facts, swap-position-asked, take-facts}
+use Rattle.rules.specs.laws.Effect.{Formed, desk-fact, drop-facts, in-range, position-asked, swap-facts, swap-position-asked, take-facts}
 use Rattle.rules.specs.laws.ScreenIndex.{screen-in}
 use Rattle.rules.specs.laws.SoundTables.{valid}
 use Rattle.rules.specs.laws.TableSteps.{accepted-open, accepted-step, asked, known, refused-open, refused-step, unsound-step}

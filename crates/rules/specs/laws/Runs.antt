@@ -99,7 +99,7 @@ own-lacks-room d D q = rw (q, eq-eqb d d refl)
 -- The state keeps its form.
 pub formed-run : (H : Hall) (cs : List Call) (st : State) → Formed H st → Formed H (end H st cs)
 formed-run H [] st formed = formed
-formed-run H (c ∷ cs) st formed = formed-run H cs (step H st c .after) (formed-step H st 1 formed (omega arith) c)
+formed-run H (c ∷ cs) st formed = formed-run H cs (step H st c .after) (formed-step H st formed c)
 
 -- No screen shows s before any of these calls.
 abbrev pub Hidden : Hall → ℕ → State → List Call → Type 0
@@ -112,7 +112,7 @@ module _ (H : Hall) (d : ℕ) (hS : 1 ≤ allScreens H) (hd : 1 ≤ d) where
       → (i : ℕ) → deedAt (run H st cs) i ≡ lacksRoom d → ⊥
   room-run [] st f formed r sp i q = let o : _≡_ {A = ℕ} 0 1 = cc in omega arith
   room-run (c ∷ cs) st f formed r sp zero q =
-      full (own d (deedAt (run H st (c ∷ cs)) 0)) (own-lacks-room d _ q) (effect H st d formed hd c) f r (sp .since)
+      full (own d (deedAt (run H st (c ∷ cs)) 0)) (own-lacks-room d _ q) (effect H st formed d hd c) f r (sp .since)
     where
       full : (D : Deed) → D ≡ lacksRoom d → Effect (allScreens H) (st .shown) (deskOf st d) (deskOf (step H st c .after) d) D → (f : Bool)
           → Room (allScreens H) (oneIf f) (deskOf st d)
@@ -121,8 +121,8 @@ module _ (H : Hall) (d : ℕ) (hS : 1 ≤ allScreens H) (hd : 1 ≤ d) where
       full D q′ e false r since =
           let e′ = subst (Effect (allScreens H) (st .shown) (deskOf st d) (deskOf (step H st c .after) d)) q′ e in omega (arith, r .total, e′ .room)
   room-run (c ∷ cs) st f formed r sp (suc i) q =
-      room-run cs (step H st c .after) (pending f (own d (deedAt (run H st (c ∷ cs)) 0))) (formed-step H st d formed hd c)
-      (next (own d (deedAt (run H st (c ∷ cs)) 0)) refl (effect H st d formed hd c) f r (sp .since))
+      room-run cs (step H st c .after) (pending f (own d (deedAt (run H st (c ∷ cs)) 0))) (formed-step H st formed c)
+      (next (own d (deedAt (run H st (c ∷ cs)) 0)) refl (effect H st formed d hd c) f r (sp .since))
       (spaced-next d f (record { call = c; answer = step H st c .answer }) (run H (step H st c .after) cs) sp) i q
     where
       next : (D : Deed) → own d (deedAt (run H st (c ∷ cs)) 0) ≡ D → Effect (allScreens H) (st .shown) (deskOf st d) (deskOf (step H st c .after) d) D
@@ -144,7 +144,7 @@ module _ (H : Hall) (d : ℕ) (hS : 1 ≤ allScreens H) (hd : 1 ≤ d) where
 
   -- ---- The desk stays sound.
   pub sound-step : (st : State) (c : Call) → Formed H st → Sound (allScreens H) (deskOf st d) → Sound (allScreens H) (deskOf (step H st c .after) d)
-  sound-step st c formed ok = at (own d (deed c (step H st c .answer .number) (step H st c .answer .session))) (effect H st d formed hd c)
+  sound-step st c formed ok = at (own d (deed c (step H st c .answer .number) (step H st c .answer .session))) (effect H st formed d hd c)
     where
       at : (D : Deed) → Effect (allScreens H) (st .shown) (deskOf st d) (deskOf (step H st c .after) d) D
           → Sound (allScreens H) (deskOf (step H st c .after) d)
@@ -159,7 +159,7 @@ module _ (H : Hall) (d : ℕ) (hS : 1 ≤ allScreens H) (hd : 1 ≤ d) where
 
   pub sound-run : (cs : List Call) (st : State) → Formed H st → Sound (allScreens H) (deskOf st d) → Sound (allScreens H) (deskOf (end H st cs) d)
   sound-run [] st formed ok = ok
-  sound-run (c ∷ cs) st formed ok = sound-run cs (step H st c .after) (formed-step H st d formed hd c) (sound-step st c formed ok)
+  sound-run (c ∷ cs) st formed ok = sound-run cs (step H st c .after) (formed-step H st formed c) (sound-step st c formed ok)
 
   orderly : (st : State) → Sound (allScreens H) (deskOf st d) → Orderly (allScreens H) (deskOf st d)
   orderly st ok = sound-orderly (allScreens H) (deskOf st d) ok
@@ -169,9 +169,9 @@ module _ (H : Hall) (d : ℕ) (hS : 1 ≤ allScreens H) (hd : 1 ≤ d) where
       → retirements d (run H st cs) + usedPlaces (deskOf st d) ≡ handBacks d (run H st cs) + usedPlaces (deskOf (end H st cs) d)
   places-run [] st formed ok = refl
   places-run (c ∷ cs) st formed ok =
-      at (own d (deed c (step H st c .answer .number) (step H st c .answer .session))) (effect H st d formed hd c)
+      at (own d (deed c (step H st c .answer .number) (step H st c .answer .session))) (effect H st formed d hd c)
       (deedsOf d (run H (step H st c .after) cs)) (usedPlaces (deskOf (end H (step H st c .after) cs) d))
-      (places-run cs (step H st c .after) (formed-step H st d formed hd c) (sound-step st c formed ok))
+      (places-run cs (step H st c .after) (formed-step H st formed c) (sound-step st c formed ok))
     where
       at : (D : Deed) → Effect (allScreens H) (st .shown) (deskOf st d) (deskOf (step H st c .after) d) D → (ds : List Deed) (u : ℕ)
           → howMany isRetirement ds + usedPlaces (deskOf (step H st c .after) d) ≡ howMany isHandBack ds + u
@@ -193,9 +193,9 @@ module _ (H : Hall) (d : ℕ) (hS : 1 ≤ allScreens H) (hd : 1 ≤ d) where
       → retirementsOf d s (run H st cs) + copiesOn s (deskOf st d) ≡ handBacksOf d s (run H st cs) + copiesOn s (deskOf (end H st cs) d)
   copies-run s hs [] st formed ok = refl
   copies-run s hs (c ∷ cs) st formed ok =
-      at (own d (deed c (step H st c .answer .number) (step H st c .answer .session))) (effect H st d formed hd c)
+      at (own d (deed c (step H st c .answer .number) (step H st c .answer .session))) (effect H st formed d hd c)
       (deedsOf d (run H (step H st c .after) cs)) (copiesOn s (deskOf (end H (step H st c .after) cs) d))
-      (copies-run s hs cs (step H st c .after) (formed-step H st d formed hd c) (sound-step st c formed ok))
+      (copies-run s hs cs (step H st c .after) (formed-step H st formed c) (sound-step st c formed ok))
     where
       at : (D : Deed) → Effect (allScreens H) (st .shown) (deskOf st d) (deskOf (step H st c .after) d) D → (ds : List Deed) (u : ℕ)
           → howMany (isRetirementOf s) ds + copiesOn s (deskOf (step H st c .after) d) ≡ howMany (isHandBackOf s) ds + u
@@ -219,9 +219,9 @@ module _ (H : Hall) (d : ℕ) (hS : 1 ≤ allScreens H) (hd : 1 ≤ d) where
       → collectsOf d (run H st cs) ≡ B → copiesOn s (deskOf (end H st cs) d) ≤ retirementsOf d s (run H st cs) + m
   due-run s [] st B m formed ok du hid hc = omega (arith, due-end (allScreens H) s m (deskOf st d) hS (orderly st ok) (rw (← hc) at du))
   due-run s (c ∷ cs) st B m formed ok du hid hc =
-      at (own d (deed c (step H st c .answer .number) (step H st c .answer .session))) (effect H st d formed hd c)
+      at (own d (deed c (step H st c .answer .number) (step H st c .answer .session))) (effect H st formed d hd c)
       (deedsOf d (run H (step H st c .after) cs)) (copiesOn s (deskOf (end H (step H st c .after) cs) d)) B du hc
-      (λ B′ m′ du′ hc′. due-run s cs (step H st c .after) B′ m′ (formed-step H st d formed hd c) (sound-step st c formed ok) du′ (hid .1) hc′)
+      (λ B′ m′ du′ hc′. due-run s cs (step H st c .after) B′ m′ (formed-step H st formed c) (sound-step st c formed ok) du′ (hid .1) hc′)
     where
       at : (D : Deed) → Effect (allScreens H) (st .shown) (deskOf st d) (deskOf (step H st c .after) d) D → (ds : List Deed) (u B : ℕ)
           → Due (allScreens H) s B m (deskOf st d) → howMany isCollect (D ∷ ds) ≡ B

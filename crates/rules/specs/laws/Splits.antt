@@ -11,8 +11,7 @@ use Rattle.rules.specs.Hall.{Hall, State}
 use Rattle.rules.specs.History.{Deed, collects, deedAt, deedsOf, drops, handBacksOf, handsBack, howMany, isHandBackOf, isRetirementOf}
 use Rattle.rules.specs.History.{lacksRoom, nothing, oneIf, own, retirementsOf, retires, swaps, takes}
 use Rattle.rules.specs.Steps.{Call, Event, end, run, step}
-use Rattle.rules.specs.laws.Effect.{Formed, formed-step}
-use Rattle.rules.specs.laws.Links.{Range, range-step}
+use Rattle.rules.specs.laws.Effect.{Formed, Range, formed-step, range-step}
 use Rattle.rules.specs.laws.OwnDeeds.{Own, othersDeed, own-cases, ownDeed}
 
 pub run-take : (H : Hall) (i : ℕ) (cs : List Call) (st : State) → take i (run H st cs) ≡ run H st (take i cs)
@@ -68,7 +67,7 @@ deeds-past H (c ∷ cs) st (suc a) h = deeds-past H cs (step H st c .after) a (o
 pub range-run : (H : Hall) (cs : List Call) (st : State) → Formed H st → (m : ℕ) → Range H (deedAt (run H st cs) m)
 range-run H [] st formed m = tt
 range-run H (c ∷ cs) st formed zero = range-step H st formed c
-range-run H (c ∷ cs) st formed (suc m) = range-run H cs (step H st c .after) (formed-step H st 1 formed (omega arith) c) m
+range-run H (c ∷ cs) st formed (suc m) = range-run H cs (step H st c .after) (formed-step H st formed c) m
 
 -- and so a desk that the hall does not have does nothing
 module _ (H : Hall) (d : ℕ) (outside : (1 ≤ d) × (d ≤ H .desks) → ⊥) where
@@ -94,7 +93,7 @@ module _ (H : Hall) (d : ℕ) (outside : (1 ≤ d) × (d ≤ H .desks) → ⊥) 
         arith,
         ap (λ (D : Deed). oneIf (test D)) (outsider (deedAt (run H st (c ∷ cs)) 0) (range-step H st formed c)),
         ap oneIf none,
-        outsider-counts test none cs (step H st c .after) (formed-step H st 1 formed (omega arith) c),
+        outsider-counts test none cs (step H st c .after) (formed-step H st formed c),
       )
 
 -- Session 0 is neither retired nor handed back.
@@ -120,5 +119,5 @@ pub no-session-zero : (H : Hall) (cs : List Call) (st : State) → Formed H st �
 no-session-zero H [] st formed d = (refl, refl)
 no-session-zero H (c ∷ cs) st formed d =
     let n = range-not-zero H d (deedAt (run H st (c ∷ cs)) 0) (range-step H st formed c) in
-    let ih = no-session-zero H cs (step H st c .after) (formed-step H st 1 formed (omega arith) c) d in
+    let ih = no-session-zero H cs (step H st c .after) (formed-step H st formed c) d in
     (omega (arith, ap oneIf (n .0), ih .0), omega (arith, ap oneIf (n .1), ih .1))

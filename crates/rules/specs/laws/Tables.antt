@@ -17,9 +17,8 @@ use Rattle.rules.specs.Table.{TableDone, decode, decodeDesk, encode, enc
 use Rattle.rules.specs.Table.{listPlace, openedTable, pieces, positionWord, putRecord, recordOf, recordSound, recordStart, recordWidth, recordsIn}
 use Rattle.rules.specs.Table.{runTable, screenWord, sound, stepIf, stepTable, written}
 use Rattle.rules.specs.laws.Bools.{and-true}
-use Rattle.rules.specs.laws.Effect.{Formed, formed-step, in-range, retire-questions}
+use Rattle.rules.specs.laws.Effect.{Formed, formed-step, holds, in-range, retire-questions}
 use Rattle.rules.specs.laws.Encoding.{desk-read-back}
-use Rattle.rules.specs.laws.Links.{holds}
 use Rattle.rules.specs.laws.Parts.{get-mid, put-mid, set-mid, take-mid}
 use Rattle.rules.specs.laws.ScreenIndex.{screen-in}
 use Rattle.rules.specs.laws.Sound.{Sound, collect-sound, encoded-sound, length-list, retire-sound, sound-owe}
@@ -65,7 +64,7 @@ module _ (H : Hall) (opens : Opens H) where
 
   pub valid-step : (st : State) (c : Call) → Valid H st → Valid H (step H st c .after)
   valid-step st c v = record {
-    formed = formed-step H st 1 (v .formed) (omega arith) c;
+    formed = formed-step H st (v .formed) c;
     held = lh (firstNo (questions H st c)) c;
     desks = by-cases (firstNo (questions H st c)) c refl;
   }

@@ -121,7 +121,7 @@ module _ (H : Hall) (f : ℕ → Deed) (n : ℕ) where
       → sumOver (live H f n (suc k)) us ≤ sumOver (live H f n k) us + matches s (getD (st .shown) k 0)
   one-screen-more d s st ag us one mine k h = omega (arith, sum-max (live H f n k) (λ r. ties r (link H f k n)) us, by-cases (link H f k n) (ag k h))
     where
-      by-cases : (l : Link) → Agree f (st .held) (st .desks) (getD (st .shown) k 0) l → sumOver (λ r. ties r l) us ≤ matches s (getD (st .shown) k 0)
+      by-cases : (l : Link) → Agree f st (getD (st .shown) k 0) l → sumOver (λ r. ties r l) us ≤ matches s (getD (st .shown) k 0)
       by-cases unlinked a = omega (arith, sum-none us)
       by-cases (beforeSwap p) a = omega (arith, sum-none us)
       by-cases (beforeRetire e) a = omega (arith, sum-none us)

@@ -9,7 +9,8 @@ use borrow.Author.Tests.{eqb-true, eqb-false, eq-eqb, ne-eqb}
 use Rattle.rules.specs.Hall.{Hall, screenIndex}
 use Rattle.rules.specs.History.{Deed, DroppedBefore, NextDrop, NextRetire, NextSwap, collects, drops, handsBack, lacksRoom, nothing, retires}
 use Rattle.rules.specs.History.{swaps, takes}
-use Rattle.rules.specs.laws.Links.{Link, Range, beforeRetire, beforeSwap, link, linkedTo, next, unlinked}
+use Rattle.rules.specs.laws.Effect.{Range}
+use Rattle.rules.specs.laws.Links.{Link, beforeRetire, beforeSwap, link, linkedTo, next, unlinked}
 use Rattle.rules.specs.laws.ScreenIndex.{screen-same}
 
 -- How far a take at position p has come, with its swap, by desk e, at place j and its retirement at place r.

@@ -15,10 +15,9 @@ use Rattle.rules.specs.Steps.{Call, Collect, Drop, Question, Retire, Swa
 use Rattle.rules.specs.Table.{TableDone, allMarks, decode, decodeDesk, encode, encodeDesk, hallIn, listOf, marksIn, marksOf, need, openQuestions}
 use Rattle.rules.specs.Table.{openTable, openedTable, placesOf, positionWord, putRecord, recordOf, recordStart, recordWidth, screenWord, sound}
 use Rattle.rules.specs.Table.{headerWords, listPlace, markWords, stepTable, wordOfBits, wordsOfBits, written}
-use Rattle.rules.specs.laws.Collect.{collect-copies, copiesOn, retire-copies}
+use Rattle.rules.specs.laws.Collect.{collect-copies, copiesOn, owed-collect, retire-copies}
 use Rattle.rules.specs.laws.Decoding.{small-drop, small-take}
-use Rattle.rules.specs.laws.Effect.{in-range, retire-questions}
-use Rattle.rules.specs.laws.Links.{holds, owed-collect}
+use Rattle.rules.specs.laws.Effect.{holds, in-range, retire-questions}
 use Rattle.rules.specs.laws.Lists.{matches, matches-other, matches-same}
 use Rattle.rules.specs.laws.Marks.{testedCopies}
 use Rattle.rules.specs.laws.Sound.{ScanFits, Sound, collect-sound, copies-list, retire-sound, sound-orderly}
