@@ -1,22 +1,21 @@
 -- The retirements of one session by one desk that are not handed back, one for each copy on the desk's list;
 -- those that a screen is linked to are no more than the copies tested and waiting.
-use Prim.Native.Nat.{ℕ, zero, suc, _+_, _≤_, _<_, min, max}
+use Prim.Native.Nat.{ℕ, zero, suc, _+_, _≤_, _<_, max}
 use native.Mathlib.Omega.{arith}
 use native.Mathlib.Decide.{ℕ-discrete, decLt, decLe}
-use mathlib.Core.Path.{_≡_, refl, sym, ap, _∙_, subst}
+use mathlib.Core.Path.{_≡_, refl, ap, subst}
 use mathlib.Core.Bool.{Bool, true, false, cond}
 use mathlib.Core.List.{List, [], _∷_, _++_}
 use lib.ListN.{length, getD, take, drop, length-append, drop-of-length-le}
 use lib.Seq.{drop-cons}
 use lib.Dec.{eqb}
-use borrow.Author.Tests.{eqb-true, eqb-false}
-use Rattle.rules.specs.Hall.{Desk, Hall, State, TestedPlace, allScreens, marked, screenIndex, unmarked}
+use Rattle.rules.specs.Hall.{Desk, Hall, State, TestedPlace, allScreens, screenIndex}
 use Rattle.rules.specs.History.{Deed, collects, copies, drops, handsBack, lacksRoom, nothing, retires, swaps, takes}
 use Rattle.rules.specs.Steps.{begin, beginAt, handBack, mark, markEach, markedOf, nextScreens, readScreens, scan, settle, settleIf, unmarkedOf}
 use Rattle.rules.specs.laws.Collect.{Scanning, by-scan, copiesOn}
 use Rattle.rules.specs.laws.Links.{Agree, Link, ScreensAgree, beforeRetire, beforeSwap, link, linkedTo, next, unlinked}
-use Rattle.rules.specs.laws.Lists.{copies-append, matches, matches-at-most-one, matches-other, matches-same}
-use Rattle.rules.specs.laws.Marks.{tested-copies-begin, tested-copies-mark, tested-copies-mark-each, testedCopies}
+use Rattle.rules.specs.laws.Lists.{copies-append, matches, matches-other, matches-same}
+use Rattle.rules.specs.laws.Marks.{mark-finds-a-copy, tested-copies-begin, tested-copies-mark, tested-copies-mark-each, testedCopies}
 
 -- 1 if the screen is linked to the retirement at r
 abbrev pub ties : ℕ → Link → ℕ
@@ -130,26 +129,6 @@ module _ (H : Hall) (f : ℕ → Deed) (n : ℕ) where
           at : Dec (1 ≤ copies q us) → sumOver (λ r. matches q r) us ≤ matches s (getD (st .shown) k 0)
           at (yes t) = let v : getD (st .shown) k 0 ≡ s = a .1 d s (mine q t) in rw v (omega (arith, sum-linked q us, one q, matches-same s))
           at (no t) = omega (arith, sum-linked q us)
-
--- A reading marks a copy of what it reads, if one is left.
-apart : (s v x : ℕ) → (v ≡ x → ⊥) → matches s v + matches s x ≤ 1
-apart s v x h = by-cases (ℕ-discrete s v) (ℕ-discrete s x)
-  where
-    by-cases : Dec (s ≡ v) → Dec (s ≡ x) → matches s v + matches s x ≤ 1
-    by-cases (yes a) (yes b) = absurd (h (sym a ∙ b))
-    by-cases (yes a) (no b) = omega (arith, matches-at-most-one s v, matches-other s x b)
-    by-cases (no a) c = omega (arith, matches-other s v a, matches-at-most-one s x)
-
-pub mark-finds-a-copy : (s v : ℕ) (ps : List TestedPlace)
-    → min (copies s (markedOf ps) + matches s v) (testedCopies s ps) ≤ copies s (markedOf (mark v ps))
-mark-finds-a-copy s v [] = omega arith
-mark-finds-a-copy s v (marked x ∷ ps) = omega (arith, mark-finds-a-copy s v ps)
-mark-finds-a-copy s v (unmarked x ∷ ps) = by-cases (eqb v x) refl (mark-finds-a-copy s v ps)
-  where
-    by-cases : (b : Bool) → eqb v x ≡ b → min (copies s (markedOf ps) + matches s v) (testedCopies s ps) ≤ copies s (markedOf (mark v ps))
-        → min (copies s (markedOf ps) + matches s v) (testedCopies s (unmarked x ∷ ps)) ≤ copies s (markedOf (cond b (marked x ∷ ps) (unmarked x ∷ mark v ps)))
-    by-cases true q ih = omega (arith, ap (matches s) (eqb-true v x q))
-    by-cases false q ih = omega (arith, apart s v x (eqb-false v x q))
 
 marks-cover-reads : (s : ℕ) (g : ℕ → ℕ) (shown : List ℕ) (m k : ℕ) (ps : List TestedPlace)
     → ((j : ℕ) → j < length shown → g (suc j) ≤ g j + matches s (getD shown j 0)) → ((j : ℕ) → j ≤ length shown → g j ≤ testedCopies s ps)
