@@ -1,4 +1,5 @@
--- Collect and retire at one desk: no session is lost or made, and the list stays in order.
+-- Collect and retire at one desk, the counting law of one call: no part of a collect loses or makes a session but the hand-back, which
+-- takes one, and a retire adds one. The list stays in order.
 use Prim.Native.Nat.{ℕ, suc, _+_, _*_, _≤_, _<_}
 use native.Mathlib.Omega.{arith}
 use mathlib.Core.Path.{_≡_, refl, sym, ap, _∙_}
@@ -18,92 +19,92 @@ use Rattle.rules.specs.laws.Marks.{unmarked-and-marked}
 abbrev pub copiesOn : ℕ → Desk → ℕ
 copiesOn s D = copies s (D .ready) + testedCopies s (D .tested) + copies s (D .waiting)
 
--- A pass: how far it has gone.
+-- How far the reading has gone: not begun with nothing tested, and else not at its end.
 abbrev pub Scanning : ℕ → ℕ → List TestedPlace → Type 0
 Scanning S k [] = k ≡ 0
 Scanning S k (p ∷ ps) = k < S
 
+-- What every desk of a history keeps, and these laws need.
 pub record Orderly (S : ℕ) (D : Desk) : Type 0 where
   pub total : usedPlaces D ≤ 2 * S
   pub real : copiesOn 0 D ≡ 0
   pub going : Scanning S (D .scanned) (D .tested)
 
--- (b) and (c), by cases: nothing tested, the pass goes on, the pass ends.
+-- (b), where some are tested: the next screens are read.
+abbrev pub readOn : List ℕ → Desk → Desk
+readOn shown A = readScreens (nextScreens shown A) A
+
+-- (b) and (c), by cases: nothing is tested, the reading goes on, the reading ends.
 pub by-scan : (Q : Desk → Type 0) (S : ℕ) (shown : List ℕ) (A : Desk) → 1 ≤ S → length shown ≡ S → Scanning S (A .scanned) (A .tested)
     → (A .tested ≡ [] → Q A)
-    → (1 ≤ length (A .tested) → length (nextScreens shown A) ≡ 2 → A .scanned + 2 < S → Q (readScreens (nextScreens shown A) A))
-    → (1 ≤ length (A .tested) → A .scanned < S → S ≤ A .scanned + 2 → A .scanned + length (nextScreens shown A) ≡ S → Q (settleIf true (readScreens (nextScreens shown A) A)))
+    → (1 ≤ length (A .tested) → length (nextScreens shown A) ≡ 2 → A .scanned + 2 < S → Q (readOn shown A))
+    → (1 ≤ length (A .tested) → A .scanned < S → S ≤ A .scanned + 2 → A .scanned + length (nextScreens shown A) ≡ S → Q (settleIf true (readOn shown A)))
     → Q (settle S (scan shown A))
 by-scan Q S shown A hS hl g rest on over = at (A .tested) refl g
   where
     at : (t : List TestedPlace) → A .tested ≡ t → Scanning S (A .scanned) t → Q (settle S (scanAt t (nextScreens shown A) A))
-    at [] e h = at0 (eqb (A .scanned) S) refl
+    at [] e h = idle (eqb (A .scanned) S) refl
       where
-        at0 : (b : Bool) → eqb (A .scanned) S ≡ b → Q (settleIf b A)
-        at0 true q = absurd (omega (arith, eqb-true (A .scanned) S q))
-        at0 false q = rest e
-    at (p ∷ ps) e h = at1 (eqb (A .scanned + length (nextScreens shown A)) S) refl
+        idle : (b : Bool) → eqb (A .scanned) S ≡ b → Q (settleIf b A)
+        idle true q = absurd (omega (arith, eqb-true (A .scanned) S q))
+        idle false q = rest e
+    at (p ∷ ps) e h = reading (eqb (A .scanned + length (nextScreens shown A)) S) refl
       where
-        at1 : (b : Bool) → eqb (A .scanned + length (nextScreens shown A)) S ≡ b → Q (settleIf b (readScreens (nextScreens shown A) A))
-        at1 true q =
+        some : 1 ≤ length (A .tested)
+        some = omega (arith, ap length e)
+
+        reading : (b : Bool) → eqb (A .scanned + length (nextScreens shown A)) S ≡ b → Q (settleIf b (readOn shown A))
+        reading true q =
             let ls = length-next-screens (A .scanned) shown in
             let ks = eqb-true (A .scanned + length (nextScreens shown A)) S q in
-            let le = ap length e in
-            over (omega arith) h (omega arith) ks
-        at1 false q =
+            over some h (omega arith) ks
+        reading false q =
             let ls = length-next-screens (A .scanned) shown in
             let nk = eqb-false (A .scanned + length (nextScreens shown A)) S q in
-            let le = ap length e in
-            on (omega arith) (omega arith) (omega arith)
+            on some (omega arith) (omega arith)
 
--- (a) moves the waiting ones, and changes no count.
-pub record BeginKeeps (S : ℕ) (D A : Desk) : Type 0 where
-  pub total : usedPlaces A ≡ usedPlaces D
-  pub copy : (s : ℕ) → copiesOn s A ≡ copiesOn s D
-  pub ready : A .ready ≡ D .ready
-  pub going : Scanning S (A .scanned) (A .tested)
+-- No place and no copy more or less, and the reading still in order.
+pub record Keeps (S : ℕ) (D E : Desk) : Type 0 where
+  pub total : usedPlaces E ≡ usedPlaces D
+  pub copy : (s : ℕ) → copiesOn s E ≡ copiesOn s D
+  pub going : Scanning S (E .scanned) (E .tested)
 
+-- (a)
 going-free : (S k : ℕ) (w : List ℕ) → 1 ≤ S → k ≡ 0 → Scanning S k (map unmarked w)
 going-free S k [] hS h = h
 going-free S k (x ∷ w) hS h = omega arith
 
-pub begin-keeps : (S : ℕ) (D : Desk) → 1 ≤ S → Orderly S D → BeginKeeps S D (begin D)
+pub begin-keeps : (S : ℕ) (D : Desk) → 1 ≤ S → Orderly S D → Keeps S D (begin D)
 begin-keeps S D hS ok = by-cases (D .tested) refl (ok .going)
   where
-    by-cases : (t : List TestedPlace) → D .tested ≡ t → Scanning S (D .scanned) t → BeginKeeps S D (beginAt t D)
+    by-cases : (t : List TestedPlace) → D .tested ≡ t → Scanning S (D .scanned) t → Keeps S D (beginAt t D)
     by-cases [] e g = record {
-      total = let le = ap length e in let lm = length-map (D .waiting) unmarked in omega arith;
-      copy = λ s. (let be = ap (testedCopies s) e in let bf = tested-copies-begin s (D .waiting) in omega arith);
-      ready = refl;
+      total = omega (arith, ap length e, length-map (D .waiting) unmarked);
+      copy = λ s. omega (arith, ap (testedCopies s) e, tested-copies-begin s (D .waiting));
       going = going-free S (D .scanned) (D .waiting) hS g;
     }
-    by-cases (p ∷ ps) e g = record { total = refl; copy = λ s. refl; ready = refl; going = ok .going }
+    by-cases (p ∷ ps) e g = record { total = refl; copy = λ s. refl; going = ok .going }
 
--- (b) and (c) change no count.
-pub record ScanKeeps (S : ℕ) (A X : Desk) : Type 0 where
-  pub total : usedPlaces X ≡ usedPlaces A
-  pub copy : (s : ℕ) → copiesOn s X ≡ copiesOn s A
-  pub going : Scanning S (X .scanned) (X .tested)
-
-pub scan-keeps : (S : ℕ) (shown : List ℕ) (A : Desk) → 1 ≤ S → length shown ≡ S → Scanning S (A .scanned) (A .tested)
-    → ScanKeeps S A (settle S (scan shown A))
-scan-keeps S shown A hS hl g = by-scan (ScanKeeps S A) S shown A hS hl g (λ e. record { total = refl; copy = λ s. refl; going = g }) on over
+-- (b) and (c)
+scan-keeps : (S : ℕ) (shown : List ℕ) (A : Desk) → 1 ≤ S → length shown ≡ S → Scanning S (A .scanned) (A .tested)
+    → Keeps S A (settle S (scan shown A))
+scan-keeps S shown A hS hl g = by-scan (Keeps S A) S shown A hS hl g (λ e. record { total = refl; copy = λ s. refl; going = g }) on over
   where
     busy : (t : List TestedPlace) (k : ℕ) → 1 ≤ length t → k < S → Scanning S k t
     busy [] k h l = absurd (omega arith)
     busy (p ∷ ps) k h l = l
 
-    on : 1 ≤ length (A .tested) → length (nextScreens shown A) ≡ 2 → A .scanned + 2 < S → ScanKeeps S A (readScreens (nextScreens shown A) A)
+    on : 1 ≤ length (A .tested) → length (nextScreens shown A) ≡ 2 → A .scanned + 2 < S → Keeps S A (readOn shown A)
     on h1 h2 h3 =
         let lw = length-mark-each (nextScreens shown A) (A .tested) in
         record {
           total = omega arith;
-          copy = λ s. (let bs = tested-copies-mark-each s (nextScreens shown A) (A .tested) in omega arith);
+          copy = λ s. omega (arith, tested-copies-mark-each s (nextScreens shown A) (A .tested));
           going = busy (markEach (nextScreens shown A) (A .tested)) (A .scanned + length (nextScreens shown A)) (omega arith) (omega arith);
         }
 
     over : 1 ≤ length (A .tested) → A .scanned < S → S ≤ A .scanned + 2 → A .scanned + length (nextScreens shown A) ≡ S
-        → ScanKeeps S A (settleIf true (readScreens (nextScreens shown A) A))
+        → Keeps S A (settleIf true (readOn shown A))
     over h1 h2 h3 h4 =
         let t = markEach (nextScreens shown A) (A .tested) in
         let lw = length-mark-each (nextScreens shown A) (A .tested) in
@@ -112,26 +113,26 @@ scan-keeps S shown A hS hl g = by-scan (ScanKeeps S A) S shown A hS hl g (λ e. 
         let lb = length-append (markedOf t) (A .waiting) in
         record {
           total = omega arith;
-          copy =
-              λ s. (let bs = tested-copies-mark-each s (nextScreens shown A) (A .tested) in let ca = copies-append s (A .ready) (unmarkedOf t) in let cb = copies-append s (markedOf t) (A .waiting) in omega arith);
+          copy = λ s. omega (
+            arith,
+            tested-copies-mark-each s (nextScreens shown A) (A .tested),
+            copies-append s (A .ready) (unmarkedOf t),
+            copies-append s (markedOf t) (A .waiting),
+          );
           going = refl;
         }
 
--- What a collect leaves: the counts before the hand-back.
+-- (a) to (c): all of a collect but the hand-back
 abbrev pub beforeHandBack : ℕ → List ℕ → Desk → Desk
 beforeHandBack S shown D = settle S (scan shown (begin D))
 
-pub record BeforeHandBack (S : ℕ) (D X : Desk) : Type 0 where
-  pub total : usedPlaces X ≡ usedPlaces D
-  pub copy : (s : ℕ) → copiesOn s X ≡ copiesOn s D
-  pub going : Scanning S (X .scanned) (X .tested)
-
-pub before-hand-back : (S : ℕ) (shown : List ℕ) (D : Desk) → 1 ≤ S → length shown ≡ S → Orderly S D → BeforeHandBack S D (beforeHandBack S shown D)
+before-hand-back : (S : ℕ) (shown : List ℕ) (D : Desk) → 1 ≤ S → length shown ≡ S → Orderly S D → Keeps S D (beforeHandBack S shown D)
 before-hand-back S shown D hS hl ok =
     let b = begin-keeps S D hS ok in
     let p = scan-keeps S shown (begin D) hS hl (b .going) in
     record { total = p .total ∙ b .total; copy = λ s. p .copy s ∙ b .copy s; going = p .going }
 
+-- (d)
 first-leaves-copies : (s : ℕ) (r : List ℕ) → (s ≡ 0 → ⊥) → copies s (drop 1 r) + matches s (getD r 0 0) ≡ copies s r
 first-leaves-copies s [] h = omega (arith, matches-other s 0 h)
 first-leaves-copies s (x ∷ r) h = omega arith
@@ -168,6 +169,7 @@ collect-places S shown D hS hl ok =
     let hz : copies 0 (X .ready) ≡ 0 = omega (arith, b .copy 0, ok .real) in
     omega (arith, b .total, first-leaves-length (X .ready) hz)
 
+-- Retire.
 pub retire-orderly : (S : ℕ) (D : Desk) → (D .owed ≡ 0 → ⊥) → usedPlaces D < 2 * S → Orderly S D → Orderly S (retire D)
 retire-orderly S D h l ok = record {
   total = omega (arith, length-append (D .waiting) (D .owed ∷ []));

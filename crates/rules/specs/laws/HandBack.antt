@@ -8,9 +8,9 @@ use lib.ListN.{length, drop, length-append, length-map}
 use Rattle.rules.specs.Demands.{exactBound, readings}
 use Rattle.rules.specs.Hall.{Desk, TestedPlace, unmarked, usedPlaces}
 use Rattle.rules.specs.History.{copies}
-use Rattle.rules.specs.Steps.{begin, beginAt, collect, handBack, markEach, markedOf, nextScreens, readScreens, retire, scan, settle, settleIf}
+use Rattle.rules.specs.Steps.{begin, beginAt, collect, handBack, markEach, markedOf, nextScreens, owe, retire, scan, settle, settleIf}
 use Rattle.rules.specs.Steps.{unmarkedOf}
-use Rattle.rules.specs.laws.Collect.{Orderly, Scanning, begin-keeps, by-scan, copiesOn}
+use Rattle.rules.specs.laws.Collect.{readOn, Orderly, Scanning, begin-keeps, by-scan, copiesOn}
 use Rattle.rules.specs.laws.Lists.{copies-append, copies-drop-append, copies-past-end, drop-after-first, matches}
 use Rattle.rules.specs.laws.Marks.{copies-next-screens, length-mark-each, marked-copies-begin, marked-copies-mark-each, tested-copies-begin}
 use Rattle.rules.specs.laws.Marks.{tested-copies-mark-each, testedCopies, unmarked-and-marked}
@@ -93,7 +93,7 @@ due-scan S s B m shown A hS hl hid tot g nil d = by-scan (λ (X : Desk). Due S s
     rest (isReady a) e = isReady (rw drop-after-first a)
 
     on : Due S s (suc B) m A → 1 ≤ length (A .tested) → length (nextScreens shown A) ≡ 2 → A .scanned + 2 < S
-        → Due S s B m (handBack (readScreens (nextScreens shown A) A) .after)
+        → Due S s B m (handBack (readOn shown A) .after)
     on (thisReading a1 ae a2) h1 h2 h3 = thisReading (omega (arith, length-mark-each (nextScreens shown A) (A .tested))) (omega arith) (omega arith)
     on (noReading a1 a2) h1 h2 h3 = absurd (omega (arith, ap length a1))
     on (nextReading a1 ae a2 a3 a4) h1 h2 h3 =
@@ -102,7 +102,7 @@ due-scan S s B m shown A hS hl hid tot g nil d = by-scan (λ (X : Desk). Due S s
     on (isReady a) h1 h2 h3 = isReady (rw drop-after-first (omega (arith, tested-copies-mark-each s (nextScreens shown A) (A .tested))))
 
     over : Due S s (suc B) m A → 1 ≤ length (A .tested) → A .scanned < S → S ≤ A .scanned + 2 → A .scanned + length (nextScreens shown A) ≡ S
-        → Due S s B m (handBack (settleIf true (readScreens (nextScreens shown A) A)) .after)
+        → Due S s B m (handBack (settleIf true (readOn shown A)) .after)
     over (thisReading a1 ae a2) h1 h2 h3 h4 = noReading refl (omega arith)
     over (noReading a1 a2) h1 h2 h3 h4 = absurd (omega (arith, ap length a1))
     over (nextReading a1 ae a2 a3 a4) h1 h2 h3 h4 =
@@ -126,3 +126,10 @@ pub due-collect : (S s B m : ℕ) (shown : List ℕ) (D : Desk) → 1 ≤ S → 
 due-collect S s B m shown D hS hl hid ok d =
     let b = begin-keeps S D hS ok in
     due-scan S s B m shown (begin D) hS hl hid (omega (arith, b .total, ok .total)) (b .going) (none-left D) (due-begin S s B m D hS ok d)
+
+-- What a swap makes the desk owe has no part in it.
+pub due-owe : (S s B m o : ℕ) (D : Desk) → Due S s B m D → Due S s B m (owe D o)
+due-owe S s B m o D (thisReading a b c) = thisReading a b c
+due-owe S s B m o D (noReading a b) = noReading a b
+due-owe S s B m o D (nextReading a b c d e) = nextReading a b c d e
+due-owe S s B m o D (isReady a) = isReady a

@@ -11,8 +11,8 @@ use lib.Seq.{drop-cons}
 use lib.Dec.{eqb}
 use Rattle.rules.specs.Hall.{Desk, Hall, State, TestedPlace, allScreens, screenIndex}
 use Rattle.rules.specs.History.{Deed, collects, copies, drops, handsBack, lacksRoom, nothing, retires, swaps, takes}
-use Rattle.rules.specs.Steps.{begin, beginAt, handBack, mark, markEach, markedOf, nextScreens, readScreens, scan, settle, settleIf, unmarkedOf}
-use Rattle.rules.specs.laws.Collect.{Scanning, by-scan, copiesOn}
+use Rattle.rules.specs.Steps.{begin, beginAt, handBack, mark, markEach, markedOf, nextScreens, scan, settle, settleIf, unmarkedOf}
+use Rattle.rules.specs.laws.Collect.{readOn, Scanning, by-scan, copiesOn}
 use Rattle.rules.specs.laws.Links.{Agree, Link, ScreensAgree, beforeRetire, beforeSwap, link, linkedTo, next, unlinked}
 use Rattle.rules.specs.laws.Lists.{copies-append, matches, matches-other, matches-same}
 use Rattle.rules.specs.laws.Marks.{mark-finds-a-copy, tested-copies-begin, tested-copies-mark, tested-copies-mark-each, testedCopies}
@@ -232,7 +232,7 @@ module _ (H : Hall) (f : ℕ → Deed) (d s n : ℕ) (count : ℕ → ℕ) where
           (omega arith) (t .held .marks)
 
       on : 1 ≤ length (A .tested) → length (nextScreens (st .shown) A) ≡ 2 → A .scanned + 2 < allScreens H
-          → Tokens H f s n (readScreens (nextScreens (st .shown) A) A) count
+          → Tokens H f s n (readOn (st .shown) A) count
       on h1 h2 h3 =
           let b = tested-copies-mark-each s (nextScreens (st .shown) A) (A .tested) in
           let h = t .held in
@@ -245,7 +245,7 @@ module _ (H : Hall) (f : ℕ → Deed) (d s n : ℕ) (count : ℕ → ℕ) where
 
       over : 1 ≤ length (A .tested) → A .scanned < allScreens H → allScreens H ≤ A .scanned + 2
           → A .scanned + length (nextScreens (st .shown) A) ≡ allScreens H
-          → Tokens H f s n (settleIf true (readScreens (nextScreens (st .shown) A) A)) count
+          → Tokens H f s n (settleIf true (readOn (st .shown) A)) count
       over h1 h2 h3 h4 =
           let ps = markEach (nextScreens (st .shown) A) (A .tested) in
           let b = tested-copies-mark-each s (nextScreens (st .shown) A) (A .tested) in
