@@ -12,36 +12,40 @@ use Rattle.rules.specs.Steps.{Call, end, run}
 use Rattle.rules.specs.laws.Effect.{Range}
 use Rattle.rules.specs.laws.Fresh.{fresh-copies, fresh-formed, fresh-sound}
 use Rattle.rules.specs.laws.Links.{ScreensAgree, link, unlinked}
-use Rattle.rules.specs.laws.Pairing.{Good, Guard, guard-along, takes-find-unlinked}
+use Rattle.rules.specs.laws.Pairing.{MayPair, Guard, guard-along, takes-find-unlinked}
 use Rattle.rules.specs.laws.Splits.{deeds-past, range-run, tells-itself}
 
 -- A pairing for one desk and one session.
-record Works (f : ℕ → Deed) (d s : ℕ) (p : ℕ → ℕ) : Type 0 where
-  good : (a : ℕ) → f a ≡ handsBack d s → Good f d s a (p a)
+record Pairs (f : ℕ → Deed) (d s : ℕ) (p : ℕ → ℕ) : Type 0 where
+  good : (a : ℕ) → f a ≡ handsBack d s → MayPair f d s a (p a)
   once : (a b : ℕ) → f a ≡ handsBack d s → f b ≡ handsBack d s → p a ≡ p b → a ≡ b
 
 module _ (H : Hall) (some : 1 ≤ allScreens H) (cs : List Call) where
   abbrev f : ℕ → Deed
   f = deedAt (run H (fresh H) cs)
 
-  agree0 : ScreensAgree H f 0 (fresh H)
-  agree0 x h = getD-replicate (allScreens H) x 0 0 h
+  fresh-agree : ScreensAgree H f 0 (fresh H)
+  fresh-agree x h = getD-replicate (allScreens H) x 0 0 h
 
-  sane : (m : ℕ) → Range H (f m)
-  sane = range-run H cs (fresh H) (fresh-formed H)
+  in-hall : (m : ℕ) → Range H (f m)
+  in-hall = range-run H cs (fresh H) (fresh-formed H)
 
-  calm : (i x c p v : ℕ) → f i ≡ takes x c p v → link H f (screenIndex H x c) i ≡ unlinked
-  calm i x c p v t =
+  finds-free : (i x c p v : ℕ) → f i ≡ takes x c p v → link H f (screenIndex H x c) i ≡ unlinked
+  finds-free i x c p v t =
       let e : 0 + i ≡ i = omega arith in
       subst (λ (k : ℕ). link H f (screenIndex H x c) k ≡ unlinked) e
-      (takes-find-unlinked H f cs (fresh H) 0 (tells-itself (run H (fresh H) cs)) (fresh-formed H) agree0 i x c p v (ap f e ∙ t))
+      (takes-find-unlinked H f cs (fresh H) 0 (tells-itself (run H (fresh H) cs)) (fresh-formed H) fresh-agree i x c p v (ap f e ∙ t))
 
   guard : (d s : ℕ) → 1 ≤ d → (s ≡ 0 → ⊥) → Guard H f d s (0 + length cs) (deskOf (end H (fresh H) cs) d)
-  guard d s h hs = guard-along H f sane calm some d s h hs cs (fresh H) 0 (tells-itself (run H (fresh H) cs)) (fresh-formed H) (fresh-sound H d) agree0
+  guard d s h hs = guard-along H f in-hall finds-free some d s h hs cs (fresh H) 0 (tells-itself (run H (fresh H) cs)) (fresh-formed H) (fresh-sound H d) fresh-agree
       (record {
         count = λ r. 0;
-        tokens =
-            record { old = []; new = []; same = λ r. omega arith; held = record { sum = omega (arith, fresh-copies H d s); tests = omega arith; marks = omega arith; waits = omega arith } };
+        tokens = record {
+          old = [];
+          new = [];
+          same = λ r. omega arith;
+          held = record { sum = omega (arith, fresh-copies H d s); tests = omega arith; marks = omega arith; waits = omega arith };
+        };
         single = λ r. omega arith;
         mine = λ r q. absurd (omega arith);
         pair = λ a. 0;
@@ -67,11 +71,11 @@ module _ (H : Hall) (some : 1 ≤ allScreens H) (cs : List Call) where
   pairOf : ℕ → ℕ → ℕ → ℕ
   pairOf d s = choose d s (decLe 1 d) (ℕ-discrete s 0)
 
-  works : (d s : ℕ) → 1 ≤ d → (s ≡ 0 → ⊥) → Works f d s (pairOf d s)
+  works : (d s : ℕ) → 1 ≤ d → (s ≡ 0 → ⊥) → Pairs f d s (pairOf d s)
   unfolding pairOf choose
   works d s h hs = by-cases (decLe 1 d) (ℕ-discrete s 0)
     where
-      by-cases : (x : Dec (1 ≤ d)) (z : Dec (s ≡ 0)) → Works f d s (choose d s x z)
+      by-cases : (x : Dec (1 ≤ d)) (z : Dec (s ≡ 0)) → Pairs f d s (choose d s x z)
       by-cases (yes x) (no z) =
           let g = guard d s x z in
           record {
@@ -96,9 +100,9 @@ module _ (H : Hall) (some : 1 ≤ allScreens H) (cs : List Call) where
   unfolding partner
   found a d s q = ap (partner a) q
 
-  is-good : (a d s : ℕ) → f a ≡ handsBack d s → Good f d s a (partner a (f a))
+  is-good : (a d s : ℕ) → f a ≡ handsBack d s → MayPair f d s a (partner a (f a))
   is-good a d s q =
-      let r = subst (Range H) q (sane a) in subst (λ (m : ℕ). Good f d s a m) (sym (found a d s q)) (works d s (r .0) (r .2) .good a q)
+      let r = subst (Range H) q (in-hall a) in subst (λ (m : ℕ). MayPair f d s a m) (sym (found a d s q)) (works d s (r .0) (r .2) .good a q)
 
   is-once : (a d s b d′ s′ : ℕ) → f a ≡ handsBack d s → f b ≡ handsBack d′ s′ → partner a (f a) ≡ partner b (f b) → a ≡ b
   is-once a d s b d′ s′ q q′ e =
@@ -106,7 +110,7 @@ module _ (H : Hall) (some : 1 ≤ allScreens H) (cs : List Call) where
       let dd : d′ ≡ d = cc in
       let ss : s′ ≡ s = cc in
       let qb : f b ≡ handsBack d s = q′ ∙ (λ i. handsBack (dd i) (ss i)) in
-      let r = subst (Range H) q (sane a) in
+      let r = subst (Range H) q (in-hall a) in
       works d s (r .0) (r .2) .once a b q qb (sym (found a d s q) ∙ e ∙ found b d s qb)
 
   -- The guarantee of Definition 2.1.

@@ -49,25 +49,21 @@ own-cases d nothing = othersDeed refl
 pub own-hands-back : (d s : ℕ) → own d (handsBack d s) ≡ handsBack d s
 own-hands-back d s = ap (λ (b : Bool). cond b (handsBack d s) nothing) (eq-eqb d d refl)
 
--- an own retirement, and an own hand-back, are by the desk
-pub own-retires : (d by v : ℕ) (D : Deed) → own d D ≡ retires by v → D ≡ retires d v
-own-retires d by v D q = by-cases (own-cases d D)
+-- a deed that is desk d's own, made by a desk number, is by desk d
+own-by : (made : ℕ → Deed) → ((d by : ℕ) → own d (made by) ≡ cond (eqb by d) (made by) nothing) → ((by : ℕ) → nothing ≡ made by → ⊥)
+    → (d by : ℕ) (D : Deed) → own d D ≡ made by → D ≡ made d
+own-by made by-desk something d by D q = by-cases (own-cases d D)
   where
-    at : (b : Bool) → eqb by d ≡ b → cond b (retires by v) nothing ≡ retires by v → retires by v ≡ retires d v
-    at true t e = ap (λ (x : ℕ). retires x v) (eqb-true by d t)
-    at false t e = let z : _≡_ {A = ℕ} 0 1 = cc in absurd (omega arith)
+    at : (b : Bool) → eqb by d ≡ b → cond b (made by) nothing ≡ made by → made by ≡ made d
+    at true t e = ap made (eqb-true by d t)
+    at false t e = absurd (something by e)
 
-    by-cases : Own d D → D ≡ retires d v
-    by-cases (othersDeed e) = let z : _≡_ {A = ℕ} 0 1 = cc in absurd (omega arith)
-    by-cases (ownDeed e) = let k : D ≡ retires by v = sym e ∙ q in k ∙ at (eqb by d) refl (sym (ap (own d) k) ∙ q)
+    by-cases : Own d D → D ≡ made d
+    by-cases (othersDeed e) = absurd (something by (sym e ∙ q))
+    by-cases (ownDeed e) = let k : D ≡ made by = sym e ∙ q in k ∙ at (eqb by d) refl (sym (by-desk d by) ∙ sym (ap (own d) k) ∙ q)
+
+pub own-retires : (d by v : ℕ) (D : Deed) → own d D ≡ retires by v → D ≡ retires d v
+own-retires d by v = own-by (λ x. retires x v) (λ e x. refl) (λ x q. let z : _≡_ {A = ℕ} 0 1 = cc in omega arith) d by
 
 pub own-handed : (d by v : ℕ) (D : Deed) → own d D ≡ handsBack by v → D ≡ handsBack d v
-own-handed d by v D q = by-cases (own-cases d D)
-  where
-    at : (b : Bool) → eqb by d ≡ b → cond b (handsBack by v) nothing ≡ handsBack by v → handsBack by v ≡ handsBack d v
-    at true t e = ap (λ (x : ℕ). handsBack x v) (eqb-true by d t)
-    at false t e = let z : _≡_ {A = ℕ} 0 1 = cc in absurd (omega arith)
-
-    by-cases : Own d D → D ≡ handsBack d v
-    by-cases (othersDeed e) = let z : _≡_ {A = ℕ} 0 1 = cc in absurd (omega arith)
-    by-cases (ownDeed e) = let k : D ≡ handsBack by v = sym e ∙ q in k ∙ at (eqb by d) refl (sym (ap (own d) k) ∙ q)
+own-handed d by v = own-by (λ x. handsBack x v) (λ e x. refl) (λ x q. let z : _≡_ {A = ℕ} 0 1 = cc in omega arith) d by

@@ -1,20 +1,21 @@
--- The pairing of hand-backs with retirements, of one session by one desk, built as the calls go on.
+-- The pairing of hand-backs with retirements, of one session by one desk, built as the calls go on: a hand-back is paired with a retirement
+-- not paired yet that no screen is linked to.
 use Prim.Native.Nat.{ℕ, zero, suc, _+_, _≤_, _<_}
 use native.Mathlib.Omega.{arith}
 use native.Mathlib.Decide.{ℕ-discrete, decLe}
 use mathlib.Core.Path.{_≡_, refl, sym, ap, _∙_, subst}
-use mathlib.Core.Bool.{Bool, cond}
+use mathlib.Core.Bool.{Bool, true, false, cond}
 use mathlib.Core.List.{List, [], _∷_, _++_}
 use lib.ListN.{length}
 use lib.Dec.{eqb}
 use borrow.Author.Tests.{eq-eqb, ne-eqb}
 use Rattle.rules.specs.Hall.{Desk, Hall, State, allScreens, deskOf, screenIndex}
-use Rattle.rules.specs.History.{Deed, DroppedBefore, Linked, collects, copies, deed, drops, handsBack, lacksRoom, nothing, own, retires}
+use Rattle.rules.specs.History.{Deed, DroppedBefore, Linked, collects, copies, deed, drops, handsBack, isHandBack, lacksRoom, nothing, own, retires}
 use Rattle.rules.specs.History.{swaps, takes}
 use Rattle.rules.specs.Steps.{Call, begin, collect, end, owe, retire, run, step}
 use Rattle.rules.specs.laws.Collect.{Orderly, beforeHandBack, begin-keeps}
 use Rattle.rules.specs.laws.Effect.{Effect, Formed, Range, effect, formed-step}
-use Rattle.rules.specs.laws.Links.{Link, ScreensAgree, agree-step, beforeRetire, beforeSwap, link, linkedTo}
+use Rattle.rules.specs.laws.Links.{ScreensAgree, agree-step, link, linkedTo}
 use Rattle.rules.specs.laws.Links.{take-finds-unlinked, unlinked}
 use Rattle.rules.specs.laws.Lists.{copies-append, matches, matches-at-most-one, matches-other, matches-same}
 use Rattle.rules.specs.laws.OwnDeeds.{own-handed, own-hands-back, own-retires}
@@ -22,56 +23,36 @@ use Rattle.rules.specs.laws.Runs.{sound-step}
 use Rattle.rules.specs.laws.ScreenIndex.{screen-in}
 use Rattle.rules.specs.laws.Sound.{Sound, sound-orderly}
 use Rattle.rules.specs.laws.Splits.{Tells, tells-first, tells-rest}
-use Rattle.rules.specs.laws.Tokens.{Leaves, Tokens, begin-tokens, hand-back-other, hand-back-same, live, live-at, live-next, scan-tokens}
-use Rattle.rules.specs.laws.Tokens.{sum-le, sumOver, ties}
-use Rattle.rules.specs.laws.Track.{linked-tied}
+use Rattle.rules.specs.laws.Tokens.{Leaves, Tokens, begin-tokens, hand-back-other, hand-back-same, live-at, live-at-most-one, scan-tokens}
+use Rattle.rules.specs.laws.Tokens.{ties, tokens-later}
+use Rattle.rules.specs.laws.Track.{linked-dropped}
 
 -- A hand-back at place a, of session s to desk d, may be paired with the retirement at place r.
-pub record Good (f : ℕ → Deed) (d s a r : ℕ) : Type 0 where
+pub record MayPair (f : ℕ → Deed) (d s a r : ℕ) : Type 0 where
   pub earlier : r < a
   pub same : f r ≡ retires d s
   pub dropped : (i : ℕ) → Linked f i r → DroppedBefore f i a
 
--- Before place n: count says which retirements are not paired yet.
+-- The pairing before place n: count is 1 at a retirement that is not paired yet, and else 0.
 pub record Guard (H : Hall) (f : ℕ → Deed) (d s n : ℕ) (D : Desk) : Type 0 where
   pub count : ℕ → ℕ
   pub tokens : Tokens H f s n D count
   pub single : (r : ℕ) → count r ≤ 1
   pub mine : (r : ℕ) → 1 ≤ count r → (r < n) × (f r ≡ retires d s)
   pub pair : ℕ → ℕ
-  pub good : (a : ℕ) → a < n → f a ≡ handsBack d s → Good f d s a (pair a)
+  pub good : (a : ℕ) → a < n → f a ≡ handsBack d s → MayPair f d s a (pair a)
   pub once : (a b : ℕ) → a < n → b < n → f a ≡ handsBack d s → f b ≡ handsBack d s → pair a ≡ pair b → a ≡ b
   pub unused : (a r : ℕ) → a < n → f a ≡ handsBack d s → 1 ≤ count r → pair a ≡ r → ⊥
 
-live-one : (H : Hall) (f : ℕ → Deed) (n k r : ℕ) → live H f n k r ≤ 1
-live-one H f n zero r = omega arith
-live-one H f n (suc k) r = omega (arith, live-one H f n k r, by-cases (link H f k n))
+-- the places before n + 1 with such a hand-back, where it is not at n
+before-last : (f : ℕ → Deed) (d s n : ℕ) → (f n ≡ handsBack d s → ⊥) → (a : ℕ) → a < suc n → f a ≡ handsBack d s → a < n
+before-last f d s n not-here a h q = by-cases (ℕ-discrete a n)
   where
-    by-cases : (l : Link) → ties r l ≤ 1
-    by-cases unlinked = omega arith
-    by-cases (beforeSwap p) = omega arith
-    by-cases (beforeRetire e) = omega arith
-    by-cases (linkedTo q) = matches-at-most-one q r
+    by-cases : Dec (a ≡ n) → a < n
+    by-cases (yes t) = absurd (not-here (ap f (sym t) ∙ q))
+    by-cases (no t) = omega arith
 
 module _ (H : Hall) (f : ℕ → Deed) (d s n : ℕ) where
-  -- the next place
-  tokens-later : (D E : Desk) (count : ℕ → ℕ) → ((r : ℕ) → 1 ≤ count r → r < n) → E .scanned ≡ D .scanned → E .ready ≡ D .ready → E .tested ≡ D .tested
-      → E .waiting ≡ D .waiting → Tokens H f s n D count → Tokens H f s (suc n) E count
-  tokens-later D E count low ek er et ew t = record {
-    old = t .old;
-    new = t .new;
-    same = t .same;
-    held = record {
-      sum = rw (er, et, ew) (t .held .sum);
-      tests = rw et (omega (arith, t .held .tests, down (allScreens H) (t .old) (λ r q. low r (omega (arith, t .same r)))));
-      marks = rw (et, ek) (omega (arith, t .held .marks, down (D .scanned) (t .old) (λ r q. low r (omega (arith, t .same r)))));
-      waits = rw ew (omega (arith, t .held .waits, down (allScreens H) (t .new) (λ r q. low r (omega (arith, t .same r)))));
-    };
-  }
-    where
-      down : (k : ℕ) (us : List ℕ) → ((r : ℕ) → 1 ≤ copies r us → r < n) → sumOver (live H f (suc n) k) us ≤ sumOver (live H f n k) us
-      down k us h = sum-le (live H f (suc n) k) (live H f n k) us (λ r q. live-next H f n k r (h r q))
-
   -- no hand-back of s to d is at place n
   guard-kept : (D E : Desk) → (f n ≡ handsBack d s → ⊥) → (g : Guard H f d s n D) → Tokens H f s (suc n) E (g .count) → Guard H f d s (suc n) E
   guard-kept D E ne g t = record {
@@ -86,11 +67,7 @@ module _ (H : Hall) (f : ℕ → Deed) (d s n : ℕ) where
   }
     where
       under : (a : ℕ) → a < suc n → f a ≡ handsBack d s → a < n
-      under a h q = by-cases (ℕ-discrete a n)
-        where
-          by-cases : Dec (a ≡ n) → a < n
-          by-cases (yes t) = absurd (ne (ap f (sym t) ∙ q))
-          by-cases (no t) = omega arith
+      under = before-last f d s n ne
 
   -- the desk retires s at place n
   guard-retire : (D : Desk) → D .owed ≡ s → f n ≡ retires d s → Guard H f d s n D → Guard H f d s (suc n) (retire D)
@@ -100,8 +77,12 @@ module _ (H : Hall) (f : ℕ → Deed) (d s n : ℕ) where
       old = t .old;
       new = n ∷ t .new;
       same = λ r. omega (arith, t .same r);
-      held =
-          record { sum = omega (arith, t .held .sum, wait); tests = t .held .tests; marks = t .held .marks; waits = omega (arith, t .held .waits, wait, live-one H f (suc n) (allScreens H) n) };
+      held = record {
+        sum = omega (arith, t .held .sum, wait);
+        tests = t .held .tests;
+        marks = t .held .marks;
+        waits = omega (arith, t .held .waits, wait, live-at-most-one H f (suc n) (allScreens H) n);
+      };
     };
     single = λ r. one r (ℕ-discrete r n);
     mine = λ r q. own r q (ℕ-discrete r n);
@@ -112,7 +93,7 @@ module _ (H : Hall) (f : ℕ → Deed) (d s n : ℕ) where
   }
     where
       t : Tokens H f s (suc n) D (g .count)
-      t = tokens-later D D (g .count) (λ r q. g .mine r q .0) refl refl refl refl (g .tokens)
+      t = tokens-later H f s n (g .count) D (D .owed) (λ r q. g .mine r q .0) (g .tokens)
 
       wait : copies s (D .waiting ++ (D .owed ∷ [])) ≡ copies s (D .waiting) + 1
       wait = omega (arith, copies-append s (D .waiting) (D .owed ∷ []), ap (matches s) o, matches-same s)
@@ -133,11 +114,7 @@ module _ (H : Hall) (f : ℕ → Deed) (d s n : ℕ) where
       own r h (no q) = let m = g .mine r (omega (arith, matches-other r n q)) in (omega (arith, m .0), m .1)
 
       under : (a : ℕ) → a < suc n → f a ≡ handsBack d s → a < n
-      under a h q = by-cases (ℕ-discrete a n)
-        where
-          by-cases : Dec (a ≡ n) → a < n
-          by-cases (yes t) = let k : retires d s ≡ handsBack d s = sym e ∙ ap f (sym t) ∙ q in let z : _≡_ {A = ℕ} 0 1 = cc in absurd (omega arith)
-          by-cases (no t) = omega arith
+      under = before-last f d s n (λ q. let k : retires d s ≡ handsBack d s = sym e ∙ q in let z : _≡_ {A = ℕ} 0 1 = cc in omega arith)
 
       apart : (a r : ℕ) → a < n → f a ≡ handsBack d s → 1 ≤ matches r n + g .count r → g .pair a ≡ r → Dec (r ≡ n) → ⊥
       apart a r h q c z (yes w) = omega (arith, g .good a h q .earlier)
@@ -146,10 +123,10 @@ module _ (H : Hall) (f : ℕ → Deed) (d s n : ℕ) where
   -- s is handed back to the desk at place n
   guard-hand-back : (D E : Desk) → ((m : ℕ) → Range H (f m)) → ((i x c p v : ℕ) → f i ≡ takes x c p v → link H f (screenIndex H x c) i ≡ unlinked)
       → f n ≡ handsBack d s → (g : Guard H f d s n D) → Leaves H f s n E (g .count) → Guard H f d s (suc n) E
-  guard-hand-back D E sane calm e g l = record {
+  guard-hand-back D E in-hall finds-free e g l = record {
     count = left;
     tokens =
-        tokens-later E E left (λ r q. g .mine r (omega (arith, l .same r)) .0) refl refl refl refl
+        tokens-later H f s n left E (E .owed) (λ r q. g .mine r (omega (arith, l .same r)) .0)
         (record { old = l .old; new = l .new; same = λ r. refl; held = l .held });
     single = λ r. omega (arith, l .same r, g .single r);
     mine = λ r q. (omega (arith, g .mine r (omega (arith, l .same r)) .0), g .mine r (omega (arith, l .same r)) .1);
@@ -174,22 +151,21 @@ module _ (H : Hall) (f : ℕ → Deed) (d s n : ℕ) where
       was : 1 ≤ g .count (l .it)
       was = omega (arith, l .same (l .it), matches-same (l .it))
 
-      unmarked : (x : ℕ) → x < allScreens H → link H f x n ≡ linkedTo (l .it) → ⊥
-      unmarked x h q = omega (arith, l .loose, live-at H f n (allScreens H) x (l .it) h, ap (ties (l .it)) q, matches-same (l .it))
+      unlinked-now : (x : ℕ) → x < allScreens H → link H f x n ≡ linkedTo (l .it) → ⊥
+      unlinked-now x h q = omega (arith, l .loose, live-at H f n (allScreens H) x (l .it) h, ap (ties (l .it)) q, matches-same (l .it))
 
       drops′ : (i : ℕ) → Linked f i (l .it) → DroppedBefore f i n
       drops′ i k =
-          let r = subst (Range H) (k .take) (sane i) in
-          linked-tied H f sane i (k .desk) (k .screen) (k .position) (k .shown) (k .by) (k .swapAt) (k .session) (l .it) (k .take) (k .swap)
-          (k .retire) (calm i (k .desk) (k .screen) (k .position) (k .shown) (k .take)) n (g .mine (l .it) was .0)
-          (unmarked (screenIndex H (k .desk) (k .screen)) (screen-in H (k .desk) (k .screen) (r .0) (r .1) (r .2) (r .3)))
+          let r = subst (Range H) (k .take) (in-hall i) in
+          linked-dropped H f in-hall i (l .it) k (finds-free i (k .desk) (k .screen) (k .position) (k .shown) (k .take)) n (g .mine (l .it) was .0)
+          (unlinked-now (screenIndex H (k .desk) (k .screen)) (screen-in H (k .desk) (k .screen) (r .0) (r .1) (r .2) (r .3)))
 
-      fits : Good f d s n (l .it)
+      fits : MayPair f d s n (l .it)
       fits = record { earlier = g .mine (l .it) was .0; same = g .mine (l .it) was .1; dropped = drops′ }
 
-      is-good : (a : ℕ) → a < suc n → f a ≡ handsBack d s → Dec (a ≡ n) → Good f d s a (pair′ a)
-      is-good a h q (yes t) = subst (λ (m : ℕ). Good f d s m (pair′ a)) (sym t) (subst (λ (m : ℕ). Good f d s n m) (sym (now a t)) fits)
-      is-good a h q (no t) = subst (λ (m : ℕ). Good f d s a m) (sym (past a t)) (g .good a (omega arith) q)
+      is-good : (a : ℕ) → a < suc n → f a ≡ handsBack d s → Dec (a ≡ n) → MayPair f d s a (pair′ a)
+      is-good a h q (yes t) = subst (λ (m : ℕ). MayPair f d s m (pair′ a)) (sym t) (subst (λ (m : ℕ). MayPair f d s n m) (sym (now a t)) fits)
+      is-good a h q (no t) = subst (λ (m : ℕ). MayPair f d s a m) (sym (past a t)) (g .good a (omega arith) q)
 
       is-once : (a b : ℕ) → a < suc n → b < suc n → f a ≡ handsBack d s → f b ≡ handsBack d s → pair′ a ≡ pair′ b → Dec (a ≡ n) → Dec (b ≡ n) → a ≡ b
       is-once a b h h′ q q′ z (yes t) (yes u) = t ∙ sym u
@@ -202,8 +178,8 @@ module _ (H : Hall) (f : ℕ → Deed) (d s n : ℕ) where
       is-unused a r h q c z (no t) = g .unused a r (omega arith) q (omega (arith, l .same r)) (sym (past a t) ∙ z)
 
 -- One call.
-module _ (H : Hall) (f : ℕ → Deed) (sane : (m : ℕ) → Range H (f m))
-    (calm : (i x c p v : ℕ) → f i ≡ takes x c p v → link H f (screenIndex H x c) i ≡ unlinked) (hS : 1 ≤ allScreens H) (d s : ℕ) (hd : 1 ≤ d)
+module _ (H : Hall) (f : ℕ → Deed) (in-hall : (m : ℕ) → Range H (f m))
+    (finds-free : (i x c p v : ℕ) → f i ≡ takes x c p v → link H f (screenIndex H x c) i ≡ unlinked) (hS : 1 ≤ allScreens H) (d s : ℕ) (hd : 1 ≤ d)
     (hs : s ≡ 0 → ⊥) where
   guard-step : (n : ℕ) (st : State) (c : Call) → Formed H st → Orderly (allScreens H) (deskOf st d) → ScreensAgree H f n st
       → f n ≡ deed c (step H st c .answer .number) (step H st c .answer .session)
@@ -216,40 +192,42 @@ module _ (H : Hall) (f : ℕ → Deed) (sane : (m : ℕ) → Range H (f m))
       below r h = g .mine r h .0
 
       -- the deed at n is no hand-back of the desk
-      no-hand-back : (D : Deed) → own d (f n) ≡ D → (handsBack d s ≡ D → ⊥) → f n ≡ handsBack d s → ⊥
-      no-hand-back D o ne t = ne (sym (own-hands-back d s) ∙ ap (own d) (sym t) ∙ o)
+      no-hand-back : (D : Deed) → own d (f n) ≡ D → isHandBack D ≡ false → f n ≡ handsBack d s → ⊥
+      no-hand-back D o other t =
+          let w : true ≡ isHandBack D = ap isHandBack (sym (own-hands-back d s) ∙ ap (own d) (sym t) ∙ o) in
+          let z : _≡_ {A = ℕ} 0 1 = cc in
+          omega arith
 
       -- the list stays as it is
-      same-list : (D : Deed) → own d (f n) ≡ D → (handsBack d s ≡ D → ⊥) → (o : ℕ) → deskOf (step H st c .after) d ≡ owe (deskOf st d) o
+      same-list : (D : Deed) → own d (f n) ≡ D → isHandBack D ≡ false → (o : ℕ) → deskOf (step H st c .after) d ≡ owe (deskOf st d) o
           → Guard H f d s (suc n) (deskOf (step H st c .after) d)
-      same-list D p ne o e =
-          rw e (guard-kept H f d s n (deskOf st d) (owe (deskOf st d) o) (no-hand-back D p ne) g
-          (tokens-later H f d s n (deskOf st d) (owe (deskOf st d) o) (g .count) below refl refl refl refl (g .tokens)))
+      same-list D p other o e =
+          rw e (guard-kept H f d s n (deskOf st d) (owe (deskOf st d) o) (no-hand-back D p other) g
+          (tokens-later H f s n (g .count) (deskOf st d) o below (g .tokens)))
 
       -- another session is retired
-      wider : (v : ℕ) → deskOf st d .owed ≡ v → (s ≡ v → ⊥) → Tokens H f s (suc n) (retire (deskOf st d)) (g .count)
-      wider v o ne =
-          let t = tokens-later H f d s n (deskOf st d) (deskOf st d) (g .count) below refl refl refl refl (g .tokens) in
+      retired-other : (v : ℕ) → deskOf st d .owed ≡ v → (s ≡ v → ⊥) → Tokens H f s (suc n) (retire (deskOf st d)) (g .count)
+      retired-other v o ne =
+          let t = tokens-later H f s n (g .count) (deskOf st d) (deskOf st d .owed) below (g .tokens) in
           let w = copies-append s (deskOf st d .waiting) (deskOf st d .owed ∷ []) in
           let z : matches s (deskOf st d .owed) ≡ 0 = ap (matches s) o ∙ matches-other s v ne in
           record {
             old = t .old;
             new = t .new;
             same = t .same;
-            held =
-                record { sum = omega (arith, t .held .sum); tests = t .held .tests; marks = t .held .marks; waits = omega (arith, t .held .waits) };
+            held = record { sum = omega (arith, t .held .sum); tests = t .held .tests; marks = t .held .marks; waits = omega (arith, t .held .waits) };
           }
 
-      passed : Tokens H f s n (beforeHandBack (allScreens H) (st .shown) (deskOf st d)) (g .count)
-      passed =
-          scan-tokens H f d s n (g .count) st ag (g .single) (λ r h. g .mine r h .1) hS (formed .screens) (begin (deskOf st d))
-          (begin-keeps (allScreens H) (deskOf st d) hS ok .going) (begin-tokens H f d s n (g .count) (deskOf st d) (ok .going) (g .tokens))
+      before-back : Tokens H f s n (beforeHandBack (allScreens H) (st .shown) (deskOf st d)) (g .count)
+      before-back =
+          scan-tokens H f s n (g .count) d st ag (g .single) (λ r h. g .mine r h .1) hS (formed .screens) (begin (deskOf st d))
+          (begin-keeps (allScreens H) (deskOf st d) hS ok .going) (begin-tokens H f s n (g .count) (deskOf st d) (ok .going) (g .tokens))
 
       retiring : (v : ℕ) → deskOf st d .owed ≡ v → f n ≡ retires d v → Dec (s ≡ v) → Guard H f d s (suc n) (retire (deskOf st d))
       retiring v o y (yes t) = guard-retire H f d s n (deskOf st d) (o ∙ sym t) (y ∙ ap (retires d) (sym t)) g
       retiring v o y (no t) =
           guard-kept H f d s n (deskOf st d) (retire (deskOf st d))
-          (λ u. let k : retires d v ≡ handsBack d s = sym y ∙ u in let z : _≡_ {A = ℕ} 0 1 = cc in omega arith) g (wider v o t)
+          (λ u. let k : retires d v ≡ handsBack d s = sym y ∙ u in let z : _≡_ {A = ℕ} 0 1 = cc in omega arith) g (retired-other v o t)
 
       -- a collect that replies another session, or 0
       collecting : (v : ℕ) → collect (allScreens H) (st .shown) (deskOf st d) .session ≡ v → (s ≡ v → ⊥) → (f n ≡ handsBack d s → ⊥)
@@ -257,26 +235,26 @@ module _ (H : Hall) (f : ℕ → Deed) (sane : (m : ℕ) → Range H (f m))
       collecting v e ne other =
           let E = collect (allScreens H) (st .shown) (deskOf st d) .after in
           guard-kept H f d s n (deskOf st d) E other g
-          (tokens-later H f d s n E E (g .count) below refl refl refl refl (hand-back-other H f d s n (g .count) (beforeHandBack (allScreens H) (st .shown) (deskOf st d)) hs (λ u. ne (u ∙ e)) passed))
+          (tokens-later H f s n (g .count) E (E .owed) below
+          (hand-back-other H f s n (g .count) (beforeHandBack (allScreens H) (st .shown) (deskOf st d)) (λ u. ne (u ∙ e)) before-back))
 
       handing : (v : ℕ) → collect (allScreens H) (st .shown) (deskOf st d) .session ≡ v → f n ≡ handsBack d v → Dec (s ≡ v)
           → Guard H f d s (suc n) (collect (allScreens H) (st .shown) (deskOf st d) .after)
       handing v e y (yes t) =
-          guard-hand-back H f d s n (deskOf st d) (collect (allScreens H) (st .shown) (deskOf st d) .after) sane calm (y ∙ ap (handsBack d) (sym t)) g
-          (hand-back-same H f d s n (g .count) (beforeHandBack (allScreens H) (st .shown) (deskOf st d)) hs (t ∙ sym e) passed)
+          guard-hand-back H f d s n (deskOf st d) (collect (allScreens H) (st .shown) (deskOf st d) .after) in-hall finds-free (y ∙ ap (handsBack d) (sym t)) g
+          (hand-back-same H f s n (g .count) (beforeHandBack (allScreens H) (st .shown) (deskOf st d)) hs (t ∙ sym e) before-back)
       handing v e y (no t) = collecting v e t (λ u. let k : handsBack d v ≡ handsBack d s = sym y ∙ u in t (cc))
 
       by-cases : (D : Deed) → own d (f n) ≡ D → Effect (allScreens H) (st .shown) (deskOf st d) (deskOf (step H st c .after) d) D
           → Guard H f d s (suc n) (deskOf (step H st c .after) d)
-      by-cases (takes by x p v) o e = same-list (takes by x p v) o (λ t. let z : _≡_ {A = ℕ} 0 1 = cc in omega arith) (e .owed) (e .after)
-      by-cases (drops by x) o e = same-list (drops by x) o (λ t. let z : _≡_ {A = ℕ} 0 1 = cc in omega arith) (e .owed) (e .after)
-      by-cases (swaps by p) o e = same-list (swaps by p) o (λ t. let z : _≡_ {A = ℕ} 0 1 = cc in omega arith) (e .owed) (e .after)
+      by-cases (takes by x p v) o e = same-list (takes by x p v) o refl (e .owed) (e .after)
+      by-cases (drops by x) o e = same-list (drops by x) o refl (e .owed) (e .after)
+      by-cases (swaps by p) o e = same-list (swaps by p) o refl (e .owed) (e .after)
       by-cases (retires by v) o e = rw (e .after) (retiring v (e .owed) (own-retires d by v (f n) o) (ℕ-discrete s v))
-      by-cases (lacksRoom by) o e = same-list (lacksRoom by) o (λ t. let z : _≡_ {A = ℕ} 0 1 = cc in omega arith) (deskOf st d .owed) (e .after)
-      by-cases (collects by) o e =
-          rw (e .after) (collecting 0 (e .session) hs (no-hand-back (collects by) o (λ t. let z : _≡_ {A = ℕ} 0 1 = cc in omega arith)))
+      by-cases (lacksRoom by) o e = same-list (lacksRoom by) o refl (deskOf st d .owed) (e .after)
+      by-cases (collects by) o e = rw (e .after) (collecting 0 (e .session) hs (no-hand-back (collects by) o refl))
       by-cases (handsBack by v) o e = rw (e .1 .after) (handing v (e .1 .session) (own-handed d by v (f n) o) (ℕ-discrete s v))
-      by-cases nothing o e = same-list nothing o (λ t. let z : _≡_ {A = ℕ} 0 1 = cc in omega arith) (e .owed) (e .after)
+      by-cases nothing o e = same-list nothing o refl (e .owed) (e .after)
 
   -- A list of calls, whose deeds f tells from place n on.
   pub guard-along : (cs : List Call) (st : State) (n : ℕ) → Tells f n (run H st cs) → Formed H st → Sound (allScreens H) (deskOf st d)

@@ -11,10 +11,10 @@ use lib.Seq.{drop-cons}
 use lib.Dec.{eqb}
 use Rattle.rules.specs.Hall.{Desk, Hall, State, TestedPlace, allScreens, screenIndex}
 use Rattle.rules.specs.History.{Deed, collects, copies, drops, handsBack, lacksRoom, nothing, retires, swaps, takes}
-use Rattle.rules.specs.Steps.{begin, beginAt, handBack, mark, markEach, markedOf, nextScreens, scan, settle, settleIf, unmarkedOf}
+use Rattle.rules.specs.Steps.{begin, beginAt, handBack, mark, markEach, markedOf, nextScreens, owe, scan, settle, settleIf, unmarkedOf}
 use Rattle.rules.specs.laws.Collect.{readOn, Scanning, by-scan, copiesOn}
 use Rattle.rules.specs.laws.Links.{Agree, Link, ScreensAgree, beforeRetire, beforeSwap, link, linkedTo, next, unlinked}
-use Rattle.rules.specs.laws.Lists.{copies-append, matches, matches-other, matches-same}
+use Rattle.rules.specs.laws.Lists.{copies-append, matches, matches-at-most-one, matches-other, matches-same}
 use Rattle.rules.specs.laws.Marks.{mark-finds-a-copy, tested-copies-begin, tested-copies-mark, tested-copies-mark-each, testedCopies}
 
 -- 1 if the screen is linked to the retirement at r
@@ -111,6 +111,16 @@ module _ (H : Hall) (f : ℕ → Deed) (n : ℕ) where
       by-cases (yes t) ih = rw t (omega arith)
       by-cases (no t) ih = omega (arith, ih (omega arith))
 
+  pub live-at-most-one : (k r : ℕ) → live H f n k r ≤ 1
+  live-at-most-one zero r = omega arith
+  live-at-most-one (suc k) r = omega (arith, live-at-most-one k r, by-cases (link H f k n))
+    where
+      by-cases : (l : Link) → ties r l ≤ 1
+      by-cases unlinked = omega arith
+      by-cases (beforeSwap p) = omega arith
+      by-cases (beforeRetire e) = omega arith
+      by-cases (linkedTo q) = matches-at-most-one q r
+
   sum-start : (k : ℕ) (us : List ℕ) → k ≡ 0 → sumOver (live H f n k) us ≡ 0
   sum-start k us e = rw e (sum-none us)
 
@@ -197,7 +207,24 @@ pick g (r ∷ us) h = by-cases (ℕ-discrete (g r) 0) (pick g us)
           less = λ g′. omega (arith, p .less g′);
         }
 
-module _ (H : Hall) (f : ℕ → Deed) (d s n : ℕ) (count : ℕ → ℕ) where
+module _ (H : Hall) (f : ℕ → Deed) (s n : ℕ) (count : ℕ → ℕ) where
+  -- one place later, with the same list
+  pub tokens-later : (D : Desk) (o : ℕ) → ((r : ℕ) → 1 ≤ count r → r < n) → Tokens H f s n D count → Tokens H f s (suc n) (owe D o) count
+  tokens-later D o earlier t = record {
+    old = t .old;
+    new = t .new;
+    same = t .same;
+    held = record {
+      sum = t .held .sum;
+      tests = omega (arith, t .held .tests, fewer (allScreens H) (t .old) (λ r q. omega (arith, t .same r)));
+      marks = omega (arith, t .held .marks, fewer (D .scanned) (t .old) (λ r q. omega (arith, t .same r)));
+      waits = omega (arith, t .held .waits, fewer (allScreens H) (t .new) (λ r q. omega (arith, t .same r)));
+    };
+  }
+    where
+      fewer : (k : ℕ) (us : List ℕ) → ((r : ℕ) → 1 ≤ copies r us → 1 ≤ count r) → sumOver (live H f (suc n) k) us ≤ sumOver (live H f n k) us
+      fewer k us h = sum-le (live H f (suc n) k) (live H f n k) us (λ r q. live-next H f n k r (earlier r (h r q)))
+
   -- (a)
   pub begin-tokens : (D : Desk) → Scanning (allScreens H) (D .scanned) (D .tested) → Tokens H f s n D count → Tokens H f s n (begin D) count
   begin-tokens D g t = by-cases (D .tested) refl g
@@ -213,26 +240,38 @@ module _ (H : Hall) (f : ℕ → Deed) (d s n : ℕ) (count : ℕ → ℕ) where
             old = t .old ++ t .new;
             new = [];
             same = λ r. omega (arith, copies-append r (t .old) (t .new), t .same r);
-            held =
-                record { sum = omega (arith, h .sum); tests = omega (arith, h .tests, h .waits); marks = omega (arith, sum-start H f n (D .scanned) (t .old ++ t .new) g); waits = omega arith };
+            held = record {
+              sum = omega (arith, h .sum);
+              tests = omega (arith, h .tests, h .waits);
+              marks = omega (arith, sum-start H f n (D .scanned) (t .old ++ t .new) g);
+              waits = omega arith;
+            };
           }
       by-cases (p ∷ ps) e g = t
 
   -- (b) and (c)
-  pub scan-tokens : (st : State) → ScreensAgree H f n st → ((r : ℕ) → count r ≤ 1) → ((r : ℕ) → 1 ≤ count r → f r ≡ retires d s) → 1 ≤ allScreens H
-      → length (st .shown) ≡ allScreens H → (A : Desk) → Scanning (allScreens H) (A .scanned) (A .tested) → Tokens H f s n A count
+  pub scan-tokens : (d : ℕ) (st : State) → ScreensAgree H f n st → ((r : ℕ) → count r ≤ 1) → ((r : ℕ) → 1 ≤ count r → f r ≡ retires d s)
+      → 1 ≤ allScreens H → length (st .shown) ≡ allScreens H → (A : Desk) → Scanning (allScreens H) (A .scanned) (A .tested) → Tokens H f s n A count
       → Tokens H f s n (settle (allScreens H) (scan (st .shown) A)) count
-  scan-tokens st ag one mine hS hl A g t = by-scan (λ (X : Desk). Tokens H f s n X count) (allScreens H) (st .shown) A hS hl g (λ e. t) on over
+  scan-tokens d st ag one mine hS hl A g t = by-scan (λ (X : Desk). Tokens H f s n X count) (allScreens H) (st .shown) A hS hl g (λ e. t) on over
     where
+      -- the older ones linked to a screen that was read are no more than their marks
       read : A .scanned ≤ allScreens H
           → sumOver (live H f n (A .scanned + length (nextScreens (st .shown) A))) (t .old) ≤ copies s (markedOf (markEach (nextScreens (st .shown) A) (A .tested)))
-      read hk = marks-cover-reads s (λ j. sumOver (live H f n j) (t .old)) (st .shown) 2 (A .scanned) (A .tested)
-          (λ j hj. one-screen-more H f n d s st ag (t .old) (λ r. omega (arith, one r, t .same r)) (λ r q. mine r (omega (arith, t .same r))) j (omega arith))
-          (λ j hj. let u = sum-le (live H f n j) (live H f n (allScreens H)) (t .old) (λ r q. live-up H f n (allScreens H) j r (omega arith)) in omega (arith, t .held .tests))
-          (omega arith) (t .held .marks)
+      read hk =
+          marks-cover-reads s (λ j. sumOver (live H f n j) (t .old)) (st .shown) 2 (A .scanned) (A .tested) step top (omega arith) (t .held .marks)
+        where
+          step : (j : ℕ) → j < length (st .shown)
+              → sumOver (live H f n (suc j)) (t .old) ≤ sumOver (live H f n j) (t .old) + matches s (getD (st .shown) j 0)
+          step j hj =
+              one-screen-more H f n d s st ag (t .old) (λ r. omega (arith, one r, t .same r)) (λ r q. mine r (omega (arith, t .same r))) j (omega arith)
 
-      on : 1 ≤ length (A .tested) → length (nextScreens (st .shown) A) ≡ 2 → A .scanned + 2 < allScreens H
-          → Tokens H f s n (readOn (st .shown) A) count
+          top : (j : ℕ) → j ≤ length (st .shown) → sumOver (live H f n j) (t .old) ≤ testedCopies s (A .tested)
+          top j hj =
+              let u = sum-le (live H f n j) (live H f n (allScreens H)) (t .old) (λ r q. live-up H f n (allScreens H) j r (omega arith)) in
+              omega (arith, t .held .tests)
+
+      on : 1 ≤ length (A .tested) → length (nextScreens (st .shown) A) ≡ 2 → A .scanned + 2 < allScreens H → Tokens H f s n (readOn (st .shown) A) count
       on h1 h2 h3 =
           let b = tested-copies-mark-each s (nextScreens (st .shown) A) (A .tested) in
           let h = t .held in
@@ -244,10 +283,9 @@ module _ (H : Hall) (f : ℕ → Deed) (d s n : ℕ) (count : ℕ → ℕ) where
           }
 
       over : 1 ≤ length (A .tested) → A .scanned < allScreens H → allScreens H ≤ A .scanned + 2
-          → A .scanned + length (nextScreens (st .shown) A) ≡ allScreens H
-          → Tokens H f s n (settleIf true (readOn (st .shown) A)) count
+          → A .scanned + length (nextScreens (st .shown) A) ≡ allScreens H → Tokens H f s n (settleIf true (readOn (st .shown) A)) count
       over h1 h2 h3 h4 =
-          let ps = markEach (nextScreens (st .shown) A) (A .tested) in
+          let ps = readOn (st .shown) A .tested in
           let b = tested-copies-mark-each s (nextScreens (st .shown) A) (A .tested) in
           let h = t .held in
           let rd : sumOver (live H f n (allScreens H)) (t .old) ≤ copies s (markedOf ps) =
@@ -264,8 +302,8 @@ module _ (H : Hall) (f : ℕ → Deed) (d s n : ℕ) (count : ℕ → ℕ) where
           }
 
   -- (d): another session, or none
-  pub hand-back-other : (X : Desk) → (s ≡ 0 → ⊥) → (s ≡ getD (X .ready) 0 0 → ⊥) → Tokens H f s n X count → Tokens H f s n (handBack X .after) count
-  hand-back-other X nz ne t = record {
+  pub hand-back-other : (X : Desk) → (s ≡ getD (X .ready) 0 0 → ⊥) → Tokens H f s n X count → Tokens H f s n (handBack X .after) count
+  hand-back-other X ne t = record {
     old = t .old;
     new = t .new;
     same = t .same;
@@ -294,8 +332,12 @@ module _ (H : Hall) (f : ℕ → Deed) (d s n : ℕ) (count : ℕ → ℕ) where
             old = p .rest;
             new = t .new;
             same = λ r. omega (arith, p .count r, t .same r);
-            held =
-                record { sum = omega (arith, p .fewer, h .sum, left (X .ready) e); tests = omega (arith, p .less (live H f n (allScreens H)), h .tests); marks = omega (arith, p .less (live H f n (X .scanned)), h .marks); waits = h .waits };
+            held = record {
+              sum = omega (arith, p .fewer, h .sum, left (X .ready) e);
+              tests = omega (arith, p .less (live H f n (allScreens H)), h .tests);
+              marks = omega (arith, p .less (live H f n (X .scanned)), h .marks);
+              waits = h .waits;
+            };
           }
       by-cases (no l) =
           let h = t .held in
@@ -306,6 +348,10 @@ module _ (H : Hall) (f : ℕ → Deed) (d s n : ℕ) (count : ℕ → ℕ) where
             old = t .old;
             new = p .rest;
             same = λ r. omega (arith, p .count r, t .same r);
-            held =
-                record { sum = omega (arith, p .fewer, h .sum, left (X .ready) e); tests = h .tests; marks = h .marks; waits = omega (arith, p .less (live H f n (allScreens H)), h .waits) };
+            held = record {
+              sum = omega (arith, p .fewer, h .sum, left (X .ready) e);
+              tests = h .tests;
+              marks = h .marks;
+              waits = omega (arith, p .less (live H f n (allScreens H)), h .waits);
+            };
           }

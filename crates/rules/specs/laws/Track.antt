@@ -1,4 +1,4 @@
--- A take that is linked to a retirement is dropped, or its screen is linked to that retirement.
+-- From the words of the history to the links: a take that is linked to a retirement is dropped, or its screen is linked to that retirement.
 use Prim.Native.Nat.{ℕ, zero, suc, _+_, _-_, _≤_, _<_}
 use native.Mathlib.Omega.{arith}
 use native.Mathlib.Decide.{ℕ-discrete}
@@ -7,10 +7,11 @@ use mathlib.Core.Bool.{Bool, true, false, cond}
 use lib.Dec.{eqb}
 use borrow.Author.Tests.{eqb-true, eqb-false, eq-eqb, ne-eqb}
 use Rattle.rules.specs.Hall.{Hall, screenIndex}
-use Rattle.rules.specs.History.{Deed, DroppedBefore, NextDrop, NextRetire, NextSwap, collects, drops, handsBack, lacksRoom, nothing, retires}
-use Rattle.rules.specs.History.{swaps, takes}
+use Rattle.rules.specs.History.{Deed, DroppedBefore, Linked, NextDrop, NextRetire, NextSwap, collects, drops, handsBack, lacksRoom, nothing, retires}
+use Rattle.rules.specs.History.{isRetirement, swaps, takes}
 use Rattle.rules.specs.laws.Effect.{Range}
 use Rattle.rules.specs.laws.Links.{Link, beforeRetire, beforeSwap, link, linkedTo, next, unlinked}
+use Rattle.rules.specs.laws.OwnDeeds.{isDrop, isSwap}
 use Rattle.rules.specs.laws.ScreenIndex.{screen-same}
 
 -- How far a take at position p has come, with its swap, by desk e, at place j and its retirement at place r.
@@ -23,24 +24,29 @@ data Track (H : Hall) (f : ℕ → Deed) (i d c p e j r n : ℕ) : Type 0 where
   gone : (q : ℕ) → NextDrop f i d c q → q < n → Track H f i d c p e j r n
   on : ((m : ℕ) → i < m → m < n → f m ≡ drops d c → ⊥) → Stage H f (screenIndex H d c) p e j r n → Track H f i d c p e j r n
 
-module _ (H : Hall) (f : ℕ → Deed) (sane : (m : ℕ) → Range H (f m)) (i d c p v e j s r : ℕ) (tk : f i ≡ takes d c p v) (sw : NextSwap f i p e j)
+module _ (H : Hall) (f : ℕ → Deed) (in-hall : (m : ℕ) → Range H (f m)) (i d c p v e j s r : ℕ) (tk : f i ≡ takes d c p v) (sw : NextSwap f i p e j)
     (re : NextRetire f j e s r) where
   after : (n : ℕ) (D : Deed) (l l′ : Link) → f n ≡ D → link H f (screenIndex H d c) n ≡ l → next H (screenIndex H d c) n D l ≡ l′
       → link H f (screenIndex H d c) (suc n) ≡ l′
   after n D l l′ q a b = rw (q, a) b
 
-  -- the deed at n is neither the swap nor the retirement
-  plain : (n : ℕ) (D : Deed) → f n ≡ D → (swaps e p ≡ D → ⊥) → (retires e s ≡ D → ⊥)
+  -- a place with a deed that fails a test is not the place of one that passes it
+  not-there : (test : Deed → Bool) (m n : ℕ) (E : Deed) → f m ≡ E → test E ≡ true → test (f n) ≡ false → n ≡ m → ⊥
+  not-there test m n E at passes fails t =
+      let w : test (f n) ≡ test E = ap (λ (k : ℕ). test (f k)) t ∙ ap test at in let z : _≡_ {A = ℕ} 0 1 = cc in omega arith
+
+  -- the deed at n is neither a swap nor a retirement, and no take or drop of the screen
+  plain : (n : ℕ) (D : Deed) → f n ≡ D → isSwap D ≡ false → isRetirement D ≡ false
       → ((l : Link) → (l ≡ unlinked → ⊥) → next H (screenIndex H d c) n D l ≡ l) → Stage H f (screenIndex H d c) p e j r n
       → Stage H f (screenIndex H d c) p e j r (suc n)
-  plain n D q nj nr same (first a l) =
-      let z : n ≡ j → ⊥ = (λ t. nj (sym (sw .here) ∙ ap f (sym t) ∙ q)) in
+  plain n D q no-swap no-retire same (first a l) =
+      let z : n ≡ j → ⊥ = not-there isSwap j n (swaps e p) (sw .here) refl (ap isSwap q ∙ no-swap) in
       first (omega arith) (after n D (beforeSwap p) (beforeSwap p) q l (same (beforeSwap p) (λ t. let o : _≡_ {A = ℕ} 0 1 = cc in omega arith)))
-  plain n D q nj nr same (second a b l) =
-      let z : n ≡ r → ⊥ = (λ t. nr (sym (re .here) ∙ ap f (sym t) ∙ q)) in
+  plain n D q no-swap no-retire same (second a b l) =
+      let z : n ≡ r → ⊥ = not-there isRetirement r n (retires e s) (re .here) refl (ap isRetirement q ∙ no-retire) in
       second (omega arith) (omega arith)
       (after n D (beforeRetire e) (beforeRetire e) q l (same (beforeRetire e) (λ t. let o : _≡_ {A = ℕ} 0 1 = cc in omega arith)))
-  plain n D q nj nr same (third a l) =
+  plain n D q no-swap no-retire same (third a l) =
       third (omega arith) (after n D (linkedTo r) (linkedTo r) q l (same (linkedTo r) (λ t. let o : _≡_ {A = ℕ} 0 1 = cc in omega arith)))
 
   keep-take : (n a b w x : ℕ) (l : Link) → (l ≡ unlinked → ⊥) → next H (screenIndex H d c) n (takes a b w x) l ≡ l
@@ -66,13 +72,13 @@ module _ (H : Hall) (f : ℕ → Deed) (sane : (m : ℕ) → Range H (f m)) (i d
           let z : n ≡ j → ⊥ = (λ u. let k : swaps x w ≡ swaps e p = sym q ∙ ap f u ∙ sw .here in t (cc)) in
           first (omega arith) (after n (swaps x w) (beforeSwap p) (beforeSwap p) q l (rw (ne-eqb w p t)))
   on-swap n x w hi q (second a b l) =
-      let z : n ≡ r → ⊥ = (λ t. let k : swaps x w ≡ retires e s = sym q ∙ ap f t ∙ re .here in let o : _≡_ {A = ℕ} 0 1 = cc in omega arith) in
+      let z : n ≡ r → ⊥ = not-there isRetirement r n (retires e s) (re .here) refl (ap isRetirement q) in
       second (omega arith) (omega arith) (after n (swaps x w) (beforeRetire e) (beforeRetire e) q l refl)
   on-swap n x w hi q (third a l) = third (omega arith) (after n (swaps x w) (linkedTo r) (linkedTo r) q l refl)
 
   on-retire : (n x v : ℕ) → i < n → f n ≡ retires x v → Stage H f (screenIndex H d c) p e j r n → Stage H f (screenIndex H d c) p e j r (suc n)
   on-retire n x v hi q (first a l) =
-      let z : n ≡ j → ⊥ = (λ t. let k : retires x v ≡ swaps e p = sym q ∙ ap f t ∙ sw .here in let o : _≡_ {A = ℕ} 0 1 = cc in omega arith) in
+      let z : n ≡ j → ⊥ = not-there isSwap j n (swaps e p) (sw .here) refl (ap isSwap q) in
       first (omega arith) (after n (retires x v) (beforeSwap p) (beforeSwap p) q l refl)
   on-retire n x v hi q (second a b l) = by-cases (ℕ-discrete x e)
     where
@@ -89,8 +95,10 @@ module _ (H : Hall) (f : ℕ → Deed) (sane : (m : ℕ) → Range H (f m)) (i d
           second (omega arith) (omega arith) (after n (retires x v) (beforeRetire e) (beforeRetire e) q l (rw (ne-eqb x e t)))
   on-retire n x v hi q (third a l) = third (omega arith) (after n (retires x v) (linkedTo r) (linkedTo r) q l refl)
 
-  more : (n : ℕ) → (f n ≡ drops d c → ⊥) → ((m : ℕ) → i < m → m < n → f m ≡ drops d c → ⊥) → (m : ℕ) → i < m → m < suc n → f m ≡ drops d c → ⊥
-  more n z h m a b q = by-cases (ℕ-discrete m n)
+  -- no drop of the screen up to n, and none at n
+  undropped-next : (n : ℕ) → (f n ≡ drops d c → ⊥) → ((m : ℕ) → i < m → m < n → f m ≡ drops d c → ⊥) → (m : ℕ) → i < m → m < suc n → f m ≡ drops d c
+      → ⊥
+  undropped-next n z h m a b q = by-cases (ℕ-discrete m n)
     where
       by-cases : Dec (m ≡ n) → ⊥
       by-cases (yes t) = z (ap f (sym t) ∙ q)
@@ -100,58 +108,58 @@ module _ (H : Hall) (f : ℕ → Deed) (sane : (m : ℕ) → Range H (f m)) (i d
   step n hi (gone q nd l) = gone q nd (omega arith)
   step n hi (on undropped st) = by-cases (f n) refl
     where
+      on-later : (D : Deed) → f n ≡ D → isDrop D ≡ false → Stage H f (screenIndex H d c) p e j r (suc n) → Track H f i d c p e j r (suc n)
+      on-later D q no-drop stage =
+          on (undropped-next n (λ t. not-there isDrop n n (drops d c) t refl (ap isDrop q ∙ no-drop) refl) undropped) stage
+
       by-cases : (D : Deed) → f n ≡ D → Track H f i d c p e j r (suc n)
-      by-cases (takes a b w x) q =
-          on (more n (λ t. let k : takes a b w x ≡ drops d c = sym q ∙ t in let o : _≡_ {A = ℕ} 0 1 = cc in omega arith) undropped)
-          (plain n (takes a b w x) q (λ t. let o : _≡_ {A = ℕ} 0 1 = cc in omega arith) (λ t. let o : _≡_ {A = ℕ} 0 1 = cc in omega arith) (keep-take n a b w x) st)
+      by-cases (takes a b w x) q = on-later (takes a b w x) q refl (plain n (takes a b w x) q refl refl (keep-take n a b w x) st)
       by-cases (drops a b) q = at (eqb (screenIndex H a b) (screenIndex H d c)) refl
         where
           at : (y : Bool) → eqb (screenIndex H a b) (screenIndex H d c) ≡ y → Track H f i d c p e j r (suc n)
           at true t =
               let k =
-              screen-same H a b d c (subst (Range H) q (sane n)) (subst (Range H) tk (sane i))
+              screen-same H a b d c (subst (Range H) q (in-hall n)) (subst (Range H) tk (in-hall i))
               (eqb-true (screenIndex H a b) (screenIndex H d c) t) in
               gone n (record { later = hi; here = q ∙ (λ z. drops (k .0 z) (k .1 z)); first = undropped }) (omega arith)
           at false t =
-              let ne = eqb-false (screenIndex H a b) (screenIndex H d c) t in
-              on
-              (more n (λ u. let k : drops a b ≡ drops d c = sym q ∙ u in ne (let ad : a ≡ d = cc in let bc : b ≡ c = cc in (λ z. screenIndex H (ad z) (bc z)))) undropped)
-              (plain n (drops a b) q (λ u. let o : _≡_ {A = ℕ} 0 1 = cc in omega arith) (λ u. let o : _≡_ {A = ℕ} 0 1 = cc in omega arith) (λ l z. ap (λ (y : Bool). cond y unlinked l) t) st)
-      by-cases (swaps a b) q =
-          on (more n (λ t. let k : swaps a b ≡ drops d c = sym q ∙ t in let o : _≡_ {A = ℕ} 0 1 = cc in omega arith) undropped)
-          (on-swap n a b hi q st)
-      by-cases (retires a b) q =
-          on (more n (λ t. let k : retires a b ≡ drops d c = sym q ∙ t in let o : _≡_ {A = ℕ} 0 1 = cc in omega arith) undropped)
-          (on-retire n a b hi q st)
-      by-cases (lacksRoom a) q =
-          on (more n (λ t. let k : lacksRoom a ≡ drops d c = sym q ∙ t in let o : _≡_ {A = ℕ} 0 1 = cc in omega arith) undropped)
-          (plain n (lacksRoom a) q (λ t. let o : _≡_ {A = ℕ} 0 1 = cc in omega arith) (λ t. let o : _≡_ {A = ℕ} 0 1 = cc in omega arith) (λ l z. refl) st)
-      by-cases (collects a) q =
-          on (more n (λ t. let k : collects a ≡ drops d c = sym q ∙ t in let o : _≡_ {A = ℕ} 0 1 = cc in omega arith) undropped)
-          (plain n (collects a) q (λ t. let o : _≡_ {A = ℕ} 0 1 = cc in omega arith) (λ t. let o : _≡_ {A = ℕ} 0 1 = cc in omega arith) (λ l z. refl) st)
-      by-cases (handsBack a b) q =
-          on (more n (λ t. let k : handsBack a b ≡ drops d c = sym q ∙ t in let o : _≡_ {A = ℕ} 0 1 = cc in omega arith) undropped)
-          (plain n (handsBack a b) q (λ t. let o : _≡_ {A = ℕ} 0 1 = cc in omega arith) (λ t. let o : _≡_ {A = ℕ} 0 1 = cc in omega arith) (λ l z. refl) st)
-      by-cases nothing q =
-          on (more n (λ t. let k : nothing ≡ drops d c = sym q ∙ t in let o : _≡_ {A = ℕ} 0 1 = cc in omega arith) undropped)
-          (plain n nothing q (λ t. let o : _≡_ {A = ℕ} 0 1 = cc in omega arith) (λ t. let o : _≡_ {A = ℕ} 0 1 = cc in omega arith) (λ l z. refl) st)
+              on (undropped-next n other undropped) (plain n (drops a b) q refl refl (λ l z. ap (λ (y : Bool). cond y unlinked l) t) st)
+            where
+              other : f n ≡ drops d c → ⊥
+              other u =
+                  let k : drops a b ≡ drops d c = sym q ∙ u in
+                  let ad : a ≡ d = cc in
+                  let bc : b ≡ c = cc in
+                  eqb-false (screenIndex H a b) (screenIndex H d c) t (λ z. screenIndex H (ad z) (bc z))
+      by-cases (swaps a b) q = on-later (swaps a b) q refl (on-swap n a b hi q st)
+      by-cases (retires a b) q = on-later (retires a b) q refl (on-retire n a b hi q st)
+      by-cases (lacksRoom a) q = on-later (lacksRoom a) q refl (plain n (lacksRoom a) q refl refl (λ l z. refl) st)
+      by-cases (collects a) q = on-later (collects a) q refl (plain n (collects a) q refl refl (λ l z. refl) st)
+      by-cases (handsBack a b) q = on-later (handsBack a b) q refl (plain n (handsBack a b) q refl refl (λ l z. refl) st)
+      by-cases nothing q = on-later nothing q refl (plain n nothing q refl refl (λ l z. refl) st)
 
   track : link H f (screenIndex H d c) i ≡ unlinked → (m : ℕ) → Track H f i d c p e j r (suc m + i)
-  track calm zero = subst (λ (n : ℕ). Track H f i d c p e j r n) (omega arith) start
+  track free zero = subst (λ (n : ℕ). Track H f i d c p e j r n) (omega arith) start
     where
       start : Track H f i d c p e j r (suc i)
       start =
           on (λ m a b q. absurd (omega arith))
-          (first (omega (arith, sw .later)) (after i (takes d c p v) unlinked (beforeSwap p) tk calm (rw (eq-eqb (screenIndex H d c) (screenIndex H d c) refl))))
-  track calm (suc m) = subst (λ (n : ℕ). Track H f i d c p e j r n) (omega arith) (step (suc m + i) (omega arith) (track calm m))
+          (first (omega (arith, sw .later)) (after i (takes d c p v) unlinked (beforeSwap p) tk free (rw (eq-eqb (screenIndex H d c) (screenIndex H d c) refl))))
+  track free (suc m) = subst (λ (n : ℕ). Track H f i d c p e j r n) (omega arith) (step (suc m + i) (omega arith) (track free m))
 
-  -- the tie
-  pub linked-tied : link H f (screenIndex H d c) i ≡ unlinked → (n : ℕ) → r < n → (link H f (screenIndex H d c) n ≡ linkedTo r → ⊥)
+  tied : link H f (screenIndex H d c) i ≡ unlinked → (n : ℕ) → r < n → (link H f (screenIndex H d c) n ≡ linkedTo r → ⊥)
       → DroppedBefore f i n
-  linked-tied calm n h nt = by-cases (subst (λ (m : ℕ). Track H f i d c p e j r m) (omega (arith, sw .later, re .later)) (track calm (n - suc i)))
+  tied free n h nt = by-cases (subst (λ (m : ℕ). Track H f i d c p e j r m) (omega (arith, sw .later, re .later)) (track free (n - suc i)))
     where
       by-cases : Track H f i d c p e j r n → DroppedBefore f i n
       by-cases (gone q nd l) = record { desk = d; screen = c; position = p; shown = v; take = tk; dropAt = q; drop = nd; before = l }
       by-cases (on undropped (first a l)) = absurd (omega (arith, sw .later, re .later))
       by-cases (on undropped (second a b l)) = absurd (omega arith)
       by-cases (on undropped (third a l)) = absurd (nt l)
+
+-- The take at place i is linked to the retirement at place r: once its screen is not linked to it any more, it has been dropped.
+pub linked-dropped : (H : Hall) (f : ℕ → Deed) → ((m : ℕ) → Range H (f m)) → (i r : ℕ) (k : Linked f i r)
+    → link H f (screenIndex H (k .desk) (k .screen)) i ≡ unlinked → (n : ℕ) → r < n
+    → (link H f (screenIndex H (k .desk) (k .screen)) n ≡ linkedTo r → ⊥) → DroppedBefore f i n
+linked-dropped H f in-hall i r k =
+    tied H f in-hall i (k .desk) (k .screen) (k .position) (k .shown) (k .by) (k .swapAt) (k .session) r (k .take) (k .swap) (k .retire)
