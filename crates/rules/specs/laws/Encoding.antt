@@ -1,4 +1,4 @@
--- The table and the rules: a desk's record, read back, is the desk.
+-- The words of a desk: its record, read back, is the desk.
 use Prim.Native.Nat.{ℕ, zero, suc, _+_, _*_, _-_, _/_, _%_, _≤_}
 use native.Mathlib.Omega.{arith}
 use mathlib.Core.Path.{_≡_, refl, ap, ap₂, _∙_}
@@ -6,6 +6,7 @@ use mathlib.Core.Bool.{Bool, true, false}
 use mathlib.Core.List.{List, [], _∷_, _++_, append-assoc}
 use lib.ListN.{length, take, drop, replicate, length-append, length-replicate, length-drop, take-append-drop}
 use lib.Seq.{take-at, drop-at, take-append-seam, drop-append-seam, length-take-le, drop-append-add}
+use lib.Dec.{eqb}
 use borrow.Author.Tests.{eq-eqb, ne-eqb}
 use Rattle.rules.specs.Hall.{Desk, TestedPlace, marked, unmarked}
 use Rattle.rules.specs.Table.{allMarks, bitValue, bitsOfWord, bitsOfWords, decodeDesk, encodeDesk, listOf, markWords, marksOf, ones, placesOf, sessionsOf}
@@ -16,17 +17,15 @@ bits-of-word-of-bits : (n : ℕ) (bs : List Bool) → length bs ≡ n → bitsOf
 bits-of-word-of-bits zero [] h = refl
 bits-of-word-of-bits zero (b ∷ bs) h = absurd (omega arith)
 bits-of-word-of-bits (suc n) [] h = absurd (omega arith)
-bits-of-word-of-bits (suc n) (true ∷ bs) h =
-    λ i. eq-eqb ((1 + 2 * wordOfBits bs) % 2) 1 (omega arith) i ∷ (ap (bitsOfWord n) (half true) ∙ bits-of-word-of-bits n bs (omega arith)) i
+bits-of-word-of-bits (suc n) (b ∷ bs) h = λ i. low b i ∷ (ap (bitsOfWord n) (half b) ∙ bits-of-word-of-bits n bs (omega arith)) i
   where
+    low : (b : Bool) → eqb ((bitValue b + 2 * wordOfBits bs) % 2) 1 ≡ b
+    low true = eq-eqb ((1 + 2 * wordOfBits bs) % 2) 1 (omega arith)
+    low false = ne-eqb ((0 + 2 * wordOfBits bs) % 2) 1 (λ q. omega arith)
+
     half : (b : Bool) → (bitValue b + 2 * wordOfBits bs) / 2 ≡ wordOfBits bs
     half true = omega arith
     half false = omega arith
-bits-of-word-of-bits (suc n) (false ∷ bs) h =
-    λ i. ne-eqb ((0 + 2 * wordOfBits bs) % 2) 1 (λ q. omega arith) i ∷ (ap (bitsOfWord n) half ∙ bits-of-word-of-bits n bs (omega arith)) i
-  where
-    half : (0 + 2 * wordOfBits bs) / 2 ≡ wordOfBits bs
-    half = omega arith
 
 bits-of-words-of-bits : (n : ℕ) (bs : List Bool) → length bs ≡ n * 16 → bitsOfWords (wordsOfBits n bs) ≡ bs
 bits-of-words-of-bits zero [] h = refl
@@ -56,6 +55,7 @@ ones-marks [] = refl
 ones-marks (unmarked x ∷ ps) = omega (arith, ones-marks ps)
 ones-marks (marked x ∷ ps) = omega (arith, ones-marks ps)
 
+-- a list of three parts and what stands behind them
 module _ {A : Type 0} (a b c z : List A) where
   first-part : take (length a) ((a ++ (b ++ c)) ++ z) ≡ a
   first-part = ap (take (length a)) (append-assoc a (b ++ c) z) ∙ take-append-seam a ((b ++ c) ++ z)
@@ -71,30 +71,39 @@ module _ {A : Type 0} (a b c z : List A) where
       ∙ ap (take (length c)) (drop-append-add a ((b ++ c) ++ z) n) ∙ ap (λ (l : List A). take (length c) (drop n l)) (append-assoc b c z)
       ∙ ap (take (length c)) (drop-at b (c ++ z) n h) ∙ take-append-seam c z
 
-pub marks-read-back : (T : List TestedPlace) → length T ≤ allMarks
-    → bitsOfWords (wordsOfBits markWords (marksOf T ++ replicate (allMarks - length T) false)) ≡ marksOf T ++ replicate (allMarks - length T) false
+-- the bits of a record's mark words
+abbrev pub markBits : List TestedPlace → List Bool
+markBits T = marksOf T ++ replicate (allMarks - length T) false
+
+pub marks-read-back : (T : List TestedPlace) → length T ≤ allMarks → bitsOfWords (wordsOfBits markWords (markBits T)) ≡ markBits T
 marks-read-back T h =
-    bits-of-words-of-bits markWords (marksOf T ++ replicate (allMarks - length T) false)
-    (omega (arith, length-append (marksOf T) (replicate (allMarks - length T) false), length-marks T, length-replicate {A = Bool} (allMarks - length T) false))
+    bits-of-words-of-bits markWords (markBits T) (omega (
+      arith,
+      length-append (marksOf T) (replicate (allMarks - length T) false),
+      length-marks T,
+      length-replicate {A = Bool} (allMarks - length T) false,
+    ))
 
 pub desk-read-back : (S : ℕ) (D : Desk) → length (D .tested) ≤ allMarks → decodeDesk (encodeDesk S D) ≡ D
 unfolding encodeDesk decodeDesk
-desk-read-back S D h = λ i. record { owed = D .owed; scanned = D .scanned; ready = rd i; tested = td i; waiting = wd i }
+desk-read-back S D h = λ i. record { owed = D .owed; scanned = D .scanned; ready = ready i; tested = tested i; waiting = waiting i }
   where
-    z : List ℕ
-    z = replicate (2 * S - length (listOf D)) 0
+    ready : decodeDesk (encodeDesk S D) .ready ≡ D .ready
+    ready = first-part (D .ready) (sessionsOf (D .tested)) (D .waiting) (replicate (2 * S - length (listOf D)) 0)
 
-    rd : decodeDesk (encodeDesk S D) .ready ≡ D .ready
-    rd = first-part (D .ready) (sessionsOf (D .tested)) (D .waiting) (replicate (2 * S - length (listOf D)) 0)
+    marks : take (length (D .tested)) (bitsOfWords (wordsOfBits markWords (markBits (D .tested)))) ≡ marksOf (D .tested)
+    marks =
+        ap (take (length (D .tested))) (marks-read-back (D .tested) h)
+        ∙ take-at (marksOf (D .tested)) (replicate (allMarks - length (D .tested)) false) (length (D .tested)) (length-marks (D .tested))
 
-    td : decodeDesk (encodeDesk S D) .tested ≡ D .tested
-    td =
+    tested : decodeDesk (encodeDesk S D) .tested ≡ D .tested
+    tested =
         ap₂ placesOf
         (second-part (D .ready) (sessionsOf (D .tested)) (D .waiting) (replicate (2 * S - length (listOf D)) 0) (length (D .tested)) (length-sessions (D .tested)))
-        (ap (take (length (D .tested))) (marks-read-back (D .tested) h) ∙ take-at (marksOf (D .tested)) _ (length (D .tested)) (length-marks (D .tested)))
+        marks
         ∙ places-of-parts (D .tested)
 
-    wd : decodeDesk (encodeDesk S D) .waiting ≡ D .waiting
-    wd =
+    waiting : decodeDesk (encodeDesk S D) .waiting ≡ D .waiting
+    waiting =
         third-part (D .ready) (sessionsOf (D .tested)) (D .waiting) (replicate (2 * S - length (listOf D)) 0) (length (D .tested))
         (length-sessions (D .tested))

@@ -1,23 +1,24 @@
--- Soundness: it is what the steps keep, and the table of a sound state passes the board's test.
+-- Soundness of a desk: the steps keep it, and the record of a sound desk passes the board's test.
 use Prim.Native.Nat.{ℕ, zero, suc, _+_, _*_, _-_, _%_, _≤_, _<_}
 use native.Mathlib.Omega.{arith}
 use mathlib.Core.Path.{_≡_, refl, ap, _∙_}
 use mathlib.Core.Bool.{Bool, true, false, not, _&&_}
 use mathlib.Core.List.{List, [], _∷_, _++_, map}
-use lib.ListN.{length, drop, replicate, length-append}
+use lib.ListN.{length, take, drop, replicate, length-append}
 use lib.Seq.{take-at, drop-at}
 use lib.Dec.{leb, ltb, eqb}
 use borrow.Author.Tests.{eq-eqb, ne-eqb, le-leb, lt-ltb}
 use Rattle.rules.specs.Hall.{Desk, TestedPlace, marked, mostAllScreens, unmarked, usedPlaces}
 use Rattle.rules.specs.History.{copies}
-use Rattle.rules.specs.Steps.{begin, beginAt, collect, markEach, nextScreens, owe, retire, scan, settle}
+use Rattle.rules.specs.Steps.{begin, beginAt, collect, isNone, isSession, markEach, nextScreens, owe, retire, scan, settle}
 use Rattle.rules.specs.Table.{allMarks, bitsOfWords, encodeDesk, every, listOf, markWords, marksOf, ones, recordSound, scanSound, sessionsOf, wordsOfBits}
 use Rattle.rules.specs.laws.Bools.{and-true}
 use Rattle.rules.specs.laws.Collect.{Orderly, Scanning, by-scan, collect-orderly, copiesOn, retire-orderly}
-use Rattle.rules.specs.laws.Encoding.{length-marks, length-sessions, marks-read-back, ones-marks}
+use Rattle.rules.specs.laws.Encoding.{length-marks, length-sessions, markBits, marks-read-back, ones-marks}
 use Rattle.rules.specs.laws.Lists.{copies-append}
 use Rattle.rules.specs.laws.Marks.{length-mark-each, mark-count-begin, mark-count-mark-each, markCount, testedCopies}
 
+-- k and the marks, as soundness asks
 abbrev pub ScanFits : ℕ → ℕ → List TestedPlace → Type 0
 ScanFits S k [] = k ≡ 0
 ScanFits S k (p ∷ ps) = (k % 2 ≡ 0) × (2 ≤ k) × (k < S) × (markCount (p ∷ ps) ≤ k)
@@ -41,6 +42,7 @@ sound-owe S o D s = record { total = s .total; real = s .real; pass = s .pass }
 pub retire-sound : (S : ℕ) (D : Desk) → (D .owed ≡ 0 → ⊥) → usedPlaces D < 2 * S → Sound S D → Sound S (retire D)
 retire-sound S D h l s = let o = retire-orderly S D h l (sound-orderly S D s) in record { total = o .total; real = o .real; pass = s .pass }
 
+-- between (a) and (b) k may be 0
 abbrev BegunFits : ℕ → ℕ → List TestedPlace → Type 0
 BegunFits S k [] = k ≡ 0
 BegunFits S k (p ∷ ps) = (k % 2 ≡ 0) × (k < S) × (markCount (p ∷ ps) ≤ k)
@@ -64,9 +66,9 @@ begun-fits S D hS s = by-cases (D .tested) refl (s .pass)
     by-cases [] e p = start (D .waiting) p
     by-cases (q ∷ qs) e p = again (D .tested) (s .pass)
 
-scan-collect : (S : ℕ) (shown : List ℕ) (A : Desk) → 1 ≤ S → length shown ≡ S → BegunFits S (A .scanned) (A .tested)
+scan-fits : (S : ℕ) (shown : List ℕ) (A : Desk) → 1 ≤ S → length shown ≡ S → BegunFits S (A .scanned) (A .tested)
     → ScanFits S (settle S (scan shown A) .scanned) (settle S (scan shown A) .tested)
-scan-collect S shown A hS hl m =
+scan-fits S shown A hS hl m =
     by-scan (λ (X : Desk). ScanFits S (X .scanned) (X .tested)) S shown A hS hl (begun-scanning S (A .scanned) (A .tested) m)
     (λ e. rest (A .tested) e m) (λ h1 h2 h3. on (A .tested) refl h1 h2 h3 m) (λ h1 h2 h3 h4. refl)
   where
@@ -91,17 +93,17 @@ scan-collect S shown A hS hl m =
 pub collect-sound : (S : ℕ) (shown : List ℕ) (D : Desk) → 1 ≤ S → length shown ≡ S → Sound S D → Sound S (collect S shown D .after)
 collect-sound S shown D hS hl s =
     let o = collect-orderly S shown D hS hl (sound-orderly S D s) in
-    record { total = o .total; real = o .real; pass = scan-collect S shown (begin D) hS hl (begun-fits S D hS s) }
+    record { total = o .total; real = o .real; pass = scan-fits S shown (begin D) hS hl (begun-fits S D hS s) }
 
 -- The record of a sound desk passes the test.
-every-real : (xs : List ℕ) → copies 0 xs ≡ 0 → every (λ x. not (eqb x 0)) xs ≡ true
+every-real : (xs : List ℕ) → copies 0 xs ≡ 0 → every isSession xs ≡ true
 every-real [] h = refl
-every-real (x ∷ xs) h = and-true (not (eqb x 0)) (every (λ x. not (eqb x 0)) xs) (ap not (ne-eqb x 0 nz)) (every-real xs (omega arith))
+every-real (x ∷ xs) h = and-true (isSession x) (every isSession xs) (ap not (ne-eqb x 0 nz)) (every-real xs (omega arith))
   where
     nz : x ≡ 0 → ⊥
     nz q = omega (arith, rw q at h)
 
-every-zero : (n : ℕ) → every (λ x. eqb x 0) (replicate n 0) ≡ true
+every-zero : (n : ℕ) → every isNone (replicate n 0) ≡ true
 every-zero zero = refl
 every-zero (suc n) = every-zero n
 
@@ -120,13 +122,21 @@ copies-sessions s (marked x ∷ ps) = omega (arith, copies-sessions s ps)
 
 pub length-list : (D : Desk) → length (listOf D) ≡ usedPlaces D
 length-list D =
-    omega
-    (arith, length-append (D .ready) (sessionsOf (D .tested) ++ D .waiting), length-append (sessionsOf (D .tested)) (D .waiting), length-sessions (D .tested))
+    omega (
+      arith,
+      length-append (D .ready) (sessionsOf (D .tested) ++ D .waiting),
+      length-append (sessionsOf (D .tested)) (D .waiting),
+      length-sessions (D .tested),
+    )
 
 pub copies-list : (s : ℕ) (D : Desk) → copies s (listOf D) ≡ copiesOn s D
 copies-list s D =
-    omega
-    (arith, copies-append s (D .ready) (sessionsOf (D .tested) ++ D .waiting), copies-append s (sessionsOf (D .tested)) (D .waiting), copies-sessions s (D .tested))
+    omega (
+      arith,
+      copies-append s (D .ready) (sessionsOf (D .tested) ++ D .waiting),
+      copies-append s (sessionsOf (D .tested)) (D .waiting),
+      copies-sessions s (D .tested),
+    )
 
 pass-true : (S k : ℕ) (t : List TestedPlace) → ScanFits S k t → scanSound S (length t) k ≡ true
 pass-true S k [] p = eq-eqb k 0 p
@@ -141,19 +151,35 @@ pub encoded-sound : (S : ℕ) (D : Desk) → S ≤ mostAllScreens → Sound S D 
 unfolding encodeDesk recordSound
 encoded-sound S D h s =
     and-true _ _ (le-leb (usedPlaces D) (2 * S) (s .total))
-    (and-true _ _ (ap (every (λ x. not (eqb x 0))) (take-at (listOf D) pad (usedPlaces D) (length-list D)) ∙ every-real (listOf D) (copies-list 0 D ∙ s .real))
-    (and-true _ _ (ap (every (λ x. eqb x 0)) (drop-at (listOf D) pad (usedPlaces D) (length-list D)) ∙ every-zero (2 * S - length (listOf D)))
-    (and-true _ _ (eq-eqb _ 0 (ap (λ (b : List Bool). ones (drop (length (D .tested)) b)) mk ∙ ap ones (drop-at (marksOf (D .tested)) (replicate (allMarks - length (D .tested)) false) (length (D .tested)) (length-marks (D .tested))) ∙ ones-none (allMarks - length (D .tested))))
+    (and-true _ _ used
+    (and-true _ _ unused
+    (and-true _ _ (eq-eqb _ 0 unmarked-behind)
     (and-true _ _ (pass-true S (D .scanned) (D .tested) (s .pass))
-    (le-leb _ (D .scanned) (rw (ap ones mk) few))))))
+    (le-leb _ (D .scanned) (rw (ap ones bits) few))))))
   where
     pad : List ℕ
     pad = replicate (2 * S - length (listOf D)) 0
 
-    mk : bitsOfWords (wordsOfBits markWords (marksOf (D .tested) ++ replicate (allMarks - length (D .tested)) false)) ≡ marksOf (D .tested) ++ replicate (allMarks - length (D .tested)) false
-    mk = marks-read-back (D .tested) (omega (arith, s .total))
+    used : every isSession (take (usedPlaces D) (listOf D ++ pad)) ≡ true
+    used = ap (every isSession) (take-at (listOf D) pad (usedPlaces D) (length-list D)) ∙ every-real (listOf D) (copies-list 0 D ∙ s .real)
 
-    few : ones (marksOf (D .tested) ++ replicate (allMarks - length (D .tested)) false) ≤ D .scanned
-    few =
-        omega
-        (arith, ones-append (marksOf (D .tested)) (replicate (allMarks - length (D .tested)) false), ones-none (allMarks - length (D .tested)), ones-marks (D .tested), pass-marks S (D .scanned) (D .tested) (s .pass))
+    unused : every isNone (drop (usedPlaces D) (listOf D ++ pad)) ≡ true
+    unused = ap (every isNone) (drop-at (listOf D) pad (usedPlaces D) (length-list D)) ∙ every-zero (2 * S - length (listOf D))
+
+    bits : bitsOfWords (wordsOfBits markWords (markBits (D .tested))) ≡ markBits (D .tested)
+    bits = marks-read-back (D .tested) (omega (arith, s .total))
+
+    unmarked-behind : ones (drop (length (D .tested)) (bitsOfWords (wordsOfBits markWords (markBits (D .tested))))) ≡ 0
+    unmarked-behind =
+        ap (λ (b : List Bool). ones (drop (length (D .tested)) b)) bits
+        ∙ ap ones (drop-at (marksOf (D .tested)) (replicate (allMarks - length (D .tested)) false) (length (D .tested)) (length-marks (D .tested)))
+        ∙ ones-none (allMarks - length (D .tested))
+
+    few : ones (markBits (D .tested)) ≤ D .scanned
+    few = omega (
+      arith,
+      ones-append (marksOf (D .tested)) (replicate (allMarks - length (D .tested)) false),
+      ones-none (allMarks - length (D .tested)),
+      ones-marks (D .tested),
+      pass-marks S (D .scanned) (D .tested) (s .pass),
+    )

@@ -1,10 +1,11 @@
--- A list of calls, cut in two: the histories, the counts and the states of its parts.
+-- Lists of calls: cut in two, told from a place on, past their end, and what no call of a list does.
 use Prim.Native.Nat.{ℕ, _+_, _≤_, zero, suc}
 use native.Mathlib.Omega.{arith}
 use mathlib.Core.Path.{_≡_, refl, ap, _∙_, sym}
 use mathlib.Core.Bool.{cond, Bool, true, false}
 use mathlib.Core.List.{List, [], _∷_}
 use lib.ListN.{length, take, drop}
+use lib.Seq.{take-nil}
 use lib.Dec.{eqb}
 use borrow.Author.Tests.{eqb-true, ne-eqb}
 use Rattle.rules.specs.Hall.{Hall, State}
@@ -23,13 +24,7 @@ run-take H (suc i) (c ∷ cs) st =
 pub count-split : (test : Deed → Bool) (d : ℕ) (H : Hall) (n k : ℕ) (cs : List Call) (st : State)
     → howMany test (deedsOf d (run H st (take (n + k) cs))) ≡ howMany test (deedsOf d (run H st (take n cs))) + howMany test (deedsOf d (run H (end H st (take n cs)) (take k (drop n cs))))
 count-split test d H zero k cs st = let e : 0 + k ≡ k = omega arith in ap (λ (m : ℕ). howMany test (deedsOf d (run H st (take m cs)))) e ∙ omega arith
-count-split test d H (suc n) k [] st = nil (suc n + k) k
-  where
-    nil : (m j : ℕ) → howMany test (deedsOf d (run H st (take m []))) ≡ 0 + howMany test (deedsOf d (run H st (take j [])))
-    nil zero zero = refl
-    nil zero (suc j) = refl
-    nil (suc m) zero = refl
-    nil (suc m) (suc j) = refl
+count-split test d H (suc n) k [] st = simp take-nil
 count-split test d H (suc n) k (c ∷ cs) st =
     let e : suc n + k ≡ suc (n + k) = omega arith in
     ap (λ (m : ℕ). howMany test (deedsOf d (run H st (take m (c ∷ cs))))) e ∙ omega (arith, count-split test d H n k cs (step H st c .after))
@@ -69,7 +64,18 @@ range-run H [] st formed m = tt
 range-run H (c ∷ cs) st formed zero = range-step H st formed c
 range-run H (c ∷ cs) st formed (suc m) = range-run H cs (step H st c .after) (formed-step H st formed c) m
 
--- and so a desk that the hall does not have does nothing
+-- so what no such deed is has the count 0
+none-counted : (H : Hall) (d : ℕ) (test : Deed → Bool) → ((D : Deed) → Range H D → test (own d D) ≡ false) → (cs : List Call) (st : State) → Formed H st
+    → howMany test (deedsOf d (run H st cs)) ≡ 0
+none-counted H d test fails [] st formed = refl
+none-counted H d test fails (c ∷ cs) st formed =
+    omega (
+      arith,
+      ap oneIf (fails (deedAt (run H st (c ∷ cs)) 0) (range-step H st formed c)),
+      none-counted H d test fails cs (step H st c .after) (formed-step H st formed c),
+    )
+
+-- A desk that the hall does not have does nothing.
 module _ (H : Hall) (d : ℕ) (outside : (1 ≤ d) × (d ≤ H .desks) → ⊥) where
   others : (by : ℕ) (D : Deed) → 1 ≤ by → by ≤ H .desks → (b : Bool) → eqb by d ≡ b → cond b D nothing ≡ nothing
   others by D h g true q = let same : by ≡ d = eqb-true by d q in absurd (outside (omega arith, omega arith))
@@ -87,14 +93,7 @@ module _ (H : Hall) (d : ℕ) (outside : (1 ≤ d) × (d ≤ H .desks) → ⊥) 
 
   pub outsider-counts : (test : Deed → Bool) → test nothing ≡ false → (cs : List Call) (st : State) → Formed H st
       → howMany test (deedsOf d (run H st cs)) ≡ 0
-  outsider-counts test none [] st formed = refl
-  outsider-counts test none (c ∷ cs) st formed =
-      omega (
-        arith,
-        ap (λ (D : Deed). oneIf (test D)) (outsider (deedAt (run H st (c ∷ cs)) 0) (range-step H st formed c)),
-        ap oneIf none,
-        outsider-counts test none cs (step H st c .after) (formed-step H st formed c),
-      )
+  outsider-counts test none = none-counted H d test (λ D r. ap test (outsider D r) ∙ none)
 
 -- Session 0 is neither retired nor handed back.
 range-not-zero : (H : Hall) (d : ℕ) (D : Deed) → Range H D → (isRetirementOf 0 (own d D) ≡ false) × (isHandBackOf 0 (own d D) ≡ false)
@@ -116,8 +115,7 @@ range-not-zero H d D r = by-cases (own-cases d D)
 
 pub no-session-zero : (H : Hall) (cs : List Call) (st : State) → Formed H st → (d : ℕ)
     → (retirementsOf d 0 (run H st cs) ≡ 0) × (handBacksOf d 0 (run H st cs) ≡ 0)
-no-session-zero H [] st formed d = (refl, refl)
-no-session-zero H (c ∷ cs) st formed d =
-    let n = range-not-zero H d (deedAt (run H st (c ∷ cs)) 0) (range-step H st formed c) in
-    let ih = no-session-zero H cs (step H st c .after) (formed-step H st formed c) d in
-    (omega (arith, ap oneIf (n .0), ih .0), omega (arith, ap oneIf (n .1), ih .1))
+no-session-zero H cs st formed d = (
+  none-counted H d (isRetirementOf 0) (λ D r. range-not-zero H d D r .0) cs st formed,
+  none-counted H d (isHandBackOf 0) (λ D r. range-not-zero H d D r .1) cs st formed,
+)

@@ -54,39 +54,28 @@ sum-max g h [] = omega arith
 sum-max g h (r ∷ us) = omega (arith, sum-max g h us)
 
 -- A retirement that is made stays linked to no more screens.
+ties-if : (r most : ℕ) (b : Bool) (x y : Link) → ties r x ≤ most → ties r y ≤ most → ties r (cond b x y) ≤ most
+ties-if r most true x y h g = h
+ties-if r most false x y h g = g
+
 ties-next : (H : Hall) (x n : ℕ) (D : Deed) (l : Link) (r : ℕ) → r < n → ties r (next H x n D l) ≤ ties r l
-ties-next H x n (takes d c p v) unlinked r h = by-cases (eqb (screenIndex H d c) x)
-  where
-    by-cases : (b : Bool) → ties r (cond b (beforeSwap p) unlinked) ≤ 0
-    by-cases true = omega arith
-    by-cases false = omega arith
+ties-next H x n (takes d c p v) unlinked r h = ties-if r 0 (eqb (screenIndex H d c) x) (beforeSwap p) unlinked (omega arith) (omega arith)
 ties-next H x n (takes d c p v) (beforeSwap q) r h = omega arith
 ties-next H x n (takes d c p v) (beforeRetire q) r h = omega arith
 ties-next H x n (takes d c p v) (linkedTo q) r h = omega arith
-ties-next H x n (drops d c) l r h = by-cases (eqb (screenIndex H d c) x)
-  where
-    by-cases : (b : Bool) → ties r (cond b unlinked l) ≤ ties r l
-    by-cases true = omega arith
-    by-cases false = omega arith
+ties-next H x n (drops d c) l r h = ties-if r (ties r l) (eqb (screenIndex H d c) x) unlinked l (omega arith) (omega arith)
 ties-next H x n (swaps e p) unlinked r h = omega arith
-ties-next H x n (swaps e p) (beforeSwap q) r h = by-cases (eqb p q)
-  where
-    by-cases : (b : Bool) → ties r (cond b (beforeRetire e) (beforeSwap q)) ≤ 0
-    by-cases true = omega arith
-    by-cases false = omega arith
+ties-next H x n (swaps e p) (beforeSwap q) r h = ties-if r 0 (eqb p q) (beforeRetire e) (beforeSwap q) (omega arith) (omega arith)
 ties-next H x n (swaps e p) (beforeRetire q) r h = omega arith
 ties-next H x n (swaps e p) (linkedTo q) r h = omega arith
 ties-next H x n (retires e s) unlinked r h = omega arith
 ties-next H x n (retires e s) (beforeSwap q) r h = omega arith
-ties-next H x n (retires e s) (beforeRetire q) r h = by-cases (eqb e q)
-  where
-    by-cases : (b : Bool) → ties r (cond b (linkedTo n) (beforeRetire q)) ≤ 0
-    by-cases true = omega (arith, matches-other n r (λ t. omega arith))
-    by-cases false = omega arith
+ties-next H x n (retires e s) (beforeRetire q) r h =
+    ties-if r 0 (eqb e q) (linkedTo n) (beforeRetire q) (omega (arith, matches-other n r (λ t. omega arith))) (omega arith)
 ties-next H x n (retires e s) (linkedTo q) r h = omega arith
-ties-next H x n (handsBack e s) l r h = omega arith
 ties-next H x n (lacksRoom d) l r h = omega arith
 ties-next H x n (collects d) l r h = omega arith
+ties-next H x n (handsBack e s) l r h = omega arith
 ties-next H x n nothing l r h = omega arith
 
 module _ (H : Hall) (f : ℕ → Deed) (n : ℕ) where
