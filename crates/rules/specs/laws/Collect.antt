@@ -24,6 +24,10 @@ abbrev pub Scanning : ℕ → ℕ → List TestedPlace → Type 0
 Scanning S k [] = k ≡ 0
 Scanning S k (p ∷ ps) = k < S
 
+pub scanned-within : (S k : ℕ) (t : List TestedPlace) → 1 ≤ S → Scanning S k t → k < S
+scanned-within S k [] hS g = omega arith
+scanned-within S k (p ∷ ps) hS g = g
+
 -- What every desk of a history keeps, and these laws need.
 pub record Orderly (S : ℕ) (D : Desk) : Type 0 where
   pub total : usedPlaces D ≤ 2 * S

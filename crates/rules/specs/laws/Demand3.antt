@@ -7,7 +7,7 @@ use mathlib.Core.Bool.{false}
 use mathlib.Core.List.{List}
 use lib.ListN.{length, take, drop}
 use Rattle.rules.specs.Demands.{BackWithin, exactBound}
-use Rattle.rules.specs.Hall.{Hall, State, allScreens, deskOf, fresh, usedPlaces}
+use Rattle.rules.specs.Hall.{Hall, allScreens, deskOf, fresh, usedPlaces}
 use Rattle.rules.specs.History.{Deed, Disciplined, Shows, collectsOf, deedAt, handBacks, handBacksOf, isCollect, isHandBackOf, lacksRoom}
 use Rattle.rules.specs.History.{nothing, retirements, retirementsOf, retires}
 use Rattle.rules.specs.Steps.{Call, end, run}
@@ -16,7 +16,7 @@ use Rattle.rules.specs.laws.Fresh.{fresh-copies, fresh-formed, fresh-pla
 use Rattle.rules.specs.laws.HandBack.{due-start}
 use Rattle.rules.specs.laws.Runs.{copies-run, due-run, formed-run, places-run, room-run, sound-run}
 use Rattle.rules.specs.laws.Screens.{AllShown, all-shown-run, hidden-run}
-use Rattle.rules.specs.laws.Splits.{count-split, deeds-past, range-run, run-take, tells-from, tells-itself}
+use Rattle.rules.specs.laws.Splits.{count-split, deed-within, range-run, run-take, tells-from, tells-itself}
 
 module _ (H : Hall) (some : 1 ≤ allScreens H) (cs : List Call) where
   -- ---- Room.
@@ -46,7 +46,6 @@ module _ (H : Hall) (some : 1 ≤ allScreens H) (cs : List Call) (B : ℕ) (enou
       → ((m e c : ℕ) → n ≤ m → m < n + k → Shows (deedAt (run H (fresh H) cs)) m e c s → ⊥)
       → retirementsOf d s (run H (fresh H) (take n cs)) ≤ handBacksOf d s (run H (fresh H) (take (n + k) cs))
   back-from d s n k hd hs hn hc unshown =
-      let st : State = end H (fresh H) (take n cs) in
       let f : ℕ → Deed = deedAt (run H (fresh H) cs) in
       let formed = formed-run H (take n cs) (fresh H) (fresh-formed H) in
       let ok = sound-run H d some hd (take n cs) (fresh H) (fresh-formed H) (fresh-sound H d) in
@@ -69,14 +68,7 @@ module _ (H : Hall) (some : 1 ≤ allScreens H) (cs : List Call) (B : ℕ) (enou
       range = subst (Range H) q (range-run H cs (fresh H) (fresh-formed H) r)
 
       inside : suc r ≤ length cs
-      inside = at (decLt r (length cs))
-        where
-          at : Dec (r < length cs) → suc r ≤ length cs
-          at (yes l) = l
-          at (no l) =
-              let k : nothing ≡ retires d s = sym (deeds-past H cs (fresh H) r (omega arith)) ∙ q in
-              let z : _≡_ {A = ℕ} 0 1 = cc in
-              absurd (omega arith)
+      inside = deed-within H cs (fresh H) r (λ e. let k : nothing ≡ retires d s = sym e ∙ q in let z : _≡_ {A = ℕ} 0 1 = cc in omega arith)
 
       collected : (n : ℕ) → collectsOf d (take n (run H (fresh H) cs)) ≡ collectsOf d (run H (fresh H) (take n cs))
       collected n = ap (collectsOf d) (run-take H n cs (fresh H))

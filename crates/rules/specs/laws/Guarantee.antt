@@ -1,7 +1,7 @@
 -- The guarantee of Definition 2.1, of every list of calls from the opening on.
 use Prim.Native.Nat.{ℕ, _+_, _≤_, _<_}
 use native.Mathlib.Omega.{arith}
-use native.Mathlib.Decide.{ℕ-discrete, decLt, decLe}
+use native.Mathlib.Decide.{ℕ-discrete, decLe}
 use mathlib.Core.Path.{_≡_, sym, ap, _∙_, subst}
 use mathlib.Core.List.{List, []}
 use lib.ListN.{length, getD-replicate}
@@ -13,7 +13,7 @@ use Rattle.rules.specs.laws.Effect.{Range}
 use Rattle.rules.specs.laws.Fresh.{fresh-copies, fresh-formed, fresh-sound}
 use Rattle.rules.specs.laws.Links.{ScreensAgree, link, unlinked}
 use Rattle.rules.specs.laws.Pairing.{MayPair, Guard, guard-along, takes-find-unlinked}
-use Rattle.rules.specs.laws.Splits.{deeds-past, range-run, tells-itself}
+use Rattle.rules.specs.laws.Splits.{deed-within, range-run, tells-itself}
 
 -- A pairing for one desk and one session.
 record Pairs (f : ℕ → Deed) (d s : ℕ) (p : ℕ → ℕ) : Type 0 where
@@ -55,12 +55,11 @@ module _ (H : Hall) (some : 1 ≤ allScreens H) (cs : List Call) where
       })
 
   within-end : (a d s : ℕ) → f a ≡ handsBack d s → a < 0 + length cs
-  within-end a d s q = by-cases (decLt a (length cs))
-    where
-      by-cases : Dec (a < length cs) → a < 0 + length cs
-      by-cases (yes h) = omega arith
-      by-cases (no h) =
-          let k : nothing ≡ handsBack d s = sym (deeds-past H cs (fresh H) a (omega arith)) ∙ q in let z : _≡_ {A = ℕ} 0 1 = cc in absurd (omega arith)
+  within-end a d s q =
+      omega (
+        arith,
+        deed-within H cs (fresh H) a (λ e. let k : nothing ≡ handsBack d s = sym e ∙ q in let z : _≡_ {A = ℕ} 0 1 = cc in omega arith),
+      )
 
   -- the pairing that the guard built; there is no desk 0 and no session 0
   choose : (d s : ℕ) → Dec (1 ≤ d) → Dec (s ≡ 0) → ℕ → ℕ

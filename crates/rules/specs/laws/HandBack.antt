@@ -1,4 +1,4 @@
--- The hand-back at one desk: how many collects a retired session still takes.
+-- The hand-back at one desk (the second half of demand 3): how many collects a retired session still takes, while no screen shows it.
 use Prim.Native.Nat.{_%_, ℕ, suc, _+_, _*_, _≤_, _<_}
 use native.Mathlib.Omega.{arith}
 use mathlib.Core.Path.{_≡_, refl, sym, ap, _∙_}
@@ -10,7 +10,7 @@ use Rattle.rules.specs.Hall.{Desk, TestedPlace, unmarked, usedPlaces}
 use Rattle.rules.specs.History.{copies}
 use Rattle.rules.specs.Steps.{begin, beginAt, collect, handBack, markEach, markedOf, nextScreens, owe, retire, scan, settle, settleIf}
 use Rattle.rules.specs.Steps.{unmarkedOf}
-use Rattle.rules.specs.laws.Collect.{readOn, Orderly, Scanning, begin-keeps, by-scan, copiesOn}
+use Rattle.rules.specs.laws.Collect.{readOn, Orderly, Scanning, begin-keeps, by-scan, copiesOn, scanned-within}
 use Rattle.rules.specs.laws.Lists.{copies-append, copies-drop-append, copies-past-end, drop-after-first, matches}
 use Rattle.rules.specs.laws.Marks.{copies-next-screens, length-mark-each, marked-copies-begin, marked-copies-mark-each, tested-copies-begin}
 use Rattle.rules.specs.laws.Marks.{tested-copies-mark-each, testedCopies, unmarked-and-marked}
@@ -36,18 +36,14 @@ due-start S s B m D hS hB fits = by-cases (D .tested) refl fits
     by-cases [] e f = noReading e (omega arith)
     by-cases (p ∷ ps) e f = thisReading (omega (arith, ap length e)) (f .0) (omega arith)
 
--- With none ahead.
+-- With none ahead: a reading cannot take more collects than are left.
 pub due-end : (S s m : ℕ) (D : Desk) → 1 ≤ S → Orderly S D → Due S s 0 m D → copiesOn s D ≤ m
-due-end S s m D hS ok d = at (D .tested) refl (ok .going) d
-  where
-    at : (t : List TestedPlace) → D .tested ≡ t → Scanning S (D .scanned) t → Due S s 0 m D → copiesOn s D ≤ m
-    at t e g (isReady h) = h
-    at [] e g (thisReading h1 he h2) = absurd (omega (arith, ap length e))
-    at (p ∷ ps) e g (thisReading h1 he h2) = absurd (omega arith)
-    at t e g (noReading h1 h2) = absurd (omega arith)
-    at [] e g (nextReading h1 he h2 h3 h4) = absurd (omega (arith, ap length e))
-    at (p ∷ ps) e g (nextReading h1 he h2 h3 h4) = absurd (omega arith)
+due-end S s m D hS ok (isReady h) = h
+due-end S s m D hS ok (thisReading h1 he h2) = absurd (omega (arith, scanned-within S (D .scanned) (D .tested) hS (ok .going)))
+due-end S s m D hS ok (noReading h1 h2) = absurd (omega arith)
+due-end S s m D hS ok (nextReading h1 he h2 h3 h4) = absurd (omega (arith, scanned-within S (D .scanned) (D .tested) hS (ok .going)))
 
+-- A retire of v: the copy that it adds is among those that may stay.
 pub due-retire : (S s v B m : ℕ) (D : Desk) → D .owed ≡ v → Due S s B m D → Due S s B (matches s v + m) (retire D)
 due-retire S s v B m D q (thisReading h1 he h2) = thisReading h1 he h2
 due-retire S s v B m D q (noReading h1 h2) = noReading h1 h2
@@ -72,6 +68,7 @@ due-begin S s B m D hS ok d = at (D .tested) refl (ok .going) d
     at [] e g (isReady h) = isReady (omega (arith, ap (testedCopies s) e, tested-copies-begin s (D .waiting)))
     at (p ∷ ps) e g h = h
 
+-- with nothing tested after (a), nothing waits either
 none-left : (D : Desk) → begin D .tested ≡ [] → begin D .waiting ≡ []
 none-left D = at (D .tested) refl
   where
@@ -79,6 +76,7 @@ none-left D = at (D .tested) refl
     at [] e h = refl
     at (p ∷ ps) e h = let z : _≡_ {A = ℕ} (suc (length ps)) 0 = sym (ap length e) ∙ ap length h in absurd (omega arith)
 
+-- (b) to (d)
 due-scan : (S s B m : ℕ) (shown : List ℕ) (A : Desk) → 1 ≤ S → length shown ≡ S → copies s shown ≡ 0 → usedPlaces A ≤ 2 * S
     → Scanning S (A .scanned) (A .tested) → (A .tested ≡ [] → A .waiting ≡ []) → Due S s (suc B) m A
     → Due S s B m (handBack (settle S (scan shown A)) .after)

@@ -1,5 +1,5 @@
 -- Lists of calls: cut in two, told from a place on, past their end, and what no call of a list does.
-use Prim.Native.Nat.{ℕ, _+_, _≤_, zero, suc}
+use Prim.Native.Nat.{ℕ, _+_, _≤_, _<_, zero, suc}
 use native.Mathlib.Omega.{arith}
 use mathlib.Core.Path.{_≡_, refl, ap, _∙_, sym}
 use mathlib.Core.Bool.{cond, Bool, true, false}
@@ -53,10 +53,10 @@ tells-from H n cs st = record { at = at n cs st }
         let e : suc n + i ≡ suc (n + i) = omega arith in ap (deedAt (run H st (c ∷ cs))) e ∙ at n cs (step H st c .after) i
 
 -- past the end nothing is done
-pub deeds-past : (H : Hall) (cs : List Call) (st : State) (a : ℕ) → length cs ≤ a → deedAt (run H st cs) a ≡ nothing
-deeds-past H [] st a h = refl
-deeds-past H (c ∷ cs) st zero h = absurd (omega arith)
-deeds-past H (c ∷ cs) st (suc a) h = deeds-past H cs (step H st c .after) a (omega arith)
+pub deed-within : (H : Hall) (cs : List Call) (st : State) (place : ℕ) → (deedAt (run H st cs) place ≡ nothing → ⊥) → place < length cs
+deed-within H [] st place something = absurd (something refl)
+deed-within H (c ∷ cs) st zero something = omega arith
+deed-within H (c ∷ cs) st (suc place) something = omega (arith, deed-within H cs (step H st c .after) place something)
 
 -- every deed of a run is of a desk of the hall
 pub range-run : (H : Hall) (cs : List Call) (st : State) → Formed H st → (m : ℕ) → Range H (deedAt (run H st cs) m)
