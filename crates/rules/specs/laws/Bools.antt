@@ -1,8 +1,6 @@
 -- Answers of two questions at once.
-use Prim.Native.Nat.{ℕ}
-use native.Mathlib.Omega.{arith}
 use mathlib.Core.Path.{_≡_, refl}
-use mathlib.Core.Bool.{Bool, true, false, _&&_}
+use mathlib.Core.Bool.{Bool, true, false, _&&_, true≢false}
 
 pub and-true : (a b : Bool) → a ≡ true → b ≡ true → a && b ≡ true
 and-true true b p q = q
@@ -14,4 +12,4 @@ and-left false b h = h
 
 pub and-right : (a b : Bool) → a && b ≡ true → b ≡ true
 and-right true b h = h
-and-right false b h = let z : _≡_ {A = ℕ} 0 1 = cc in absurd (omega arith)
+and-right false b h = absurd (true≢false (cc))

@@ -3,7 +3,7 @@ use Prim.Native.Nat.{ℕ, zero, suc, _+_, _≤_}
 use native.Mathlib.Omega.{arith}
 use native.Mathlib.Decide.{decLe}
 use mathlib.Core.Path.{_≡_, refl, ap, _∙_, sym, subst}
-use mathlib.Core.Bool.{cond, Bool, true, false, not, _&&_}
+use mathlib.Core.Bool.{cond, Bool, true, false, not, _&&_, true≢false}
 use mathlib.Core.List.{List, [], _∷_}
 use lib.Dec.{eqb}
 use borrow.Author.Tests.{eq-eqb, eqb-true}
@@ -38,8 +38,8 @@ module _ (d : ℕ) where
 
   spaced-by-test : (es : List Event) (f : Bool) → collectsBetween f (deedsOf d es) ≡ true → Spaced d f es
   spaced-by-test [] f q = record {
-    between = λ i j l a b. (let z : _≡_ {A = ℕ} 0 1 = cc in absurd (omega arith));
-    since = λ q j a. (let z : _≡_ {A = ℕ} 0 1 = cc in absurd (omega arith));
+    between = λ i j l a b. (absurd (true≢false (cc)));
+    since = λ q j a. (absurd (true≢false (cc)));
   }
   spaced-by-test (e ∷ es) f q =
       by-cases (isRetireAttempt (own d (deedAt (e ∷ es) 0))) (isCollect (own d (deedAt (e ∷ es) 0))) refl refl f q (spaced-by-test es)
@@ -47,30 +47,30 @@ module _ (d : ℕ) where
       by-cases : (a c : Bool) → isRetireAttempt (own d (deedAt (e ∷ es) 0)) ≡ a → isCollect (own d (deedAt (e ∷ es) 0)) ≡ c → (f : Bool)
           → cond a (not f && collectsBetween true (deedsOf d es)) (cond c (collectsBetween false (deedsOf d es)) (collectsBetween f (deedsOf d es))) ≡ true
           → ((f : Bool) → collectsBetween f (deedsOf d es) ≡ true → Spaced d f es) → Spaced d f (e ∷ es)
-      by-cases true c at ct true q ih = let z : _≡_ {A = ℕ} 0 1 = cc in absurd (omega arith)
+      by-cases true c at ct true q ih = absurd (true≢false (cc))
       by-cases true c at ct false q ih =
           let s = ih true q in
           record {
             between = later-between e es (s .between) (λ j x y. s .since refl j y);
-            since = λ z. (let o : _≡_ {A = ℕ} 0 1 = cc in absurd (omega arith));
+            since = λ z. (absurd (true≢false (cc)));
           }
       by-cases false true at ct f q ih =
           let s = ih false q in
-          record { between = later-between e es (s .between) (λ j x y. (let z : _≡_ {A = ℕ} 0 1 = cc in absurd (omega arith))); since = since }
+          record { between = later-between e es (s .between) (λ j x y. (absurd (true≢false (cc)))); since = since }
         where
           since : f ≡ true → (j : ℕ) → isRetireAttempt (own d (deedAt (e ∷ es) j)) ≡ true → CollectBefore d (e ∷ es) j
-          since z zero x = let o : _≡_ {A = ℕ} 0 1 = cc in absurd (omega arith)
+          since z zero x = absurd (true≢false (cc))
           since z (suc j) x = record { place = 0; before = omega arith; here = ct }
       by-cases false false at ct f q ih =
           let s = ih f q in
           record {
-            between = later-between e es (s .between) (λ j x y. (let z : _≡_ {A = ℕ} 0 1 = cc in absurd (omega arith)));
+            between = later-between e es (s .between) (λ j x y. (absurd (true≢false (cc))));
             since = since (s .since);
           }
         where
           since : (f ≡ true → (j : ℕ) → isRetireAttempt (own d (deedAt es j)) ≡ true → CollectBefore d es j) → f ≡ true → (j : ℕ)
               → isRetireAttempt (own d (deedAt (e ∷ es) j)) ≡ true → CollectBefore d (e ∷ es) j
-          since s z zero x = let o : _≡_ {A = ℕ} 0 1 = cc in absurd (omega arith)
+          since s z zero x = absurd (true≢false (cc))
           since s z (suc j) x = later-collect e es j (s z j x)
 
   pub disciplined : (es : List Event) → collectsBetween false (deedsOf d es) ≡ true → Disciplined (deedAt es) d
@@ -84,7 +84,7 @@ placesWhere test n (e ∷ es) =
 
 pub place-listed : (test : Deed → Bool) → test nothing ≡ false → (es : List Event) (n m : ℕ) → test (deedAt es m) ≡ true
     → 1 ≤ copies (n + m) (placesWhere test n es)
-place-listed test none [] n m t = let z : _≡_ {A = ℕ} 0 1 = cc in absurd (omega arith)
+place-listed test none [] n m t = absurd (true≢false (cc))
 place-listed test none (e ∷ es) n zero t =
     let here : n + 0 ≡ n = omega arith in
     rw t (omega (arith, ap (λ (k : ℕ). matches k n) here, matches-same n))

@@ -2,14 +2,14 @@
 use Prim.Native.Nat.{ℕ, _+_, _-_, _≤_, suc, _*_, _<_}
 use native.Mathlib.Omega.{arith}
 use native.Mathlib.Decide.{decLt}
-use mathlib.Core.Path.{_≡_, sym, ap, _∙_, subst}
-use mathlib.Core.Bool.{false}
+use mathlib.Core.Path.{_≡_, ap, subst}
+use mathlib.Core.Bool.{false, true≢false}
 use mathlib.Core.List.{List}
 use lib.ListN.{length, take, drop}
 use Rattle.rules.specs.Demands.{BackWithin, exactBound}
 use Rattle.rules.specs.Hall.{Hall, allScreens, deskOf, fresh, usedPlaces}
 use Rattle.rules.specs.History.{Deed, Disciplined, Shows, collectsOf, deedAt, handBacks, handBacksOf, isCollect, isHandBackOf, lacksRoom}
-use Rattle.rules.specs.History.{nothing, retirements, retirementsOf, retires}
+use Rattle.rules.specs.History.{retirements, retirementsOf}
 use Rattle.rules.specs.Steps.{Call, end, run}
 use Rattle.rules.specs.laws.Effect.{Range}
 use Rattle.rules.specs.laws.Fresh.{fresh-copies, fresh-formed, fresh-places, fresh-room, fresh-shown, fresh-sound}
@@ -24,7 +24,7 @@ module _ (H : Hall) (some : 1 ≤ allScreens H) (cs : List Call) where
   never-lacks-room d disciplined i q =
       let r = subst (Range H) q (range-run H cs (fresh H) (fresh-formed H) i) in
       room-run H d some (r .0) cs (fresh H) false (fresh-formed H) (fresh-room H d some)
-      (record { between = disciplined; since = λ z. (let o : _≡_ {A = ℕ} 0 1 = cc in absurd (omega arith)) }) i q
+      (record { between = disciplined; since = λ z. (absurd (true≢false (cc))) }) i q
 
   -- ---- What is on the list.
   pub on-list : (d : ℕ) → 1 ≤ d → retirements d (run H (fresh H) cs) ≡ handBacks d (run H (fresh H) cs) + usedPlaces (deskOf (end H (fresh H) cs) d)
@@ -68,7 +68,7 @@ module _ (H : Hall) (some : 1 ≤ allScreens H) (cs : List Call) (B : ℕ) (enou
       range = subst (Range H) q (range-run H cs (fresh H) (fresh-formed H) r)
 
       inside : suc r ≤ length cs
-      inside = deed-within H cs (fresh H) r (λ e. let k : nothing ≡ retires d s = sym e ∙ q in let z : _≡_ {A = ℕ} 0 1 = cc in omega arith)
+      inside = deed-within H cs (fresh H) r (λ e. true≢false (cc))
 
       collected : (n : ℕ) → collectsOf d (take n (run H (fresh H) cs)) ≡ collectsOf d (run H (fresh H) (take n cs))
       collected n = ap (collectsOf d) (run-take H n cs (fresh H))

@@ -3,7 +3,7 @@
 use Prim.Native.Nat.{ℕ, zero, suc, _*_, _-_, _≤_, _<_}
 use native.Mathlib.Omega.{arith}
 use mathlib.Core.Path.{_≡_, refl, sym, _∙_, subst}
-use mathlib.Core.Bool.{Bool, true, false, cond, not, _&&_}
+use mathlib.Core.Bool.{Bool, true, false, cond, not, true≢false}
 use mathlib.Core.List.{List}
 use lib.ListN.{length, getD, set, length-set}
 use lib.Seq.{getD-set-same, getD-set-other, set-getD}
@@ -12,7 +12,7 @@ use borrow.Author.Tests.{eqb-true, eqb-false, ltb-true, ltb-false, leb-true, not
 use Rattle.rules.specs.Hall.{Desk, Hall, State, allScreens, deskOf, emptyDesk, screenIndex, usedPlaces, withDesk, withHeld, withShown}
 use Rattle.rules.specs.History.{Deed, collects, deed, drops, handsBack, lacksRoom, nothing, own, retires, swaps, takes}
 use Rattle.rules.specs.Steps.{Call, Collect, Drop, Retire, Swap, Take, collect, decide, firstNo, inRange, owe, perform, questions, retire, step}
-use Rattle.rules.specs.laws.Bools.{and-true}
+use Rattle.rules.specs.laws.Bools.{and-left, and-right, and-true}
 
 -- A state with as many desks and screens as the hall.
 pub record Formed (H : Hall) (st : State) : Type 0 where
@@ -21,16 +21,10 @@ pub record Formed (H : Hall) (st : State) : Type 0 where
 
 -- ---- The questions that an accepted call has been asked.
 pub in-range : (n m : ℕ) → inRange n m ≡ true → (1 ≤ n) × (n ≤ m)
-in-range n m h = by-cases (leb 1 n) (leb n m) refl refl h
-  where
-    by-cases : (a b : Bool) → leb 1 n ≡ a → leb n m ≡ b → a && b ≡ true → (1 ≤ n) × (n ≤ m)
-    by-cases true true p q e = (leb-true 1 n p, leb-true n m q)
-    by-cases true false p q e = let z : _≡_ {A = ℕ} 0 1 = cc in absurd (omega arith)
-    by-cases false b p q e = let z : _≡_ {A = ℕ} 0 1 = cc in absurd (omega arith)
+in-range n m h = (leb-true 1 n (and-left (leb 1 n) (leb n m) h), leb-true n m (and-right (leb 1 n) (leb n m) h))
 
 pub out-of-range : (n m : ℕ) → inRange n m ≡ false → (1 ≤ n) × (n ≤ m) → ⊥
-out-of-range n m e r =
-    let t : inRange n m ≡ true = and-true (leb 1 n) (leb n m) (le-leb 1 n (r .0)) (le-leb n m (r .1)) in let z : _≡_ {A = ℕ} 0 1 = cc in omega arith
+out-of-range n m e r = true≢false (sym (and-true (leb 1 n) (leb n m) (le-leb 1 n (r .0)) (le-leb n m (r .1))) ∙ e)
 
 -- a first question, and those after it
 pub holds : (b : Bool) (m n : ℕ) → cond {A = ℕ} b m (suc n) ≡ 0 → (b ≡ true) × (m ≡ 0)

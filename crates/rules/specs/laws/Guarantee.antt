@@ -3,6 +3,7 @@ use Prim.Native.Nat.{ℕ, _+_, _≤_, _<_}
 use native.Mathlib.Omega.{arith}
 use native.Mathlib.Decide.{ℕ-discrete, decLe}
 use mathlib.Core.Path.{_≡_, sym, ap, _∙_, subst}
+use mathlib.Core.Bool.{true≢false}
 use mathlib.Core.List.{List, []}
 use lib.ListN.{length, getD-replicate}
 use Rattle.rules.specs.Demands.{Guarantee}
@@ -58,7 +59,7 @@ module _ (H : Hall) (some : 1 ≤ allScreens H) (cs : List Call) where
   within-end a d s q =
       omega (
         arith,
-        deed-within H cs (fresh H) a (λ e. let k : nothing ≡ handsBack d s = sym e ∙ q in let z : _≡_ {A = ℕ} 0 1 = cc in omega arith),
+        deed-within H cs (fresh H) a (λ e. true≢false (cc)),
       )
 
   -- the pairing that the guard built; there is no desk 0 and no session 0

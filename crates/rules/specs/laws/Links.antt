@@ -1,8 +1,7 @@
 -- What each screen's present take is linked to. It is kept beside the state, in the proofs only.
 use Prim.Native.Nat.{ℕ, zero, suc, _-_, _≤_, _<_}
-use native.Mathlib.Omega.{arith}
 use mathlib.Core.Path.{_≡_, refl, sym, ap, _∙_, subst}
-use mathlib.Core.Bool.{Bool, true, false, cond}
+use mathlib.Core.Bool.{Bool, true, false, cond, true≢false}
 use mathlib.Core.List.{List}
 use lib.ListN.{getD}
 use lib.Dec.{eqb}
@@ -90,9 +89,9 @@ module _ (H : Hall) (st : State) (formed : Formed H st) (f : ℕ → Deed) (n : 
       → Agree f after v l
   agree-kept D after k no-swap no-retire v unlinked a = a
   agree-kept D after k no-swap no-retire v (beforeSwap p) a =
-      before-swap-kept D after k v p (λ d q. let w = ap isSwap q in let z : _≡_ {A = ℕ} 0 1 = cc in omega arith) a
+      before-swap-kept D after k v p (λ d q. true≢false (sym (ap isSwap q) ∙ no-swap)) a
   agree-kept D after k no-swap no-retire v (beforeRetire e) a =
-      before-retire-kept D after k v e (λ s q. let w = ap isRetirement q in let z : _≡_ {A = ℕ} 0 1 = cc in omega arith) a
+      before-retire-kept D after k v e (λ s q. true≢false (sym (ap isRetirement q) ∙ no-retire)) a
   agree-kept D after k no-swap no-retire v (linkedTo r) a = a
 
   take-agree : (d c p w : ℕ) (after : State) → Took H st d c p w after → (v : ℕ) (b : Bool) (l : Link) → (b ≡ true → v ≡ 0) → Agree f st v l
@@ -120,14 +119,14 @@ module _ (H : Hall) (st : State) (formed : Formed H st) (f : ℕ → Deed) (n : 
           (a .0, k .desk .0, a .2 ∙ ap (λ (m : ℕ). getD (st .held) (m - 1) 0) (sym (eqb-true p q t)) ∙ sym (swap-owes H st formed d p after k))
       by-cases false t = before-swap-kept (swaps d p) after k v q (λ e u. eqb-false p q t (cc)) a
   swap-agree d p after k v (beforeRetire e) a =
-      before-retire-kept (swaps d p) after k v e (λ s u. let z : _≡_ {A = ℕ} 0 1 = cc in omega arith) a
+      before-retire-kept (swaps d p) after k v e (λ s u. true≢false (cc)) a
   swap-agree d p after k v (linkedTo r) a = a
 
   retire-agree : (d s : ℕ) (after : State) → Did H st (retires d s) after → f n ≡ retires d s → (v : ℕ) (l : Link) → Agree f st v l
       → Agree f after v (onRetire d n l)
   retire-agree d s after k q v unlinked a = a
   retire-agree d s after k q v (beforeSwap p) a =
-      before-swap-kept (retires d s) after k v p (λ e u. let z : _≡_ {A = ℕ} 0 1 = cc in omega arith) a
+      before-swap-kept (retires d s) after k v p (λ e u. true≢false (cc)) a
   retire-agree d s after k q v (beforeRetire e) a = by-cases (eqb d e) refl
     where
       retired : d ≡ e → v ≡ s

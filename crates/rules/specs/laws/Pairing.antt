@@ -4,7 +4,7 @@ use Prim.Native.Nat.{ℕ, zero, suc, _+_, _≤_, _<_}
 use native.Mathlib.Omega.{arith}
 use native.Mathlib.Decide.{ℕ-discrete, decLe}
 use mathlib.Core.Path.{_≡_, refl, sym, ap, _∙_, subst}
-use mathlib.Core.Bool.{Bool, true, false, cond}
+use mathlib.Core.Bool.{Bool, false, cond, true≢false}
 use mathlib.Core.List.{List, [], _∷_, _++_}
 use lib.ListN.{length}
 use lib.Dec.{eqb}
@@ -114,7 +114,7 @@ module _ (H : Hall) (f : ℕ → Deed) (d s n : ℕ) where
       own r h (no q) = let m = g .mine r (omega (arith, matches-other r n q)) in (omega (arith, m .0), m .1)
 
       under : (a : ℕ) → a < suc n → f a ≡ handsBack d s → a < n
-      under = before-last f d s n (λ q. let k : retires d s ≡ handsBack d s = sym e ∙ q in let z : _≡_ {A = ℕ} 0 1 = cc in omega arith)
+      under = before-last f d s n (λ q. true≢false (cc))
 
       apart : (a r : ℕ) → a < n → f a ≡ handsBack d s → 1 ≤ matches r n + g .count r → g .pair a ≡ r → Dec (r ≡ n) → ⊥
       apart a r h q c z (yes w) = omega (arith, g .good a h q .earlier)
@@ -194,9 +194,7 @@ module _ (H : Hall) (f : ℕ → Deed) (in-hall : (m : ℕ) → Range H (f m))
       -- the deed at n is no hand-back of the desk
       no-hand-back : (D : Deed) → own d (f n) ≡ D → isHandBack D ≡ false → f n ≡ handsBack d s → ⊥
       no-hand-back D o other t =
-          let w : true ≡ isHandBack D = ap isHandBack (sym (own-hands-back d s) ∙ ap (own d) (sym t) ∙ o) in
-          let z : _≡_ {A = ℕ} 0 1 = cc in
-          omega arith
+          true≢false (ap isHandBack (sym (own-hands-back d s) ∙ ap (own d) (sym t) ∙ o) ∙ other)
 
       -- the list stays as it is
       same-list : (D : Deed) → own d (f n) ≡ D → isHandBack D ≡ false → (o : ℕ) → deskOf (step H st c .after) d ≡ owe (deskOf st d) o
@@ -227,7 +225,7 @@ module _ (H : Hall) (f : ℕ → Deed) (in-hall : (m : ℕ) → Range H (f m))
       retiring v o y (yes t) = guard-retire H f d s n (deskOf st d) (o ∙ sym t) (y ∙ ap (retires d) (sym t)) g
       retiring v o y (no t) =
           guard-kept H f d s n (deskOf st d) (retire (deskOf st d))
-          (λ u. let k : retires d v ≡ handsBack d s = sym y ∙ u in let z : _≡_ {A = ℕ} 0 1 = cc in omega arith) g (retired-other v o t)
+          (λ u. true≢false (cc)) g (retired-other v o t)
 
       -- a collect that replies another session, or 0
       collecting : (v : ℕ) → collect (allScreens H) (st .shown) (deskOf st d) .session ≡ v → (s ≡ v → ⊥) → (f n ≡ handsBack d s → ⊥)
@@ -270,7 +268,7 @@ module _ (H : Hall) (f : ℕ → Deed) (in-hall : (m : ℕ) → Range H (f m))
 pub takes-find-unlinked : (H : Hall) (f : ℕ → Deed) (cs : List Call) (st : State) (n : ℕ) → Tells f n (run H st cs) → Formed H st
     → ScreensAgree H f n st → (m x c p v : ℕ) → f (n + m) ≡ takes x c p v → link H f (screenIndex H x c) (n + m) ≡ unlinked
 takes-find-unlinked H f [] st n tells formed ag m x y p v t =
-    let k : nothing ≡ takes x y p v = sym (tells .at m) ∙ t in let z : _≡_ {A = ℕ} 0 1 = cc in absurd (omega arith)
+    absurd (true≢false (cc (tells .at m)))
 takes-find-unlinked H f (c ∷ cs) st n tells formed ag zero x y p v t =
     let e : n ≡ n + 0 = omega arith in
     subst (λ (k : ℕ). link H f (screenIndex H x y) k ≡ unlinked) e

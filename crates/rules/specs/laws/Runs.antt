@@ -2,7 +2,7 @@
 use Prim.Native.Nat.{_+_, _≤_, ℕ, zero, suc, _<_}
 use native.Mathlib.Omega.{arith}
 use mathlib.Core.Path.{_≡_, refl, ap, subst, sym, _∙_}
-use mathlib.Core.Bool.{not, Bool, true, false}
+use mathlib.Core.Bool.{not, Bool, true, false, true≢false}
 use mathlib.Core.List.{List, [], _∷_}
 use lib.ListN.{length}
 use lib.Dec.{eqb}
@@ -66,7 +66,7 @@ spaced-next d f e es sp = record { between = between; since = by-cases (own d (d
     fromSince z q j b = let c = sp .since q (suc j) b in later j (c .place) (not-first (c .place) (c .here)) (c .before) (c .here)
       where
         not-first : (m : ℕ) → isCollect (own d (deedAt (e ∷ es) m)) ≡ true → 0 < m
-        not-first zero h = let o : _≡_ {A = ℕ} 0 1 = cc in absurd (omega arith)
+        not-first zero h = absurd (true≢false (cc))
         not-first (suc m) h = omega arith
 
     by-cases : (D : Deed) → own d (deedAt (e ∷ es) 0) ≡ D → pending f D ≡ true → (j : ℕ) → isRetireAttempt (own d (deedAt es j)) ≡ true
@@ -76,8 +76,8 @@ spaced-next d f e es sp = record { between = between; since = by-cases (own d (d
     by-cases (swaps by p) q = fromSince (ap isCollect q)
     by-cases (retires by v) q = λ z. fromFirst (ap isRetireAttempt q)
     by-cases (lacksRoom by) q = λ z. fromFirst (ap isRetireAttempt q)
-    by-cases (collects by) q = λ z. (let o : _≡_ {A = ℕ} 0 1 = cc in absurd (omega arith))
-    by-cases (handsBack by v) q = λ z. (let o : _≡_ {A = ℕ} 0 1 = cc in absurd (omega arith))
+    by-cases (collects by) q = λ z. (absurd (true≢false (cc)))
+    by-cases (handsBack by v) q = λ z. (absurd (true≢false (cc)))
     by-cases nothing q = fromSince (ap isCollect q)
 
 -- a retire refused for want of room is an attempt of that desk
@@ -108,7 +108,7 @@ module _ (H : Hall) (d : ℕ) (hS : 1 ≤ allScreens H) (hd : 1 ≤ d) where
 
   pub room-run : (cs : List Call) (st : State) (f : Bool) → Formed H st → Room (allScreens H) (oneIf f) (deskOf st d) → Spaced d f (run H st cs)
       → (i : ℕ) → deedAt (run H st cs) i ≡ lacksRoom d → ⊥
-  room-run [] st f formed r sp i q = let o : _≡_ {A = ℕ} 0 1 = cc in omega arith
+  room-run [] st f formed r sp i q = true≢false (cc)
   room-run (c ∷ cs) st f formed r sp zero q =
       let lacks = own-lacks-room d _ q in
       has-room f (run H st (c ∷ cs)) (deskOf st d) (deskOf (step H st c .after) d) sp (ap isRetireAttempt lacks) r

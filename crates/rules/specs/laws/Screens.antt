@@ -3,7 +3,7 @@ use Prim.Native.Nat.{ℕ, _+_, _≤_, zero, suc, _<_}
 use native.Mathlib.Omega.{arith}
 use native.Mathlib.Decide.{ℕ-discrete}
 use mathlib.Core.Path.{_≡_, refl, sym, ap, _∙_, subst}
-use mathlib.Core.Bool.{cond, Bool, true, false}
+use mathlib.Core.Bool.{cond, Bool, true, false, true≢false}
 use mathlib.Core.List.{List, [], _∷_}
 use lib.ListN.{length, take, getD, set}
 use lib.Dec.{eqb}
@@ -63,7 +63,7 @@ module _ (H : Hall) (f : ℕ → Deed) (n : ℕ) (st : State) (formed : Formed H
       }
       by-cases false t nz =
           still-shown H f n x (getD (st .shown) x 0) (before x nz)
-          (λ u. let k : takes d c p v ≡ drops (before x nz .desk) (before x nz .screen) = sym q ∙ u in let z : _≡_ {A = ℕ} 0 1 = cc in omega arith)
+          (λ u. true≢false (cc))
 
   after-drop : (d c : ℕ) (after : State) → Dropped H st d c after → f n ≡ drops d c → AllShown H f (suc n) (withShown st (screenIndex H d c) 0)
   after-drop d c after k q x nz =
@@ -96,7 +96,7 @@ module _ (H : Hall) (f : ℕ → Deed) (n : ℕ) (st : State) (formed : Formed H
           still : (getD (st .shown) x 0 ≡ 0 → ⊥) → ShownBy H f (suc n) x (getD (st .shown) x 0)
           still nz =
               still-shown H f n x (getD (st .shown) x 0) (before x nz)
-              (λ u. let w : isDrop D ≡ true = ap isDrop (sym q ∙ u) in let z : _≡_ {A = ℕ} 0 1 = cc in omega arith)
+              (λ u. true≢false (ap isDrop (sym u ∙ q) ∙ no-drop))
 
       at : (D : Deed) (after : State) → f n ≡ D → Did H st D after → AllShown H f (suc n) after
       at (takes d c p v) after q k = rw (k .state) (after-take d c p v after k q)

@@ -2,6 +2,7 @@
 use Prim.Native.Nat.{ℕ, zero, suc, _-_, _≤_, _<_}
 use native.Mathlib.Omega.{arith}
 use mathlib.Core.Path.{_≡_, sym, _∙_}
+use mathlib.Core.Bool.{true≢false}
 use mathlib.Core.List.{List, [], _∷_}
 use lib.ListN.{getD}
 use Rattle.rules.specs.Hall.{Hall, State, deskOf}
@@ -13,7 +14,7 @@ use Rattle.rules.specs.laws.Owed.{held-kept, owed-kept, swap-owes}
 -- The desk owes v: its next retirement is of v.
 owed-run : (H : Hall) (e v s : ℕ) → 1 ≤ e → (v ≡ 0 → ⊥) → (cs : List Call) (st : State) (r : ℕ) → Formed H st → deskOf st e .owed ≡ v
     → deedAt (run H st cs) r ≡ retires e s → ((m w : ℕ) → m < r → deedAt (run H st cs) m ≡ retires e w → ⊥) → v ≡ s
-owed-run H e v s he nz [] st r formed o k f = let z : _≡_ {A = ℕ} 0 1 = cc in absurd (omega arith)
+owed-run H e v s he nz [] st r formed o k f = absurd (true≢false (cc))
 owed-run H e v s he nz (c ∷ cs) st zero formed o k f = sym o ∙ did-as H st formed c (retires e s) k .done .owed
 owed-run H e v s he nz (c ∷ cs) st (suc r) formed o k f =
     owed-run H e v s he nz cs (step H st c .after) r (formed-step H st formed c)
@@ -24,7 +25,7 @@ owed-run H e v s he nz (c ∷ cs) st (suc r) formed o k f =
 held-run : (H : Hall) (p v d s : ℕ) → 1 ≤ p → (v ≡ 0 → ⊥) → (cs : List Call) (st : State) (j r : ℕ) → Formed H st → getD (st .held) (p - 1) 0 ≡ v
     → deedAt (run H st cs) j ≡ swaps d p → ((m x : ℕ) → m < j → deedAt (run H st cs) m ≡ swaps x p → ⊥)
     → j < r → deedAt (run H st cs) r ≡ retires d s → ((m w : ℕ) → j < m → m < r → deedAt (run H st cs) m ≡ retires d w → ⊥) → v ≡ s
-held-run H p v d s hp nz [] st j r formed o k f l k′ f′ = let z : _≡_ {A = ℕ} 0 1 = cc in absurd (omega arith)
+held-run H p v d s hp nz [] st j r formed o k f l k′ f′ = absurd (true≢false (cc))
 held-run H p v d s hp nz (c ∷ cs) st j zero formed o k f l k′ f′ = absurd (omega arith)
 held-run H p v d s hp nz (c ∷ cs) st zero (suc r) formed o k f l k′ f′ =
     let w = did-as H st formed c (swaps d p) k in
@@ -39,13 +40,13 @@ held-run H p v d s hp nz (c ∷ cs) st (suc j) (suc r) formed o k f l k′ f′ 
 take-run : (H : Hall) (x y p v d s : ℕ) (cs : List Call) (st : State) (i j r : ℕ) → Formed H st → deedAt (run H st cs) i ≡ takes x y p v
     → i < j → deedAt (run H st cs) j ≡ swaps d p → ((m x : ℕ) → i < m → m < j → deedAt (run H st cs) m ≡ swaps x p → ⊥)
     → j < r → deedAt (run H st cs) r ≡ retires d s → ((m w : ℕ) → j < m → m < r → deedAt (run H st cs) m ≡ retires d w → ⊥) → v ≡ s
-take-run H x y p v d s [] st i j r formed t h k f l k′ f′ = let z : _≡_ {A = ℕ} 0 1 = cc in absurd (omega arith)
+take-run H x y p v d s [] st i j r formed t h k f l k′ f′ = absurd (true≢false (cc))
 take-run H x y p v d s (c ∷ cs) st i zero r formed t h k f l k′ f′ = absurd (omega arith)
 take-run H x y p v d s (c ∷ cs) st i (suc j) zero formed t h k f l k′ f′ = absurd (omega arith)
 take-run H x y p v d s (c ∷ cs) st zero (suc j) (suc r) formed t h k f l k′ f′ =
     let w = did-as H st formed c (takes x y p v) t in
     held-run H p v d s (w .position) (w .some) cs (step H st c .after) j r (formed-step H st formed c)
-    (held-kept H st formed (takes x y p v) (step H st c .after) w p (w .position) (λ a q. let z : _≡_ {A = ℕ} 0 1 = cc in omega arith) ∙ sym (w .session))
+    (held-kept H st formed (takes x y p v) (step H st c .after) w p (w .position) (λ a q. true≢false (cc)) ∙ sym (w .session))
     k (λ m x h. f (suc m) x (omega arith) (omega arith)) (omega arith) k′ (λ m y h h′. f′ (suc m) y (omega arith) (omega arith))
 take-run H x y p v d s (c ∷ cs) st (suc i) (suc j) (suc r) formed t h k f l k′ f′ =
     take-run H x y p v d s cs (step H st c .after) i j r (formed-step H st formed c) t (omega arith) k

@@ -3,7 +3,7 @@ use Prim.Native.Nat.{ℕ, zero, suc, _+_, _-_, _≤_, _<_}
 use native.Mathlib.Omega.{arith}
 use native.Mathlib.Decide.{ℕ-discrete}
 use mathlib.Core.Path.{_≡_, refl, sym, ap, _∙_, subst}
-use mathlib.Core.Bool.{Bool, true, false, cond}
+use mathlib.Core.Bool.{Bool, true, false, cond, true≢false}
 use lib.Dec.{eqb}
 use borrow.Author.Tests.{eqb-true, eqb-false, eq-eqb, ne-eqb}
 use Rattle.rules.specs.Hall.{Hall, screenIndex}
@@ -33,7 +33,7 @@ module _ (H : Hall) (f : ℕ → Deed) (in-hall : (m : ℕ) → Range H (f m)) (
   -- a place with a deed that fails a test is not the place of one that passes it
   not-there : (test : Deed → Bool) (m n : ℕ) (E : Deed) → f m ≡ E → test E ≡ true → test (f n) ≡ false → n ≡ m → ⊥
   not-there test m n E at passes fails t =
-      let w : test (f n) ≡ test E = ap (λ (k : ℕ). test (f k)) t ∙ ap test at in let z : _≡_ {A = ℕ} 0 1 = cc in omega arith
+      true≢false (sym passes ∙ sym (ap test at) ∙ ap (λ (k : ℕ). test (f k)) (sym t) ∙ fails)
 
   -- the deed at n is neither a swap nor a retirement, and no take or drop of the screen
   plain : (n : ℕ) (D : Deed) → f n ≡ D → isSwap D ≡ false → isRetirement D ≡ false
@@ -41,13 +41,13 @@ module _ (H : Hall) (f : ℕ → Deed) (in-hall : (m : ℕ) → Range H (f m)) (
       → Stage H f (screenIndex H d c) p e j r (suc n)
   plain n D q no-swap no-retire same (first a l) =
       let z : n ≡ j → ⊥ = not-there isSwap j n (swaps e p) (sw .here) refl (ap isSwap q ∙ no-swap) in
-      first (omega arith) (after n D (beforeSwap p) (beforeSwap p) q l (same (beforeSwap p) (λ t. let o : _≡_ {A = ℕ} 0 1 = cc in omega arith)))
+      first (omega arith) (after n D (beforeSwap p) (beforeSwap p) q l (same (beforeSwap p) (λ t. true≢false (cc))))
   plain n D q no-swap no-retire same (second a b l) =
       let z : n ≡ r → ⊥ = not-there isRetirement r n (retires e s) (re .here) refl (ap isRetirement q ∙ no-retire) in
       second (omega arith) (omega arith)
-      (after n D (beforeRetire e) (beforeRetire e) q l (same (beforeRetire e) (λ t. let o : _≡_ {A = ℕ} 0 1 = cc in omega arith)))
+      (after n D (beforeRetire e) (beforeRetire e) q l (same (beforeRetire e) (λ t. true≢false (cc))))
   plain n D q no-swap no-retire same (third a l) =
-      third (omega arith) (after n D (linkedTo r) (linkedTo r) q l (same (linkedTo r) (λ t. let o : _≡_ {A = ℕ} 0 1 = cc in omega arith)))
+      third (omega arith) (after n D (linkedTo r) (linkedTo r) q l (same (linkedTo r) (λ t. true≢false (cc))))
 
   keep-take : (n a b w x : ℕ) (l : Link) → (l ≡ unlinked → ⊥) → next H (screenIndex H d c) n (takes a b w x) l ≡ l
   keep-take n a b w x unlinked z = absurd (z refl)
