@@ -57,7 +57,7 @@ module _ (H : Hall) (some : 1 ≤ allScreens H) (cs : List Call) (B : ℕ) (enou
       let c2 = copies-run H d some hd s hs (take k (drop n cs)) (end H (fresh H) (take n cs)) formed ok in
       let du =
       due-run H d some hd s (take k (drop n cs)) (end H (fresh H) (take n cs)) B 0 formed ok
-      (due-start (allScreens H) s B 0 (deskOf (end H (fresh H) (take n cs)) d) some enough (ok .pass)) hidden hc in
+      (due-start (allScreens H) s B 0 (deskOf (end H (fresh H) (take n cs)) d) enough (ok .pass)) hidden hc in
       let hb = count-split (isHandBackOf s) d H n k cs (fresh H) in
       omega (arith, fresh-copies H d s)
 

@@ -29,8 +29,8 @@ pub data Due (S s B m : ℕ) (D : Desk) : Type 0 where
   isReady : copies s (drop B (D .ready)) + testedCopies s (D .tested) + copies s (D .waiting) ≤ m → Due S s B m D
 
 -- At the retire, with enough collects ahead.
-pub due-start : (S s B m : ℕ) (D : Desk) → 1 ≤ S → exactBound S ≤ B → ScanFits S (D .scanned) (D .tested) → Due S s B m D
-due-start S s B m D hS hB fits = by-cases (D .tested) refl fits
+pub due-start : (S s B m : ℕ) (D : Desk) → exactBound S ≤ B → ScanFits S (D .scanned) (D .tested) → Due S s B m D
+due-start S s B m D hB fits = by-cases (D .tested) refl fits
   where
     by-cases : (t : List TestedPlace) → D .tested ≡ t → ScanFits S (D .scanned) t → Due S s B m D
     by-cases [] e f = noReading e (omega arith)
@@ -52,8 +52,8 @@ due-retire S s v B m D q (nextReading h1 he h2 h3 h4) =
 due-retire S s v B m D q (isReady h) = isReady (omega (arith, copies-append s (D .waiting) (D .owed ∷ []), ap (matches s) q))
 
 -- (a): what was waiting is tested, unmarked.
-due-begin : (S s B m : ℕ) (D : Desk) → 1 ≤ S → Orderly S D → Due S s (suc B) m D → Due S s (suc B) m (begin D)
-due-begin S s B m D hS ok d = at (D .tested) refl (ok .going) d
+due-begin : (S s B m : ℕ) (D : Desk) → Orderly S D → Due S s (suc B) m D → Due S s (suc B) m (begin D)
+due-begin S s B m D ok d = at (D .tested) refl (ok .going) d
   where
     start : (w : List ℕ) → D .waiting ≡ w → D .scanned ≡ 0 → 2 * S + readings S ≤ suc B + 1 → Due S s (suc B) m (beginAt [] D)
     start [] q k0 h = noReading (ap (map unmarked) q) h
@@ -123,7 +123,7 @@ pub due-collect : (S s B m : ℕ) (shown : List ℕ) (D : Desk) → 1 ≤ S → 
     → Due S s B m (collect S shown D .after)
 due-collect S s B m shown D hS hl hid ok d =
     let b = begin-keeps S D hS ok in
-    due-scan S s B m shown (begin D) hS hl hid (omega (arith, b .total, ok .total)) (b .going) (none-left D) (due-begin S s B m D hS ok d)
+    due-scan S s B m shown (begin D) hS hl hid (omega (arith, b .total, ok .total)) (b .going) (none-left D) (due-begin S s B m D ok d)
 
 -- What a swap makes the desk owe has no part in it.
 pub due-owe : (S s B m o : ℕ) (D : Desk) → Due S s B m D → Due S s B m (owe D o)

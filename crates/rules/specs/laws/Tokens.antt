@@ -129,20 +129,21 @@ module _ (H : Hall) (f : ℕ → Deed) (n : ℕ) where
           at (yes t) = let v : getD (st .shown) k 0 ≡ s = a .1 d s (mine q t) in rw v (omega (arith, sum-linked q us, one q, matches-same s))
           at (no t) = omega (arith, sum-linked q us)
 
+-- The marks keep up with a count g of the screens that grows by at most one for a screen that shows s, and stays within the copies.
 marks-cover-reads : (s : ℕ) (g : ℕ → ℕ) (shown : List ℕ) (m k : ℕ) (ps : List TestedPlace)
     → ((j : ℕ) → j < length shown → g (suc j) ≤ g j + matches s (getD shown j 0)) → ((j : ℕ) → j ≤ length shown → g j ≤ testedCopies s ps)
-    → k ≤ length shown → g k ≤ copies s (markedOf ps)
+    → g k ≤ copies s (markedOf ps)
     → g (k + length (take m (drop k shown))) ≤ copies s (markedOf (markEach (take m (drop k shown)) ps))
-marks-cover-reads s g shown zero k ps st top hk h = subst (λ (j : ℕ). g j ≤ copies s (markedOf ps)) (omega arith) h
-marks-cover-reads s g shown (suc m) k ps st top hk h =
+marks-cover-reads s g shown zero k ps st top h = subst (λ (j : ℕ). g j ≤ copies s (markedOf ps)) (omega arith) h
+marks-cover-reads s g shown (suc m) k ps st top h =
     by-cases (decLt k (length shown)) (λ ps′ b. marks-cover-reads s g shown m (suc k) ps′ st (λ j hj. omega (arith, top j hj)))
   where
     by-cases : Dec (k < length shown)
-        → ((ps′ : List TestedPlace) → testedCopies s ps′ ≡ testedCopies s ps → suc k ≤ length shown → g (suc k) ≤ copies s (markedOf ps′) → g (suc k + length (take m (drop (suc k) shown))) ≤ copies s (markedOf (markEach (take m (drop (suc k) shown)) ps′)))
+        → ((ps′ : List TestedPlace) → testedCopies s ps′ ≡ testedCopies s ps → g (suc k) ≤ copies s (markedOf ps′) → g (suc k + length (take m (drop (suc k) shown))) ≤ copies s (markedOf (markEach (take m (drop (suc k) shown)) ps′)))
         → g (k + length (take (suc m) (drop k shown))) ≤ copies s (markedOf (markEach (take (suc m) (drop k shown)) ps))
     by-cases (yes t) ih =
         let v = getD shown k 0 in
-        let r = ih (mark v ps) (tested-copies-mark s v ps) t (omega (arith, mark-finds-a-copy s v ps, st k t, top (suc k) t)) in
+        let r = ih (mark v ps) (tested-copies-mark s v ps) (omega (arith, mark-finds-a-copy s v ps, st k t, top (suc k) t)) in
         rw (drop-cons shown k 0 t) (subst (λ (j : ℕ). g j ≤ copies s (markedOf (markEach (take m (drop (suc k) shown)) (mark v ps)))) (omega arith) r)
     by-cases (no t) ih =
         let le : length shown ≤ k = omega arith in
@@ -171,6 +172,7 @@ pub record Leaves (H : Hall) (f : ℕ → Deed) (s n : ℕ) (D : Desk) (count : 
   pub same : (r : ℕ) → matches r it + (copies r old + copies r new) ≡ count r
   pub held : Held H f s n D old new
 
+-- a retirement at which g is 0, and the others
 record Pick (g : ℕ → ℕ) (us : List ℕ) : Type 0 where
   it : ℕ
   rest : List ℕ
@@ -248,7 +250,7 @@ module _ (H : Hall) (f : ℕ → Deed) (s n : ℕ) (count : ℕ → ℕ) where
       read : A .scanned ≤ allScreens H
           → sumOver (live H f n (A .scanned + length (nextScreens (st .shown) A))) (t .old) ≤ copies s (markedOf (markEach (nextScreens (st .shown) A) (A .tested)))
       read hk =
-          marks-cover-reads s (λ j. sumOver (live H f n j) (t .old)) (st .shown) 2 (A .scanned) (A .tested) step top (omega arith) (t .held .marks)
+          marks-cover-reads s (λ j. sumOver (live H f n j) (t .old)) (st .shown) 2 (A .scanned) (A .tested) step top (t .held .marks)
         where
           step : (j : ℕ) → j < length (st .shown)
               → sumOver (live H f n (suc j)) (t .old) ≤ sumOver (live H f n j) (t .old) + matches s (getD (st .shown) j 0)

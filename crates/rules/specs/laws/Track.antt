@@ -76,11 +76,11 @@ module _ (H : Hall) (f : ℕ → Deed) (in-hall : (m : ℕ) → Range H (f m)) (
       second (omega arith) (omega arith) (after n (swaps x w) (beforeRetire e) (beforeRetire e) q l refl)
   on-swap n x w hi q (third a l) = third (omega arith) (after n (swaps x w) (linkedTo r) (linkedTo r) q l refl)
 
-  on-retire : (n x v : ℕ) → i < n → f n ≡ retires x v → Stage H f (screenIndex H d c) p e j r n → Stage H f (screenIndex H d c) p e j r (suc n)
-  on-retire n x v hi q (first a l) =
+  on-retire : (n x v : ℕ) → f n ≡ retires x v → Stage H f (screenIndex H d c) p e j r n → Stage H f (screenIndex H d c) p e j r (suc n)
+  on-retire n x v q (first a l) =
       let z : n ≡ j → ⊥ = not-there isSwap j n (swaps e p) (sw .here) refl (ap isSwap q) in
       first (omega arith) (after n (retires x v) (beforeSwap p) (beforeSwap p) q l refl)
-  on-retire n x v hi q (second a b l) = by-cases (ℕ-discrete x e)
+  on-retire n x v q (second a b l) = by-cases (ℕ-discrete x e)
     where
       by-cases : Dec (x ≡ e) → Stage H f (screenIndex H d c) p e j r (suc n)
       by-cases (yes t) =
@@ -93,7 +93,7 @@ module _ (H : Hall) (f : ℕ → Deed) (in-hall : (m : ℕ) → Range H (f m)) (
       by-cases (no t) =
           let z : n ≡ r → ⊥ = (λ u. let k : retires x v ≡ retires e s = sym q ∙ ap f u ∙ re .here in t (cc)) in
           second (omega arith) (omega arith) (after n (retires x v) (beforeRetire e) (beforeRetire e) q l (rw (ne-eqb x e t)))
-  on-retire n x v hi q (third a l) = third (omega arith) (after n (retires x v) (linkedTo r) (linkedTo r) q l refl)
+  on-retire n x v q (third a l) = third (omega arith) (after n (retires x v) (linkedTo r) (linkedTo r) q l refl)
 
   -- no drop of the screen up to n, and none at n
   undropped-next : (n : ℕ) → (f n ≡ drops d c → ⊥) → ((m : ℕ) → i < m → m < n → f m ≡ drops d c → ⊥) → (m : ℕ) → i < m → m < suc n → f m ≡ drops d c
@@ -132,7 +132,7 @@ module _ (H : Hall) (f : ℕ → Deed) (in-hall : (m : ℕ) → Range H (f m)) (
                   let bc : b ≡ c = cc in
                   eqb-false (screenIndex H a b) (screenIndex H d c) t (λ z. screenIndex H (ad z) (bc z))
       by-cases (swaps a b) q = on-later (swaps a b) q refl (on-swap n a b hi q st)
-      by-cases (retires a b) q = on-later (retires a b) q refl (on-retire n a b hi q st)
+      by-cases (retires a b) q = on-later (retires a b) q refl (on-retire n a b q st)
       by-cases (lacksRoom a) q = on-later (lacksRoom a) q refl (plain n (lacksRoom a) q refl refl (λ l z. refl) st)
       by-cases (collects a) q = on-later (collects a) q refl (plain n (collects a) q refl refl (λ l z. refl) st)
       by-cases (handsBack a b) q = on-later (handsBack a b) q refl (plain n (handsBack a b) q refl refl (λ l z. refl) st)
