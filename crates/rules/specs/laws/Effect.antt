@@ -19,6 +19,16 @@ pub record Formed (H : Hall) (st : State) : Type 0 where
   pub desks : length (st .desks) ≡ H .desks
   pub screens : length (st .shown) ≡ allScreens H
 
+abbrev pub IsDesk : Hall → ℕ → Type 0
+IsDesk H d = (1 ≤ d) × (d ≤ H .desks)
+
+abbrev pub IsScreen : Hall → ℕ → Type 0
+IsScreen H c = (1 ≤ c) × (c ≤ H .screens)
+
+-- What a call with its answer did.
+abbrev pub deedOf : Hall → State → Call → Deed
+deedOf H st c = deed c (step H st c .answer .number) (step H st c .answer .session)
+
 -- ---- The questions that an accepted call has been asked.
 pub in-range : (n m : ℕ) → inRange n m ≡ true → (1 ≤ n) × (n ≤ m)
 in-range n m h = (leb-true 1 n (and-left (leb 1 n) (leb n m) h), leb-true n m (and-right (leb 1 n) (leb n m) h))
@@ -45,7 +55,7 @@ retire-refused-full false b c e = absurd (omega arith)
 
 module _ (H : Hall) (st : State) (formed : Formed H st) where
   -- the desk of any step
-  pub desk-fact : (d m : ℕ) → cond {A = ℕ} (inRange d (H .desks)) m 6 ≡ 0 → (1 ≤ d) × (d ≤ H .desks)
+  pub desk-fact : (d m : ℕ) → cond {A = ℕ} (inRange d (H .desks)) m 6 ≡ 0 → IsDesk H d
   desk-fact d m e = in-range d (H .desks) (holds (inRange d (H .desks)) m 5 e .0)
 
   pub take-facts : (d c p : ℕ) → firstNo (questions H st (Take d c p)) ≡ 0
@@ -130,10 +140,14 @@ Effect S shown D E (collects by) = Collects S shown 0 D E
 Effect S shown D E (handsBack by v) = (v ≡ 0 → ⊥) × Collects S shown v D E
 Effect S shown D E nothing = Same D E
 
+-- of desk d in a state
+abbrev pub EffectOn : Hall → State → ℕ → Desk → Deed → Type 0
+EffectOn H st d E D = Effect (allScreens H) (st .shown) (deskOf st d) E D
+
 -- ---- What a deed found, and the state after it.
 pub record Took (H : Hall) (st : State) (d c p v : ℕ) (after : State) : Type 0 where
-  pub desk : (1 ≤ d) × (d ≤ H .desks)
-  pub screen : (1 ≤ c) × (c ≤ H .screens)
+  pub desk : IsDesk H d
+  pub screen : IsScreen H c
   pub position : 1 ≤ p
   pub empty : getD (st .shown) (screenIndex H d c) 0 ≡ 0
   pub session : v ≡ getD (st .held) (p - 1) 0
@@ -141,12 +155,12 @@ pub record Took (H : Hall) (st : State) (d c p v : ℕ) (after : State) : Type 0
   pub state : after ≡ withShown st (screenIndex H d c) v
 
 pub record Dropped (H : Hall) (st : State) (d c : ℕ) (after : State) : Type 0 where
-  pub desk : (1 ≤ d) × (d ≤ H .desks)
-  pub screen : (1 ≤ c) × (c ≤ H .screens)
+  pub desk : IsDesk H d
+  pub screen : IsScreen H c
   pub state : after ≡ withShown st (screenIndex H d c) 0
 
 pub record Swapped (H : Hall) (st : State) (d p : ℕ) (after : State) : Type 0 where
-  pub desk : (1 ≤ d) × (d ≤ H .desks)
+  pub desk : IsDesk H d
   pub position : 1 ≤ p
   pub owesNothing : deskOf st d .owed ≡ 0
   pub session : ℕ
@@ -154,7 +168,7 @@ pub record Swapped (H : Hall) (st : State) (d p : ℕ) (after : State) : Type 0 
 
 -- a deed that changes its desk alone
 pub record OnDesk (H : Hall) (st : State) (d : ℕ) (Done : Desk → Type 0) (after : State) : Type 0 where
-  pub desk : (1 ≤ d) × (d ≤ H .desks)
+  pub desk : IsDesk H d
   pub new : Desk
   pub done : Done new
   pub state : after ≡ withDesk st d new
@@ -163,28 +177,28 @@ abbrev pub Did : Hall → State → Deed → State → Type 0
 Did H st (takes d c p v) after = Took H st d c p v after
 Did H st (drops d c) after = Dropped H st d c after
 Did H st (swaps d p) after = Swapped H st d p after
-Did H st (retires d v) after = OnDesk H st d (λ E. Effect (allScreens H) (st .shown) (deskOf st d) E (retires d v)) after
-Did H st (lacksRoom d) after = OnDesk H st d (λ E. Effect (allScreens H) (st .shown) (deskOf st d) E (lacksRoom d)) after
-Did H st (collects d) after = OnDesk H st d (λ E. Effect (allScreens H) (st .shown) (deskOf st d) E (collects d)) after
-Did H st (handsBack d v) after = OnDesk H st d (λ E. Effect (allScreens H) (st .shown) (deskOf st d) E (handsBack d v)) after
+Did H st (retires d v) after = OnDesk H st d (λ E. EffectOn H st d E (retires d v)) after
+Did H st (lacksRoom d) after = OnDesk H st d (λ E. EffectOn H st d E (lacksRoom d)) after
+Did H st (collects d) after = OnDesk H st d (λ E. EffectOn H st d E (collects d)) after
+Did H st (handsBack d v) after = OnDesk H st d (λ E. EffectOn H st d E (handsBack d v)) after
 Did H st nothing after = after ≡ st
 
 -- What a deed has in range, and that a session retired or handed back is not 0.
 abbrev pub Range : Hall → Deed → Type 0
 Range H (takes d c p v) = (1 ≤ d) × (d ≤ H .desks) × (1 ≤ c) × (c ≤ H .screens)
 Range H (drops d c) = (1 ≤ d) × (d ≤ H .desks) × (1 ≤ c) × (c ≤ H .screens)
-Range H (swaps d p) = (1 ≤ d) × (d ≤ H .desks)
+Range H (swaps d p) = IsDesk H d
 Range H (retires d s) = (1 ≤ d) × (d ≤ H .desks) × (s ≡ 0 → ⊥)
-Range H (lacksRoom d) = (1 ≤ d) × (d ≤ H .desks)
-Range H (collects d) = (1 ≤ d) × (d ≤ H .desks)
+Range H (lacksRoom d) = IsDesk H d
+Range H (collects d) = IsDesk H d
 Range H (handsBack d s) = (1 ≤ d) × (d ≤ H .desks) × (s ≡ 0 → ⊥)
 Range H nothing = Unit {0}
 
 module _ (H : Hall) (st : State) (formed : Formed H st) where
-  pub did : (c : Call) → Did H st (deed c (step H st c .answer .number) (step H st c .answer .session)) (step H st c .after)
+  pub did : (c : Call) → Did H st (deedOf H st c) (step H st c .after)
   did c = by-cases (firstNo (questions H st c)) c refl
     where
-      collected : (d v : ℕ) (b : Bool) → eqb v 0 ≡ b → (1 ≤ d) × (d ≤ H .desks) → collect (allScreens H) (st .shown) (deskOf st d) .session ≡ v
+      collected : (d v : ℕ) (b : Bool) → eqb v 0 ≡ b → IsDesk H d → collect (allScreens H) (st .shown) (deskOf st d) .session ≡ v
           → Did H st (cond b (collects d) (handsBack d v)) (withDesk st d (collect (allScreens H) (st .shown) (deskOf st d) .after))
       collected d v true q r e = record { desk = r; new = _; done = record { session = e ∙ eqb-true v 0 q; after = refl }; state = refl }
       collected d v false q r e = record { desk = r; new = _; done = (eqb-false v 0 q, record { session = e; after = refl }); state = refl }
@@ -229,11 +243,11 @@ module _ (H : Hall) (st : State) (formed : Formed H st) where
       by-cases (suc n) (Collect d) e = refl
 
   -- of a deed that the call is known to be
-  pub did-as : (c : Call) (D : Deed) → deed c (step H st c .answer .number) (step H st c .answer .session) ≡ D → Did H st D (step H st c .after)
+  pub did-as : (c : Call) (D : Deed) → deedOf H st c ≡ D → Did H st D (step H st c .after)
   did-as c D q = subst (λ (E : Deed). Did H st E (step H st c .after)) q (did c)
 
-  pub range-step : (c : Call) → Range H (deed c (step H st c .answer .number) (step H st c .answer .session))
-  range-step c = at (deed c (step H st c .answer .number) (step H st c .answer .session)) (did c)
+  pub range-step : (c : Call) → Range H (deedOf H st c)
+  range-step c = at (deedOf H st c) (did c)
     where
       at : (D : Deed) → Did H st D (step H st c .after) → Range H D
       at (takes d c p v) k = (k .desk .0, k .desk .1, k .screen .0, k .screen .1)
@@ -246,7 +260,7 @@ module _ (H : Hall) (st : State) (formed : Formed H st) where
       at nothing k = tt
 
   pub formed-step : (c : Call) → Formed H (step H st c .after)
-  formed-step c = at (deed c (step H st c .answer .number) (step H st c .answer .session)) (step H st c .after) (did c)
+  formed-step c = at (deedOf H st c) (step H st c .after) (did c)
     where
       screen : (index v : ℕ) → Formed H (withShown st index v)
       screen index v = record { desks = formed .desks; screens = length-set (st .shown) index v ∙ formed .screens }
@@ -266,17 +280,17 @@ module _ (H : Hall) (st : State) (formed : Formed H st) where
 
   module _ (d : ℕ) (hd : 1 ≤ d) where
     -- another desk's deed leaves the desk as it is
-    elsewhere : (D : Deed) → Effect (allScreens H) (st .shown) (deskOf st d) (deskOf st d) D → (b : Bool)
-        → Effect (allScreens H) (st .shown) (deskOf st d) (deskOf st d) (cond b D nothing)
+    elsewhere : (D : Deed) → EffectOn H st d (deskOf st d) D → (b : Bool)
+        → EffectOn H st d (deskOf st d) (cond b D nothing)
     elsewhere D e true = e
     elsewhere D e false = record { owed = deskOf st d .owed; after = refl }
 
-    stored : (by : ℕ) (new : Desk) (D : Deed) → (1 ≤ by) × (by ≤ H .desks) → Effect (allScreens H) (st .shown) (deskOf st by) new D
-        → Effect (allScreens H) (st .shown) (deskOf st d) (getD (set (st .desks) (by - 1) new) (d - 1) emptyDesk) (cond (eqb by d) D nothing)
+    stored : (by : ℕ) (new : Desk) (D : Deed) → IsDesk H by → EffectOn H st by new D
+        → EffectOn H st d (getD (set (st .desks) (by - 1) new) (d - 1) emptyDesk) (cond (eqb by d) D nothing)
     stored by new D r e = at (eqb by d) refl
       where
         at : (b : Bool) → eqb by d ≡ b
-            → Effect (allScreens H) (st .shown) (deskOf st d) (getD (set (st .desks) (by - 1) new) (d - 1) emptyDesk) (cond b D nothing)
+            → EffectOn H st d (getD (set (st .desks) (by - 1) new) (d - 1) emptyDesk) (cond b D nothing)
         at true q =
             let same : by ≡ d = eqb-true by d q in
             rw (← same, getD-set-same (st .desks) (by - 1) new emptyDesk (omega (arith, formed .desks))) e
@@ -286,10 +300,10 @@ module _ (H : Hall) (st : State) (formed : Formed H st) where
             (record { owed = deskOf st d .owed; after = refl })
 
     pub effect : (c : Call)
-        → Effect (allScreens H) (st .shown) (deskOf st d) (deskOf (step H st c .after) d) (own d (deed c (step H st c .answer .number) (step H st c .answer .session)))
-    effect c = at (deed c (step H st c .answer .number) (step H st c .answer .session)) (step H st c .after) (did c)
+        → EffectOn H st d (deskOf (step H st c .after) d) (own d (deedOf H st c))
+    effect c = at (deedOf H st c) (step H st c .after) (did c)
       where
-        at : (D : Deed) (after : State) → Did H st D after → Effect (allScreens H) (st .shown) (deskOf st d) (deskOf after d) (own d D)
+        at : (D : Deed) (after : State) → Did H st D after → EffectOn H st d (deskOf after d) (own d D)
         at (takes by c p v) after k = rw (k .state) (elsewhere (takes by c p v) (record { owed = deskOf st d .owed; after = refl }) (eqb by d))
         at (drops by c) after k = rw (k .state) (elsewhere (drops by c) (record { owed = deskOf st d .owed; after = refl }) (eqb by d))
         at (swaps by p) after k = rw (k .state) (stored by _ (swaps by p) (k .desk) (record { owed = getD (st .held) (p - 1) 0; after = refl }))

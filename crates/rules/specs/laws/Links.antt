@@ -7,9 +7,9 @@ use lib.ListN.{getD}
 use lib.Dec.{eqb}
 use borrow.Author.Tests.{eqb-true, eqb-false}
 use Rattle.rules.specs.Hall.{Hall, State, allScreens, deskOf, screenIndex}
-use Rattle.rules.specs.History.{Deed, collects, deed, drops, handsBack, isRetirement, lacksRoom, nothing, retires, swaps, takes}
+use Rattle.rules.specs.History.{Deed, collects, drops, handsBack, isRetirement, lacksRoom, nothing, retires, swaps, takes}
 use Rattle.rules.specs.Steps.{Call, step}
-use Rattle.rules.specs.laws.Effect.{Did, Dropped, Formed, Swapped, Took, did-as}
+use Rattle.rules.specs.laws.Effect.{Did, Dropped, Formed, Swapped, Took, deedOf, did-as}
 use Rattle.rules.specs.laws.OwnDeeds.{isSwap}
 use Rattle.rules.specs.laws.Owed.{held-kept, owed-kept, swap-owes}
 use Rattle.rules.specs.laws.ScreenIndex.{screen-in, screen-stored}
@@ -138,7 +138,7 @@ module _ (H : Hall) (st : State) (formed : Formed H st) (f : ℕ → Deed) (n : 
   retire-agree d s after k q v (linkedTo r) a = a
 
   module _ (ag : ScreensAgree H f n st) where
-    pub agree-step : (c : Call) → f n ≡ deed c (step H st c .answer .number) (step H st c .answer .session)
+    pub agree-step : (c : Call) → f n ≡ deedOf H st c
         → ScreensAgree H f (suc n) (step H st c .after)
     agree-step c q x hx = at (f n) (step H st c .after) refl (did-as H st formed c (f n) (sym q))
       where
@@ -171,7 +171,7 @@ module _ (H : Hall) (st : State) (formed : Formed H st) (f : ℕ → Deed) (n : 
         at nothing after q k = unchanged nothing after k refl refl (ap (λ (s : State). s .shown) k)
 
     -- an accepted take finds its screen unlinked
-    pub take-finds-unlinked : (c : Call) → f n ≡ deed c (step H st c .answer .number) (step H st c .answer .session) → (d s p v : ℕ)
+    pub take-finds-unlinked : (c : Call) → f n ≡ deedOf H st c → (d s p v : ℕ)
         → f n ≡ takes d s p v → link H f (screenIndex H d s) n ≡ unlinked
     take-finds-unlinked c q d s p v t =
         let k = did-as H st formed c (takes d s p v) (sym q ∙ t) in

@@ -8,7 +8,7 @@ use lib.Seq.{getD-set-same, getD-set-other}
 use Rattle.rules.specs.Hall.{Desk, Hall, State, allScreens, deskOf, emptyDesk}
 use Rattle.rules.specs.History.{Deed, collects, drops, handsBack, lacksRoom, nothing, retires, swaps, takes}
 use Rattle.rules.specs.laws.Collect.{owed-collect}
-use Rattle.rules.specs.laws.Effect.{Did, Formed, Swapped}
+use Rattle.rules.specs.laws.Effect.{Did, Formed, IsDesk, Swapped}
 
 module _ (H : Hall) (st : State) (formed : Formed H st) where
   pub held-kept : (D : Deed) (after : State) → Did H st D after → (p : ℕ) → 1 ≤ p → ((d : ℕ) → D ≡ swaps d p → ⊥)
@@ -25,13 +25,13 @@ module _ (H : Hall) (st : State) (formed : Formed H st) where
   held-kept nothing after k p hp no-swap = rw k
 
   -- a desk that becomes `new`, and another
-  own-owed : (d : ℕ) (new : Desk) → (1 ≤ d) × (d ≤ H .desks) → getD (set (st .desks) (d - 1) new) (d - 1) emptyDesk .owed ≡ new .owed
+  own-owed : (d : ℕ) (new : Desk) → IsDesk H d → getD (set (st .desks) (d - 1) new) (d - 1) emptyDesk .owed ≡ new .owed
   own-owed d new r = ap (λ (E : Desk). E .owed) (getD-set-same (st .desks) (d - 1) new emptyDesk (omega (arith, formed .desks)))
 
   others-owed : (d e : ℕ) (new : Desk) → 1 ≤ d → 1 ≤ e → (d ≡ e → ⊥) → getD (set (st .desks) (d - 1) new) (e - 1) emptyDesk .owed ≡ deskOf st e .owed
   others-owed d e new hd he ne = ap (λ (E : Desk). E .owed) (getD-set-other (st .desks) (d - 1) (e - 1) new emptyDesk (λ q. ne (omega arith)))
 
-  same-owed : (d e : ℕ) (new : Desk) → (1 ≤ d) × (d ≤ H .desks) → 1 ≤ e → new .owed ≡ deskOf st d .owed
+  same-owed : (d e : ℕ) (new : Desk) → IsDesk H d → 1 ≤ e → new .owed ≡ deskOf st d .owed
       → getD (set (st .desks) (d - 1) new) (e - 1) emptyDesk .owed ≡ deskOf st e .owed
   same-owed d e new r he q = by-cases (ℕ-discrete d e)
     where

@@ -10,11 +10,11 @@ use lib.ListN.{length}
 use lib.Dec.{eqb}
 use borrow.Author.Tests.{eq-eqb, ne-eqb}
 use Rattle.rules.specs.Hall.{Desk, Hall, State, allScreens, deskOf, screenIndex}
-use Rattle.rules.specs.History.{Deed, DroppedBefore, Linked, collects, copies, deed, drops, handsBack, isHandBack, lacksRoom, nothing, own, retires}
+use Rattle.rules.specs.History.{Deed, DroppedBefore, Linked, collects, copies, drops, handsBack, isHandBack, lacksRoom, nothing, own, retires}
 use Rattle.rules.specs.History.{swaps, takes}
 use Rattle.rules.specs.Steps.{Call, begin, collect, end, owe, retire, run, step}
 use Rattle.rules.specs.laws.Collect.{Orderly, beforeHandBack, begin-keeps}
-use Rattle.rules.specs.laws.Effect.{Effect, Formed, Range, effect, formed-step}
+use Rattle.rules.specs.laws.Effect.{EffectOn, Formed, Range, deedOf, effect, formed-step}
 use Rattle.rules.specs.laws.Links.{ScreensAgree, agree-step, link, linkedTo}
 use Rattle.rules.specs.laws.Links.{take-finds-unlinked, unlinked}
 use Rattle.rules.specs.laws.Lists.{copies-append, matches, matches-at-most-one, matches-other, matches-same}
@@ -182,11 +182,11 @@ module _ (H : Hall) (f : ℕ → Deed) (in-hall : (m : ℕ) → Range H (f m))
     (finds-free : (i x c p v : ℕ) → f i ≡ takes x c p v → link H f (screenIndex H x c) i ≡ unlinked) (hS : 1 ≤ allScreens H) (d s : ℕ) (hd : 1 ≤ d)
     (hs : s ≡ 0 → ⊥) where
   guard-step : (n : ℕ) (st : State) (c : Call) → Formed H st → Orderly (allScreens H) (deskOf st d) → ScreensAgree H f n st
-      → f n ≡ deed c (step H st c .answer .number) (step H st c .answer .session)
+      → f n ≡ deedOf H st c
       → Guard H f d s n (deskOf st d) → Guard H f d s (suc n) (deskOf (step H st c .after) d)
   guard-step n st c formed ok ag q g =
       by-cases (own d (f n)) refl
-      (subst (λ (D : Deed). Effect (allScreens H) (st .shown) (deskOf st d) (deskOf (step H st c .after) d) (own d D)) (sym q) (effect H st formed d hd c))
+      (subst (λ (D : Deed). EffectOn H st d (deskOf (step H st c .after) d) (own d D)) (sym q) (effect H st formed d hd c))
     where
       below : (r : ℕ) → 1 ≤ g .count r → r < n
       below r h = g .mine r h .0
@@ -243,7 +243,7 @@ module _ (H : Hall) (f : ℕ → Deed) (in-hall : (m : ℕ) → Range H (f m))
           (hand-back-same H f s n (g .count) (beforeHandBack (allScreens H) (st .shown) (deskOf st d)) hs (t ∙ sym e) before-back)
       handing v e y (no t) = collecting v e t (λ u. let k : handsBack d v ≡ handsBack d s = sym y ∙ u in t (cc))
 
-      by-cases : (D : Deed) → own d (f n) ≡ D → Effect (allScreens H) (st .shown) (deskOf st d) (deskOf (step H st c .after) d) D
+      by-cases : (D : Deed) → own d (f n) ≡ D → EffectOn H st d (deskOf (step H st c .after) d) D
           → Guard H f d s (suc n) (deskOf (step H st c .after) d)
       by-cases (takes by x p v) o e = same-list (takes by x p v) o refl (e .owed) (e .after)
       by-cases (drops by x) o e = same-list (drops by x) o refl (e .owed) (e .after)

@@ -8,12 +8,12 @@ use lib.ListN.{length}
 use lib.Dec.{eqb}
 use borrow.Author.Tests.{eq-eqb, ne-eqb}
 use Rattle.rules.specs.Hall.{Desk, Hall, State, allScreens, deskOf, usedPlaces}
-use Rattle.rules.specs.History.{CollectBetween, Deed, Disciplined, collects, collectsOf, copies, deed, deedAt, deedsOf, drops, handBacks}
+use Rattle.rules.specs.History.{CollectBetween, Deed, Disciplined, collects, collectsOf, copies, deedAt, deedsOf, drops, handBacks}
 use Rattle.rules.specs.History.{handBacksOf, handsBack, howMany, isCollect, isHandBackWith, isRetireAttempt}
 use Rattle.rules.specs.History.{isRetirementOf, isRetirementWith, lacksRoom, nothing, oneIf, own, retirements, retirementsOf, retires, swaps, takes}
 use Rattle.rules.specs.Steps.{Call, Event, collect, end, owe, retire, run, step}
 use Rattle.rules.specs.laws.Collect.{Orderly, collect-copies, collect-places, copiesOn, retire-copies, retire-places}
-use Rattle.rules.specs.laws.Effect.{Collects, Effect, Formed, LacksRoom, Same, effect, formed-step}
+use Rattle.rules.specs.laws.Effect.{Collects, EffectOn, Formed, LacksRoom, Same, deedOf, effect, formed-step}
 use Rattle.rules.specs.laws.HandBack.{Due, due-collect, due-end, due-owe, due-retire}
 use Rattle.rules.specs.laws.Lists.{matches, matches-other, one-if-le}
 use Rattle.rules.specs.laws.Room.{Room, collect-room, owe-room, retire-room}
@@ -112,7 +112,7 @@ module _ (H : Hall) (d : ℕ) (hS : 1 ≤ allScreens H) (hd : 1 ≤ d) where
   room-run (c ∷ cs) st f formed r sp zero q =
       let lacks = own-lacks-room d _ q in
       has-room f (run H st (c ∷ cs)) (deskOf st d) (deskOf (step H st c .after) d) sp (ap isRetireAttempt lacks) r
-      (subst (Effect (allScreens H) (st .shown) (deskOf st d) (deskOf (step H st c .after) d)) lacks (effect H st formed d hd c))
+      (subst (EffectOn H st d (deskOf (step H st c .after) d)) lacks (effect H st formed d hd c))
   room-run (c ∷ cs) st f formed r sp (suc i) q =
       room-run cs (step H st c .after) (pending f (own d (deedAt (run H st (c ∷ cs)) 0))) (formed-step H st formed c)
       (next (own d (deedAt (run H st (c ∷ cs)) 0)) refl (effect H st formed d hd c))
@@ -121,7 +121,7 @@ module _ (H : Hall) (d : ℕ) (hS : 1 ≤ allScreens H) (hd : 1 ≤ d) where
       kept : Same (deskOf st d) (deskOf (step H st c .after) d) → Room (allScreens H) (oneIf f) (deskOf (step H st c .after) d)
       kept e = rw (e .after) (owe-room (allScreens H) (oneIf f) (e .owed) (deskOf st d) r)
 
-      next : (D : Deed) → own d (deedAt (run H st (c ∷ cs)) 0) ≡ D → Effect (allScreens H) (st .shown) (deskOf st d) (deskOf (step H st c .after) d) D
+      next : (D : Deed) → own d (deedAt (run H st (c ∷ cs)) 0) ≡ D → EffectOn H st d (deskOf (step H st c .after) d) D
           → Room (allScreens H) (oneIf (pending f D)) (deskOf (step H st c .after) d)
       next (takes by s p v) q e = kept e
       next (drops by s) q e = kept e
@@ -137,12 +137,12 @@ module _ (H : Hall) (d : ℕ) (hS : 1 ≤ allScreens H) (hd : 1 ≤ d) where
 
   -- ---- The desk stays sound.
   pub sound-step : (st : State) (c : Call) → Formed H st → Sound (allScreens H) (deskOf st d) → Sound (allScreens H) (deskOf (step H st c .after) d)
-  sound-step st c formed ok = at (own d (deed c (step H st c .answer .number) (step H st c .answer .session))) (effect H st formed d hd c)
+  sound-step st c formed ok = at (own d (deedOf H st c)) (effect H st formed d hd c)
     where
       kept : Same (deskOf st d) (deskOf (step H st c .after) d) → Sound (allScreens H) (deskOf (step H st c .after) d)
       kept e = rw (e .after) (sound-owe (allScreens H) (e .owed) (deskOf st d) ok)
 
-      at : (D : Deed) → Effect (allScreens H) (st .shown) (deskOf st d) (deskOf (step H st c .after) d) D
+      at : (D : Deed) → EffectOn H st d (deskOf (step H st c .after) d) D
           → Sound (allScreens H) (deskOf (step H st c .after) d)
       at (takes by s p v) e = kept e
       at (drops by s) e = kept e
@@ -168,7 +168,7 @@ module _ (H : Hall) (d : ℕ) (hS : 1 ≤ allScreens H) (hd : 1 ≤ d) where
         → howMany (isRetirementWith test) (deedsOf d (run H st cs)) + amount (deskOf st d) ≡ howMany (isHandBackWith test) (deedsOf d (run H st cs)) + amount (deskOf (end H st cs) d)
     count-run [] st formed ok = refl
     count-run (c ∷ cs) st formed ok =
-        at (own d (deed c (step H st c .answer .number) (step H st c .answer .session))) (effect H st formed d hd c)
+        at (own d (deedOf H st c)) (effect H st formed d hd c)
         (deedsOf d (run H (step H st c .after) cs)) (amount (deskOf (end H (step H st c .after) cs) d))
         (count-run cs (step H st c .after) (formed-step H st formed c) (sound-step st c formed ok))
       where
@@ -178,7 +178,7 @@ module _ (H : Hall) (d : ℕ) (hS : 1 ≤ allScreens H) (hd : 1 ≤ d) where
         kept : Same (deskOf st d) (deskOf (step H st c .after) d) → amount (deskOf (step H st c .after) d) ≡ amount (deskOf st d)
         kept e = ap amount (e .after) ∙ owes (e .owed) (deskOf st d)
 
-        at : (D : Deed) → Effect (allScreens H) (st .shown) (deskOf st d) (deskOf (step H st c .after) d) D → (ds : List Deed) (u : ℕ)
+        at : (D : Deed) → EffectOn H st d (deskOf (step H st c .after) d) D → (ds : List Deed) (u : ℕ)
             → howMany (isRetirementWith test) ds + amount (deskOf (step H st c .after) d) ≡ howMany (isHandBackWith test) ds + u
             → howMany (isRetirementWith test) (D ∷ ds) + amount (deskOf st d) ≡ howMany (isHandBackWith test) (D ∷ ds) + u
         at (takes by s p v) e ds u ih = omega (arith, kept e)
@@ -214,7 +214,7 @@ module _ (H : Hall) (d : ℕ) (hS : 1 ≤ allScreens H) (hd : 1 ≤ d) where
   due-run s [] st B m formed ok du hid hc =
       omega (arith, due-end (allScreens H) s m (deskOf st d) hS (sound-orderly (allScreens H) (deskOf st d) ok) (rw (← hc) at du))
   due-run s (c ∷ cs) st B m formed ok du hid hc =
-      at (own d (deed c (step H st c .answer .number) (step H st c .answer .session))) (effect H st formed d hd c)
+      at (own d (deedOf H st c)) (effect H st formed d hd c)
       (deedsOf d (run H (step H st c .after) cs)) (copiesOn s (deskOf (end H (step H st c .after) cs) d)) B du hc
       (λ B′ m′ du′ hc′. due-run s cs (step H st c .after) B′ m′ (formed-step H st formed c) (sound-step st c formed ok) du′ (hid .1) hc′)
     where
@@ -228,7 +228,7 @@ module _ (H : Hall) (d : ℕ) (hS : 1 ≤ allScreens H) (hd : 1 ≤ d) where
           rw (e .after)
           (due-collect (allScreens H) s B m (st .shown) (deskOf st d) hS (formed .screens) (hid .0) (sound-orderly (allScreens H) (deskOf st d) ok) du)
 
-      at : (D : Deed) → Effect (allScreens H) (st .shown) (deskOf st d) (deskOf (step H st c .after) d) D → (ds : List Deed) (u B : ℕ)
+      at : (D : Deed) → EffectOn H st d (deskOf (step H st c .after) d) D → (ds : List Deed) (u B : ℕ)
           → Due (allScreens H) s B m (deskOf st d) → howMany isCollect (D ∷ ds) ≡ B
           → ((B m : ℕ) → Due (allScreens H) s B m (deskOf (step H st c .after) d) → howMany isCollect ds ≡ B → u ≤ howMany (isRetirementOf s) ds + m)
           → u ≤ howMany (isRetirementOf s) (D ∷ ds) + m

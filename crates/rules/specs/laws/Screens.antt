@@ -9,9 +9,9 @@ use lib.ListN.{length, take, getD, set}
 use lib.Dec.{eqb}
 use borrow.Author.Tests.{eqb-true, eqb-false}
 use Rattle.rules.specs.Hall.{Hall, State, screenIndex, withShown}
-use Rattle.rules.specs.History.{Deed, Shows, collects, copies, deed, drops, handsBack, lacksRoom, nothing, retires, swaps, takes}
+use Rattle.rules.specs.History.{Deed, Shows, collects, copies, drops, handsBack, lacksRoom, nothing, retires, swaps, takes}
 use Rattle.rules.specs.Steps.{Call, end, run, step}
-use Rattle.rules.specs.laws.Effect.{Did, Dropped, Formed, Took, did-as, formed-step}
+use Rattle.rules.specs.laws.Effect.{Did, Dropped, Formed, Took, deedOf, did-as, formed-step}
 use Rattle.rules.specs.laws.Lists.{matches-other}
 use Rattle.rules.specs.laws.OwnDeeds.{isDrop}
 use Rattle.rules.specs.laws.Runs.{Hidden}
@@ -84,7 +84,7 @@ module _ (H : Hall) (f : ℕ → Deed) (n : ℕ) (st : State) (formed : Formed H
               let cc′ : c ≡ before x nz .screen = cc in
               eqb-false (screenIndex H d c) x t ((λ i. screenIndex H (dd i) (cc′ i)) ∙ before x nz .index)
 
-  pub all-shown-step : (c : Call) → f n ≡ deed c (step H st c .answer .number) (step H st c .answer .session)
+  pub all-shown-step : (c : Call) → f n ≡ deedOf H st c
       → AllShown H f (suc n) (step H st c .after)
   all-shown-step c q = at (f n) (step H st c .after) refl (did-as H st formed c (f n) (sym q))
     where

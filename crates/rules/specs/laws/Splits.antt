@@ -12,7 +12,7 @@ use Rattle.rules.specs.Hall.{Hall, State}
 use Rattle.rules.specs.History.{Deed, collects, deedAt, deedsOf, drops, handBacksOf, handsBack, howMany, isHandBackOf, isRetirementOf}
 use Rattle.rules.specs.History.{lacksRoom, nothing, oneIf, own, retirementsOf, retires, swaps, takes}
 use Rattle.rules.specs.Steps.{Call, Event, end, run, step}
-use Rattle.rules.specs.laws.Effect.{Formed, Range, formed-step, range-step}
+use Rattle.rules.specs.laws.Effect.{Formed, IsDesk, Range, formed-step, range-step}
 use Rattle.rules.specs.laws.OwnDeeds.{Own, othersDeed, own-cases, ownDeed}
 
 pub run-take : (H : Hall) (i : ℕ) (cs : List Call) (st : State) → take i (run H st cs) ≡ run H st (take i cs)
@@ -76,7 +76,7 @@ none-counted H d test fails (c ∷ cs) st formed =
     )
 
 -- A desk that the hall does not have does nothing.
-module _ (H : Hall) (d : ℕ) (outside : (1 ≤ d) × (d ≤ H .desks) → ⊥) where
+module _ (H : Hall) (d : ℕ) (outside : IsDesk H d → ⊥) where
   others : (by : ℕ) (D : Deed) → 1 ≤ by → by ≤ H .desks → (b : Bool) → eqb by d ≡ b → cond b D nothing ≡ nothing
   others by D h g true q = let same : by ≡ d = eqb-true by d q in absurd (outside (omega arith, omega arith))
   others by D h g false q = refl
