@@ -10,7 +10,7 @@ use Rattle.rules.specs.Hall.{Desk, TestedPlace, unmarked, usedPlaces}
 use Rattle.rules.specs.History.{copies}
 use Rattle.rules.specs.Steps.{begin, beginAt, collect, handBack, markEach, markedOf, nextScreens, owe, retire, scan, settle, settleIf}
 use Rattle.rules.specs.Steps.{unmarkedOf}
-use Rattle.rules.specs.laws.Collect.{readOn, Orderly, Scanning, begin-keeps, by-scan, copiesOn, scanned-within}
+use Rattle.rules.specs.laws.Collect.{Orderly, Scanning, begin-keeps, by-scan, copiesOn, readOn, scanned-within}
 use Rattle.rules.specs.laws.Lists.{copies-append, copies-drop-append, copies-past-end, drop-after-first, matches}
 use Rattle.rules.specs.laws.Marks.{copies-next-screens, length-mark-each, marked-copies-begin, marked-copies-mark-each, tested-copies-begin}
 use Rattle.rules.specs.laws.Marks.{tested-copies-mark-each, testedCopies, unmarked-and-marked}

@@ -3,19 +3,19 @@
 use Prim.Native.Nat.{ℕ, zero, suc, _+_, _≤_, _<_, max}
 use native.Mathlib.Omega.{arith}
 use native.Mathlib.Decide.{ℕ-discrete, decLt, decLe}
-use mathlib.Core.Path.{_≡_, refl, ap, subst}
+use mathlib.Core.Path.{_≡_, refl, ap, _∙_, subst}
 use mathlib.Core.Bool.{Bool, true, false, cond}
 use mathlib.Core.List.{List, [], _∷_, _++_}
-use lib.ListN.{length, getD, take, drop, length-append, drop-of-length-le}
-use lib.Seq.{drop-cons}
+use lib.ListN.{length, getD, drop, length-append}
+use lib.Seq.{getD-drop, getD-take}
 use lib.Dec.{eqb}
 use Rattle.rules.specs.Hall.{Desk, Hall, State, TestedPlace, allScreens, screenIndex}
 use Rattle.rules.specs.History.{Deed, collects, copies, drops, handsBack, lacksRoom, nothing, retires, swaps, takes}
 use Rattle.rules.specs.Steps.{begin, beginAt, handBack, mark, markEach, markedOf, nextScreens, owe, scan, settle, settleIf, unmarkedOf}
-use Rattle.rules.specs.laws.Collect.{readOn, Scanning, by-scan, copiesOn}
+use Rattle.rules.specs.laws.Collect.{Scanning, by-scan, copiesOn, readOn, scanned-within}
 use Rattle.rules.specs.laws.Links.{Agree, Link, ScreensAgree, beforeRetire, beforeSwap, link, linkedTo, next, unlinked}
 use Rattle.rules.specs.laws.Lists.{copies-append, matches, matches-at-most-one, matches-other, matches-same}
-use Rattle.rules.specs.laws.Marks.{mark-finds-a-copy, tested-copies-begin, tested-copies-mark, tested-copies-mark-each, testedCopies}
+use Rattle.rules.specs.laws.Marks.{length-next-screens, mark-finds-a-copy, tested-copies-begin, tested-copies-mark, tested-copies-mark-each, testedCopies}
 
 -- 1 if the screen is linked to the retirement at r
 abbrev pub ties : ℕ → Link → ℕ
@@ -129,26 +129,14 @@ module _ (H : Hall) (f : ℕ → Deed) (n : ℕ) where
           at (yes t) = let v : getD (st .shown) k 0 ≡ s = a .1 d s (mine q t) in rw v (omega (arith, sum-linked q us, one q, matches-same s))
           at (no t) = omega (arith, sum-linked q us)
 
--- The marks keep up with a count g of the screens that grows by at most one for a screen that shows s, and stays within the copies.
-marks-cover-reads : (s : ℕ) (g : ℕ → ℕ) (shown : List ℕ) (m k : ℕ) (ps : List TestedPlace)
-    → ((j : ℕ) → j < length shown → g (suc j) ≤ g j + matches s (getD shown j 0)) → ((j : ℕ) → j ≤ length shown → g j ≤ testedCopies s ps)
-    → g k ≤ copies s (markedOf ps)
-    → g (k + length (take m (drop k shown))) ≤ copies s (markedOf (markEach (take m (drop k shown)) ps))
-marks-cover-reads s g shown zero k ps st top h = subst (λ (j : ℕ). g j ≤ copies s (markedOf ps)) (omega arith) h
-marks-cover-reads s g shown (suc m) k ps st top h =
-    by-cases (decLt k (length shown)) (λ ps′ b. marks-cover-reads s g shown m (suc k) ps′ st (λ j hj. omega (arith, top j hj)))
-  where
-    by-cases : Dec (k < length shown)
-        → ((ps′ : List TestedPlace) → testedCopies s ps′ ≡ testedCopies s ps → g (suc k) ≤ copies s (markedOf ps′) → g (suc k + length (take m (drop (suc k) shown))) ≤ copies s (markedOf (markEach (take m (drop (suc k) shown)) ps′)))
-        → g (k + length (take (suc m) (drop k shown))) ≤ copies s (markedOf (markEach (take (suc m) (drop k shown)) ps))
-    by-cases (yes t) ih =
-        let v = getD shown k 0 in
-        let r = ih (mark v ps) (tested-copies-mark s v ps) (omega (arith, mark-finds-a-copy s v ps, st k t, top (suc k) t)) in
-        rw (drop-cons shown k 0 t) (subst (λ (j : ℕ). g j ≤ copies s (markedOf (markEach (take m (drop (suc k) shown)) (mark v ps)))) (omega arith) r)
-    by-cases (no t) ih =
-        let le : length shown ≤ k = omega arith in
-        let e : drop k shown ≡ [] = drop-of-length-le shown le in
-        rw e (subst (λ (j : ℕ). g j ≤ copies s (markedOf ps)) (omega arith) h)
+-- The marks keep up with a count g that grows by at most one for a session read that is s, and stays within the copies.
+marks-cover-reads : (s : ℕ) (g : ℕ → ℕ) (vs : List ℕ) (ps : List TestedPlace) → ((j : ℕ) → j < length vs → g (suc j) ≤ g j + matches s (getD vs j 0))
+    → ((j : ℕ) → j ≤ length vs → g j ≤ testedCopies s ps) → g 0 ≤ copies s (markedOf ps) → g (length vs) ≤ copies s (markedOf (markEach vs ps))
+marks-cover-reads s g [] ps grows within start = start
+marks-cover-reads s g (v ∷ vs) ps grows within start =
+    marks-cover-reads s (λ j. g (suc j)) vs (mark v ps) (λ j hj. grows (suc j) (omega arith))
+    (λ j hj. omega (arith, within (suc j) (omega arith), tested-copies-mark s v ps))
+    (omega (arith, mark-finds-a-copy s v ps, grows 0 (omega arith), within 1 (omega arith)))
 
 -- The retirements of s not handed back: those made before the pass under way began, and the later ones.
 pub record Held (H : Hall) (f : ℕ → Deed) (s n : ℕ) (D : Desk) (old new : List ℕ) : Type 0 where
@@ -246,20 +234,36 @@ module _ (H : Hall) (f : ℕ → Deed) (s n : ℕ) (count : ℕ → ℕ) where
       → Tokens H f s n (settle (allScreens H) (scan (st .shown) A)) count
   scan-tokens d st ag one mine hS hl A g t = by-scan (λ (X : Desk). Tokens H f s n X count) (allScreens H) (st .shown) A hS hl g (λ e. t) on over
     where
-      -- the older ones linked to a screen that was read are no more than their marks
-      read : A .scanned ≤ allScreens H
-          → sumOver (live H f n (A .scanned + length (nextScreens (st .shown) A))) (t .old) ≤ copies s (markedOf (markEach (nextScreens (st .shown) A) (A .tested)))
-      read hk =
-          marks-cover-reads s (λ j. sumOver (live H f n j) (t .old)) (st .shown) 2 (A .scanned) (A .tested) step top (t .held .marks)
-        where
-          step : (j : ℕ) → j < length (st .shown)
-              → sumOver (live H f n (suc j)) (t .old) ≤ sumOver (live H f n j) (t .old) + matches s (getD (st .shown) j 0)
-          step j hj =
-              one-screen-more H f n d s st ag (t .old) (λ r. omega (arith, one r, t .same r)) (λ r q. mine r (omega (arith, t .same r))) j (omega arith)
+      vs : List ℕ
+      vs = nextScreens (st .shown) A
 
-          top : (j : ℕ) → j ≤ length (st .shown) → sumOver (live H f n j) (t .old) ≤ testedCopies s (A .tested)
-          top j hj =
-              let u = sum-le (live H f n j) (live H f n (allScreens H)) (t .old) (λ r q. live-up H f n (allScreens H) j r (omega arith)) in
+      -- of the older ones, those linked to one of the screens read so far, and j more
+      linked : ℕ → ℕ
+      linked j = sumOver (live H f n (A .scanned + j)) (t .old)
+
+      read : linked (length vs) ≤ copies s (markedOf (markEach vs (A .tested)))
+      read = marks-cover-reads s linked vs (A .tested) grows within (rw start at (t .held .marks))
+        where
+          start : A .scanned ≡ A .scanned + 0
+          start = omega arith
+
+          grows : (j : ℕ) → j < length vs → linked (suc j) ≤ linked j + matches s (getD vs j 0)
+          grows j hj =
+              let next : A .scanned + suc j ≡ suc (A .scanned + j) = omega arith in
+              let ls = length-next-screens (A .scanned) (st .shown) in
+              let there : getD vs j 0 ≡ getD (st .shown) (A .scanned + j) 0 =
+              getD-take 2 (drop (A .scanned) (st .shown)) j 0 (omega arith) ∙ getD-drop (A .scanned) (st .shown) j 0 in
+              rw (next, there)
+              (one-screen-more H f n d s st ag (t .old) (λ r. omega (arith, one r, t .same r)) (λ r q. mine r (omega (arith, t .same r)))
+              (A .scanned + j) (omega arith))
+
+          within : (j : ℕ) → j ≤ length vs → linked j ≤ testedCopies s (A .tested)
+          within j hj =
+              let ls = length-next-screens (A .scanned) (st .shown) in
+              let far : A .scanned + j ≤ allScreens H = omega (arith, scanned-within (allScreens H) (A .scanned) (A .tested) hS g) in
+              let u =
+              sum-le (live H f n (A .scanned + j)) (live H f n (allScreens H)) (t .old)
+              (λ r q. live-up H f n (allScreens H) (A .scanned + j) r far) in
               omega (arith, t .held .tests)
 
       on : 1 ≤ length (A .tested) → length (nextScreens (st .shown) A) ≡ 2 → A .scanned + 2 < allScreens H → Tokens H f s n (readOn (st .shown) A) count
@@ -270,7 +274,7 @@ module _ (H : Hall) (f : ℕ → Deed) (s n : ℕ) (count : ℕ → ℕ) where
             old = t .old;
             new = t .new;
             same = t .same;
-            held = record { sum = omega (arith, h .sum); tests = omega (arith, h .tests); marks = read (omega arith); waits = h .waits };
+            held = record { sum = omega (arith, h .sum); tests = omega (arith, h .tests); marks = read; waits = h .waits };
           }
 
       over : 1 ≤ length (A .tested) → A .scanned < allScreens H → allScreens H ≤ A .scanned + 2
@@ -280,7 +284,7 @@ module _ (H : Hall) (f : ℕ → Deed) (s n : ℕ) (count : ℕ → ℕ) where
           let b = tested-copies-mark-each s (nextScreens (st .shown) A) (A .tested) in
           let h = t .held in
           let rd : sumOver (live H f n (allScreens H)) (t .old) ≤ copies s (markedOf ps) =
-          subst (λ (j : ℕ). sumOver (live H f n j) (t .old) ≤ copies s (markedOf ps)) h4 (read (omega arith)) in
+          subst (λ (j : ℕ). sumOver (live H f n j) (t .old) ≤ copies s (markedOf ps)) h4 read in
           let la = length-append (t .old) (t .new) in
           let ca = copies-append s (A .ready) (unmarkedOf ps) in
           let cb = copies-append s (markedOf ps) (A .waiting) in
