@@ -38,7 +38,9 @@ module _ (H : Hall) (some : 1 ≤ allScreens H) (cs : List Call) where
       (takes-find-unlinked H f cs (fresh H) 0 (tells-itself (run H (fresh H) cs)) (fresh-formed H) fresh-agree i x c p v (ap f e ∙ t))
 
   guard : (d s : ℕ) → 1 ≤ d → (s ≡ 0 → ⊥) → Guard H f d s (0 + length cs) (deskOf (end H (fresh H) cs) d)
-  guard d s h hs = guard-along H f in-hall finds-free some d s h hs cs (fresh H) 0 (tells-itself (run H (fresh H) cs)) (fresh-formed H) (fresh-sound H d) fresh-agree
+  guard d s h hs =
+      guard-along H f in-hall finds-free some d s h hs cs (fresh H) 0 (tells-itself (run H (fresh H) cs)) (fresh-formed H) (fresh-sound H d)
+      fresh-agree
       (record {
         count = λ r. 0;
         tokens = record {

@@ -162,9 +162,11 @@ module _ (H : Hall) (st : State) (formed : Formed H st) (f : ℕ → Deed) (n : 
             (sym (ap (λ (s : State). getD (s .shown) x 0) (k .state) ∙ screen-stored H (st .shown) (formed .screens) d c 0 x (k .desk) (k .screen)))
             (drop-agree d c after k (getD (st .shown) x 0) (eqb (screenIndex H d c) x) (link H f x n) (ag x hx))
         at (swaps d p) after q k =
-            shown after (onSwap d p (link H f x n)) (ap (λ (s : State). s .shown) (k .state)) (swap-agree d p after k (getD (st .shown) x 0) (link H f x n) (ag x hx))
+            shown after (onSwap d p (link H f x n)) (ap (λ (s : State). s .shown) (k .state))
+            (swap-agree d p after k (getD (st .shown) x 0) (link H f x n) (ag x hx))
         at (retires d s) after q k =
-            shown after (onRetire d n (link H f x n)) (ap (λ (s : State). s .shown) (k .state)) (retire-agree d s after k q (getD (st .shown) x 0) (link H f x n) (ag x hx))
+            shown after (onRetire d n (link H f x n)) (ap (λ (s : State). s .shown) (k .state))
+            (retire-agree d s after k q (getD (st .shown) x 0) (link H f x n) (ag x hx))
         at (lacksRoom d) after q k = unchanged (lacksRoom d) after k refl refl (ap (λ (s : State). s .shown) (k .state))
         at (collects d) after q k = unchanged (collects d) after k refl refl (ap (λ (s : State). s .shown) (k .state))
         at (handsBack d s) after q k = unchanged (handsBack d s) after k refl refl (ap (λ (s : State). s .shown) (k .state))

@@ -7,6 +7,7 @@ use lib.ListN.{getD, set}
 use lib.Seq.{getD-set-same, getD-set-other}
 use Rattle.rules.specs.Hall.{Desk, Hall, State, allScreens, deskOf, emptyDesk}
 use Rattle.rules.specs.History.{Deed, collects, drops, handsBack, lacksRoom, nothing, retires, swaps, takes}
+use Rattle.rules.specs.Steps.{collect}
 use Rattle.rules.specs.laws.Collect.{owed-collect}
 use Rattle.rules.specs.laws.Effect.{Did, Formed, IsDesk, Swapped}
 
@@ -39,6 +40,9 @@ module _ (H : Hall) (st : State) (formed : Formed H st) where
       by-cases (yes t) = rw (← t) (own-owed d new r ∙ q)
       by-cases (no t) = others-owed d e new (r .0) he t
 
+  collect-owed : (d : ℕ) (new : Desk) → new ≡ collect (allScreens H) (st .shown) (deskOf st d) .after → new .owed ≡ deskOf st d .owed
+  collect-owed d new q = ap (λ (E : Desk). E .owed) q ∙ owed-collect (allScreens H) (st .shown) (deskOf st d)
+
   pub owed-kept : (D : Deed) (after : State) → Did H st D after → (e : ℕ) → 1 ≤ e → (deskOf st e .owed ≡ 0 → ⊥)
       → ((v : ℕ) → D ≡ retires e v → ⊥) → deskOf after e .owed ≡ deskOf st e .owed
   owed-kept (takes d c p v) after k e he owes no-retire = rw (k .state)
@@ -50,9 +54,9 @@ module _ (H : Hall) (st : State) (formed : Formed H st) where
   owed-kept (lacksRoom d) after k e he owes no-retire =
       rw (k .state) (same-owed d e (k .new) (k .desk) he (ap (λ (E : Desk). E .owed) (k .done .after)))
   owed-kept (collects d) after k e he owes no-retire =
-      rw (k .state) (same-owed d e (k .new) (k .desk) he (ap (λ (E : Desk). E .owed) (k .done .after) ∙ owed-collect (allScreens H) (st .shown) (deskOf st d)))
+      rw (k .state) (same-owed d e (k .new) (k .desk) he (collect-owed d (k .new) (k .done .after)))
   owed-kept (handsBack d v) after k e he owes no-retire =
-      rw (k .state) (same-owed d e (k .new) (k .desk) he (ap (λ (E : Desk). E .owed) (k .done .1 .after) ∙ owed-collect (allScreens H) (st .shown) (deskOf st d)))
+      rw (k .state) (same-owed d e (k .new) (k .desk) he (collect-owed d (k .new) (k .done .1 .after)))
   owed-kept nothing after k e he owes no-retire = rw k
 
   pub swap-owes : (d p : ℕ) (after : State) → Swapped H st d p after → deskOf after d .owed ≡ getD (st .held) (p - 1) 0

@@ -239,7 +239,8 @@ module _ (H : Hall) (f : ℕ → Deed) (in-hall : (m : ℕ) → Range H (f m))
       handing : (v : ℕ) → collect (allScreens H) (st .shown) (deskOf st d) .session ≡ v → f n ≡ handsBack d v → Dec (s ≡ v)
           → Guard H f d s (suc n) (collect (allScreens H) (st .shown) (deskOf st d) .after)
       handing v e y (yes t) =
-          guard-hand-back H f d s n (deskOf st d) (collect (allScreens H) (st .shown) (deskOf st d) .after) in-hall finds-free (y ∙ ap (handsBack d) (sym t)) g
+          guard-hand-back H f d s n (deskOf st d) (collect (allScreens H) (st .shown) (deskOf st d) .after) in-hall finds-free
+          (y ∙ ap (handsBack d) (sym t)) g
           (hand-back-same H f s n (g .count) (beforeHandBack (allScreens H) (st .shown) (deskOf st d)) hs (t ∙ sym e) before-back)
       handing v e y (no t) = collecting v e t (λ u. let k : handsBack d v ≡ handsBack d s = sym y ∙ u in t (cc))
 

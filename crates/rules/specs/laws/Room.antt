@@ -76,7 +76,8 @@ collect-room S f shown D hS hf hl r = after-begin (begin D) (begin-room S f D hS
             let lw = length-mark-each (nextScreens shown A) (A .tested) in
             let mw = mark-count-mark-each (nextScreens shown A) (A .tested) in
             hand-back-room S (readOn shown A) (omega (arith, o .total)) (omega arith)
-            (busy (readOn shown A .scanned) (length (A .waiting)) (readOn shown A .tested) (omega arith) (omega arith) (omega arith) (omega arith) (omega arith))
+            (busy (readOn shown A .scanned) (length (A .waiting)) (readOn shown A .tested) (omega arith) (omega arith) (omega arith) (omega arith)
+            (omega arith))
 
         over : (t : List TestedPlace) → A .tested ≡ t → 1 ≤ length (A .tested) → A .scanned < S → A .scanned + length (nextScreens shown A) ≡ S
             → BegunRoom S (A .scanned) t (length (A .waiting)) → Room S 0 (handBack (settleIf true (readOn shown A)) .after)

@@ -165,7 +165,8 @@ module _ (H : Hall) (d : ℕ) (hS : 1 ≤ allScreens H) (hd : 1 ≤ d) where
       (back : (v : ℕ) (shown : List ℕ) (D : Desk) → length shown ≡ allScreens H → Orderly (allScreens H) D → collect (allScreens H) shown D .session ≡ v
       → (v ≡ 0 → ⊥) → amount (collect (allScreens H) shown D .after) + oneIf (test v) ≡ amount D) where
     count-run : (cs : List Call) (st : State) → Formed H st → Sound (allScreens H) (deskOf st d)
-        → howMany (isRetirementWith test) (deedsOf d (run H st cs)) + amount (deskOf st d) ≡ howMany (isHandBackWith test) (deedsOf d (run H st cs)) + amount (deskOf (end H st cs) d)
+        → howMany (isRetirementWith test) (deedsOf d (run H st cs)) + amount (deskOf st d)
+        ≡ howMany (isHandBackWith test) (deedsOf d (run H st cs)) + amount (deskOf (end H st cs) d)
     count-run [] st formed ok = refl
     count-run (c ∷ cs) st formed ok =
         at (own d (deedOf H st c)) (effect H st formed d hd c)

@@ -34,8 +34,13 @@ still-shown H f n x v k no-drop = record {
   desk = k .desk;
   screen = k .screen;
   index = k .index;
-  shows =
-      record { takenAt = k .shows .takenAt; position = k .shows .position; earlier = omega (arith, k .shows .earlier); take = k .shows .take; undropped = undropped };
+  shows = record {
+    takenAt = k .shows .takenAt;
+    position = k .shows .position;
+    earlier = omega (arith, k .shows .earlier);
+    take = k .shows .take;
+    undropped = undropped;
+  };
 }
   where
     undropped : (m : ℕ) → k .shows .takenAt < m → m < suc n → f m ≡ drops (k .desk) (k .screen) → ⊥

@@ -15,14 +15,17 @@ use Rattle.rules.specs.Steps.{Call, Event, end, run, step}
 use Rattle.rules.specs.laws.Effect.{Formed, IsDesk, Range, formed-step, range-step}
 use Rattle.rules.specs.laws.OwnDeeds.{Own, othersDeed, own-cases, ownDeed}
 
+-- the history of the first calls
 pub run-take : (H : Hall) (i : ℕ) (cs : List Call) (st : State) → take i (run H st cs) ≡ run H st (take i cs)
 run-take H zero cs st = refl
 run-take H (suc i) [] st = refl
 run-take H (suc i) (c ∷ cs) st =
     ap {B = List Event} (λ r. record { call = c; answer = step H st c .answer } ∷ r) (run-take H i cs (step H st c .after))
 
+-- a count in the first n + k calls, cut at n
 pub count-split : (test : Deed → Bool) (d : ℕ) (H : Hall) (n k : ℕ) (cs : List Call) (st : State)
-    → howMany test (deedsOf d (run H st (take (n + k) cs))) ≡ howMany test (deedsOf d (run H st (take n cs))) + howMany test (deedsOf d (run H (end H st (take n cs)) (take k (drop n cs))))
+    → howMany test (deedsOf d (run H st (take (n + k) cs)))
+    ≡ howMany test (deedsOf d (run H st (take n cs))) + howMany test (deedsOf d (run H (end H st (take n cs)) (take k (drop n cs))))
 count-split test d H zero k cs st = let e : 0 + k ≡ k = omega arith in ap (λ (m : ℕ). howMany test (deedsOf d (run H st (take m cs)))) e ∙ omega arith
 count-split test d H (suc n) k [] st = simp take-nil
 count-split test d H (suc n) k (c ∷ cs) st =

@@ -144,7 +144,8 @@ module _ (H : Hall) (f : ℕ → Deed) (in-hall : (m : ℕ) → Range H (f m)) (
       start : Track H f i d c p e j r (suc i)
       start =
           on (λ m a b q. absurd (omega arith))
-          (first (omega (arith, sw .later)) (after i (takes d c p v) unlinked (beforeSwap p) tk free (rw (eq-eqb (screenIndex H d c) (screenIndex H d c) refl))))
+          (first (omega (arith, sw .later))
+          (after i (takes d c p v) unlinked (beforeSwap p) tk free (rw (eq-eqb (screenIndex H d c) (screenIndex H d c) refl))))
   track free (suc m) = subst (λ (n : ℕ). Track H f i d c p e j r n) (omega arith) (step (suc m + i) (omega arith) (track free m))
 
   tied : link H f (screenIndex H d c) i ≡ unlinked → (n : ℕ) → r < n → (link H f (screenIndex H d c) n ≡ linkedTo r → ⊥)
