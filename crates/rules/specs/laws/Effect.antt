@@ -3,15 +3,15 @@
 use Prim.Native.Nat.{ℕ, zero, suc, _*_, _-_, _≤_, _<_}
 use native.Mathlib.Omega.{arith}
 use mathlib.Core.Path.{_≡_, refl, sym, _∙_, subst}
-use mathlib.Core.Bool.{Bool, true, false, cond, not, true≢false}
-use mathlib.Core.List.{List}
+use mathlib.Core.Bool.{Bool, true, false, cond, not, _&&_, true≢false}
+use mathlib.Core.List.{List, [], _∷_}
 use lib.ListN.{length, getD, set, length-set}
 use lib.Seq.{getD-set-same, getD-set-other, set-getD}
 use lib.Dec.{leb, ltb, eqb}
 use borrow.Author.Tests.{eqb-true, eqb-false, ltb-true, ltb-false, leb-true, not-true, le-leb}
 use Rattle.rules.specs.Hall.{Desk, Hall, State, allScreens, deskOf, emptyDesk, screenIndex, usedPlaces, withDesk, withHeld, withShown}
 use Rattle.rules.specs.History.{Deed, collects, deed, drops, handsBack, lacksRoom, nothing, own, retires, swaps, takes}
-use Rattle.rules.specs.Steps.{Call, Collect, Drop, Retire, Swap, Take, collect, decide, firstNo, inRange, owe, perform, questions, retire, step}
+use Rattle.rules.specs.Steps.{Call, Collect, Drop, Question, Retire, Swap, Take, ask, collect, decide, firstNo, inRange, owe, perform, questions, retire, step}
 use Rattle.rules.specs.laws.Bools.{and-left, and-right, and-true}
 
 -- A state with as many desks and screens as the hall.
@@ -41,11 +41,23 @@ pub holds : (b : Bool) (m n : ℕ) → cond {A = ℕ} b m (suc n) ≡ 0 → (b �
 holds true m n e = (refl, e)
 holds false m n e = absurd (omega arith)
 
+-- each question of a list in which none has the number 0
+abbrev numbered : List Question → Bool
+numbered [] = true
+numbered (first ∷ others) = not (eqb (first .number) 0) && numbered others
+
+all-yes : (asked : List Question) → numbered asked ≡ true → firstNo asked ≡ 0 → (i : ℕ) → getD asked i (ask true 0) .yes? ≡ true
+all-yes [] n e = λ i. refl
+all-yes (first ∷ others) n e = by-cases (first .yes?) refl e (all-yes others (and-right (not (eqb (first .number) 0)) (numbered others) n))
+  where
+    by-cases : (b : Bool) → first .yes? ≡ b → cond b (firstNo others) (first .number) ≡ 0
+        → (firstNo others ≡ 0 → (i : ℕ) → getD others i (ask true 0) .yes? ≡ true) → (i : ℕ) → getD (first ∷ others) i (ask true 0) .yes? ≡ true
+    by-cases true y e rest zero = y
+    by-cases true y e rest (suc i) = rest e i
+    by-cases false y e rest i = absurd (eqb-false (first .number) 0 (not-true _ (and-left (not (eqb (first .number) 0)) (numbered others) n)) e)
+
 pub retire-questions : (a b c : Bool) → cond {A = ℕ} a (cond {A = ℕ} b (cond {A = ℕ} c 0 14) 13) 6 ≡ 0 → (a ≡ true) × (b ≡ true) × (c ≡ true)
-retire-questions a b c e =
-    let y1 = holds a _ 5 e in
-    let y2 = holds b _ 12 (y1 .1) in
-    (y1 .0, y2 .0, holds c 0 13 (y2 .1) .0)
+retire-questions a b c e = let y = all-yes (ask a 6 ∷ ask b 13 ∷ ask c 14 ∷ []) refl e in (y 0, y 1, y 2)
 
 retire-refused-full : (a b c : Bool) → cond {A = ℕ} a (cond {A = ℕ} b (cond {A = ℕ} c 0 14) 13) 6 ≡ 14 → (a ≡ true) × (c ≡ false)
 retire-refused-full true true true e = absurd (omega arith)
@@ -61,53 +73,39 @@ module _ (H : Hall) (st : State) (formed : Formed H st) where
   pub take-facts : (d c p : ℕ) → firstNo (questions H st (Take d c p)) ≡ 0
       → (1 ≤ d) × (d ≤ H .desks) × (1 ≤ c) × (c ≤ H .screens) × (1 ≤ p) × (getD (st .shown) (screenIndex H d c) 0 ≡ 0) × (getD (st .held) (p - 1) 0 ≡ 0 → ⊥)
   take-facts d c p e =
-      let y1 = holds (inRange d (H .desks)) _ 5 e in
-      let y2 = holds (inRange c (H .screens)) _ 6 (y1 .1) in
-      let y3 = holds (inRange p (H .positions)) _ 7 (y2 .1) in
-      let y4 = holds (eqb (getD (st .shown) (screenIndex H d c) 0) 0) _ 8 (y3 .1) in
-      let y5 = holds (not (eqb (getD (st .held) (p - 1) 0) 0)) _ 9 (y4 .1) in
-      let a = in-range d (H .desks) (y1 .0) in
-      let b = in-range c (H .screens) (y2 .0) in
-      (a .0, a .1, b .0, b .1, in-range p (H .positions) (y3 .0) .0, eqb-true _ 0 (y4 .0), eqb-false _ 0 (not-true _ (y5 .0)))
+      let y = all-yes (questions H st (Take d c p)) refl e in
+      let a = in-range d (H .desks) (y 0) in
+      let b = in-range c (H .screens) (y 1) in
+      (a .0, a .1, b .0, b .1, in-range p (H .positions) (y 2) .0, eqb-true _ 0 (y 3), eqb-false _ 0 (not-true _ (y 4)))
 
   pub drop-facts : (d c : ℕ) → firstNo (questions H st (Drop d c)) ≡ 0 → (1 ≤ d) × (d ≤ H .desks) × (1 ≤ c) × (c ≤ H .screens)
   drop-facts d c e =
-      let y1 = holds (inRange d (H .desks)) _ 5 e in
-      let y2 = holds (inRange c (H .screens)) _ 6 (y1 .1) in
-      let a = in-range d (H .desks) (y1 .0) in
-      let b = in-range c (H .screens) (y2 .0) in
+      let y = all-yes (questions H st (Drop d c)) refl e in
+      let a = in-range d (H .desks) (y 0) in
+      let b = in-range c (H .screens) (y 1) in
       (a .0, a .1, b .0, b .1)
 
   pub swap-facts : (d p v : ℕ) → firstNo (questions H st (Swap d p v)) ≡ 0 → (1 ≤ d) × (d ≤ H .desks) × (1 ≤ p) × (deskOf st d .owed ≡ 0)
   swap-facts d p v e =
-      let y1 = holds (inRange d (H .desks)) _ 5 e in
-      let y2 = holds (inRange p (H .positions)) _ 7 (y1 .1) in
-      let y3 = holds (eqb (deskOf st d .owed) 0) _ 11 (y2 .1) in
-      let a = in-range d (H .desks) (y1 .0) in
-      (a .0, a .1, in-range p (H .positions) (y2 .0) .0, eqb-true _ 0 (y3 .0))
+      let y = all-yes (questions H st (Swap d p v)) refl e in
+      let a = in-range d (H .desks) (y 0) in
+      (a .0, a .1, in-range p (H .positions) (y 1) .0, eqb-true _ 0 (y 2))
 
   -- the position of a take and of a swap is one of the hall's
   pub position-asked : (d c p : ℕ) → firstNo (questions H st (Take d c p)) ≡ 0 → p ≤ H .positions
-  position-asked d c p e =
-      let y1 = holds (inRange d (H .desks)) _ 5 e in
-      let y2 = holds (inRange c (H .screens)) _ 6 (y1 .1) in
-      in-range p (H .positions) (holds (inRange p (H .positions)) _ 7 (y2 .1) .0) .1
+  position-asked d c p e = in-range p (H .positions) (all-yes (questions H st (Take d c p)) refl e 2) .1
 
   pub swap-position-asked : (d p v : ℕ) → firstNo (questions H st (Swap d p v)) ≡ 0 → p ≤ H .positions
-  swap-position-asked d p v e =
-      let y1 = holds (inRange d (H .desks)) _ 5 e in
-      in-range p (H .positions) (holds (inRange p (H .positions)) _ 7 (y1 .1) .0) .1
-
-  retire-asked : (d : ℕ) → firstNo (questions H st (Retire d)) ≡ 0
-      → (inRange d (H .desks) ≡ true) × (not (eqb (deskOf st d .owed) 0) ≡ true) × (ltb (usedPlaces (deskOf st d)) (2 * allScreens H) ≡ true)
-  retire-asked d = retire-questions (inRange d (H .desks)) (not (eqb (deskOf st d .owed) 0)) (ltb (usedPlaces (deskOf st d)) (2 * allScreens H))
+  swap-position-asked d p v e = in-range p (H .positions) (all-yes (questions H st (Swap d p v)) refl e 1) .1
 
   pub retire-facts : (d : ℕ) → firstNo (questions H st (Retire d)) ≡ 0 → (1 ≤ d) × (d ≤ H .desks) × (deskOf st d .owed ≡ 0 → ⊥)
   retire-facts d e =
-      let a = in-range d (H .desks) (retire-asked d e .0) in (a .0, a .1, eqb-false _ 0 (not-true _ (retire-asked d e .1)))
+      let y = all-yes (questions H st (Retire d)) refl e in
+      let a = in-range d (H .desks) (y 0) in
+      (a .0, a .1, eqb-false _ 0 (not-true _ (y 1)))
 
   pub retire-room-fact : (d : ℕ) → firstNo (questions H st (Retire d)) ≡ 0 → usedPlaces (deskOf st d) < 2 * allScreens H
-  retire-room-fact d e = ltb-true _ _ (retire-asked d e .2)
+  retire-room-fact d e = ltb-true _ _ (all-yes (questions H st (Retire d)) refl e 2)
 
 -- ---- What becomes of a desk D, by its own deed.
 
