@@ -1,4 +1,5 @@
--- What each screen's present take is linked to. It is kept beside the state, in the proofs only.
+-- What each screen's present take is linked to, told from the history; it is kept beside the state, in the proofs only. The state agrees
+-- with it: a screen shows what stands at the position, what the desk owes, or what was retired.
 use Prim.Native.Nat.{ℕ, zero, suc, _-_, _≤_, _<_}
 use mathlib.Core.Path.{_≡_, refl, sym, ap, _∙_, subst}
 use mathlib.Core.Bool.{Bool, true, false, cond, true≢false}
@@ -14,13 +15,18 @@ use Rattle.rules.specs.laws.OwnDeeds.{isSwap}
 use Rattle.rules.specs.laws.Owed.{held-kept, owed-kept, swap-owes}
 use Rattle.rules.specs.laws.ScreenIndex.{screen-in, screen-stored}
 
--- Of a screen: it shows nothing; its take is at position p and no swap has come; that swap is owed by desk e; it is linked to the retirement at place r.
+-- The link of a screen.
 pub data Link : Type 0 where
+  -- it shows nothing
   unlinked : Link
+  -- its take was at this position, and no swap has come there
   beforeSwap : ℕ → Link
+  -- the swap has come, and this desk still owes the session
   beforeRetire : ℕ → Link
+  -- its take is linked to the retirement at this place
   linkedTo : ℕ → Link
 
+-- What a take makes of it (at this screen or another, and its position), a swap (its desk and position) and a retire (its desk and place).
 abbrev pub onTake : Bool → ℕ → Link → Link
 onTake b p unlinked = cond b (beforeSwap p) unlinked
 onTake b p (beforeSwap q) = beforeSwap q
@@ -39,7 +45,7 @@ onRetire e n (beforeSwap q) = beforeSwap q
 onRetire e n (beforeRetire q) = cond (eqb e q) (linkedTo n) (beforeRetire q)
 onRetire e n (linkedTo r) = linkedTo r
 
--- what the deed at place n makes of it
+-- and what the deed at place n makes of the link of the screen at place x
 abbrev pub next : Hall → ℕ → ℕ → Deed → Link → Link
 next H x n (takes d c p v) l = onTake (eqb (screenIndex H d c) x) p l
 next H x n (drops d c) l = cond (eqb (screenIndex H d c) x) unlinked l
@@ -50,7 +56,7 @@ next H x n (collects e) l = l
 next H x n (handsBack e s) l = l
 next H x n nothing l = l
 
--- before place n
+-- its link before place n
 abbrev pub link : Hall → (ℕ → Deed) → ℕ → ℕ → Link
 link H f x zero = unlinked
 link H f x (suc n) = next H x n (f n) (link H f x n)
@@ -138,8 +144,7 @@ module _ (H : Hall) (st : State) (formed : Formed H st) (f : ℕ → Deed) (n : 
   retire-agree d s after k q v (linkedTo r) a = a
 
   module _ (ag : ScreensAgree H f n st) where
-    pub agree-step : (c : Call) → f n ≡ deedOf H st c
-        → ScreensAgree H f (suc n) (step H st c .after)
+    pub agree-step : (c : Call) → f n ≡ deedOf H st c → ScreensAgree H f (suc n) (step H st c .after)
     agree-step c q x hx = at (f n) (step H st c .after) refl (did-as H st formed c (f n) (sym q))
       where
         -- the screen shows what it showed

@@ -18,6 +18,7 @@ use Rattle.rules.specs.laws.Runs.{Hidden}
 use Rattle.rules.specs.laws.ScreenIndex.{screen-stored}
 use Rattle.rules.specs.laws.Splits.{Tells, tells-first, tells-rest}
 
+-- What stands at place x of the screens is the session of a take.
 pub record ShownBy (H : Hall) (f : ℕ → Deed) (n x v : ℕ) : Type 0 where
   pub desk : ℕ
   pub screen : ℕ
@@ -67,8 +68,7 @@ module _ (H : Hall) (f : ℕ → Deed) (n : ℕ) (st : State) (formed : Formed H
         shows = record { takenAt = n; position = p; earlier = omega arith; take = q; undropped = λ m a b. absurd (omega arith) };
       }
       by-cases false t nz =
-          still-shown H f n x (getD (st .shown) x 0) (before x nz)
-          (λ u. true≢false (cc))
+          still-shown H f n x (getD (st .shown) x 0) (before x nz) (λ u. true≢false (cc))
 
   after-drop : (d c : ℕ) (after : State) → Dropped H st d c after → f n ≡ drops d c → AllShown H f (suc n) (withShown st (screenIndex H d c) 0)
   after-drop d c after k q x nz =
@@ -89,8 +89,7 @@ module _ (H : Hall) (f : ℕ → Deed) (n : ℕ) (st : State) (formed : Formed H
               let cc′ : c ≡ before x nz .screen = cc in
               eqb-false (screenIndex H d c) x t ((λ i. screenIndex H (dd i) (cc′ i)) ∙ before x nz .index)
 
-  pub all-shown-step : (c : Call) → f n ≡ deedOf H st c
-      → AllShown H f (suc n) (step H st c .after)
+  pub all-shown-step : (c : Call) → f n ≡ deedOf H st c → AllShown H f (suc n) (step H st c .after)
   all-shown-step c q = at (f n) (step H st c .after) refl (did-as H st formed c (f n) (sym q))
     where
       -- a deed that is no drop, and no screen changes
@@ -100,8 +99,7 @@ module _ (H : Hall) (f : ℕ → Deed) (n : ℕ) (st : State) (formed : Formed H
         where
           still : (getD (st .shown) x 0 ≡ 0 → ⊥) → ShownBy H f (suc n) x (getD (st .shown) x 0)
           still nz =
-              still-shown H f n x (getD (st .shown) x 0) (before x nz)
-              (λ u. true≢false (ap isDrop (sym u ∙ q) ∙ no-drop))
+              still-shown H f n x (getD (st .shown) x 0) (before x nz) (λ u. true≢false (ap isDrop (sym u ∙ q) ∙ no-drop))
 
       at : (D : Deed) (after : State) → f n ≡ D → Did H st D after → AllShown H f (suc n) after
       at (takes d c p v) after q k = rw (k .state) (after-take d c p v after k q)
