@@ -2,7 +2,7 @@
 use Prim.Native.Nat.{_+_, _≤_, ℕ, zero, suc, _<_}
 use native.Mathlib.Omega.{arith}
 use mathlib.Core.Path.{_≡_, refl, ap, subst, sym, _∙_}
-use mathlib.Core.Bool.{not, Bool, true, false, true≢false}
+use mathlib.Core.Bool.{Bool, true, false, cond, not, true≢false}
 use mathlib.Core.List.{List, [], _∷_}
 use lib.ListN.{length}
 use lib.Dec.{eqb}
@@ -21,14 +21,7 @@ use Rattle.rules.specs.laws.Sound.{Sound, collect-sound, retire-sound, s
 
 -- ---- The discipline. Has the desk tried to retire since its last collect?
 abbrev pending : Bool → Deed → Bool
-pending f (takes by c p v) = f
-pending f (drops by c) = f
-pending f (swaps by p) = f
-pending f (retires by v) = true
-pending f (lacksRoom by) = true
-pending f (collects by) = false
-pending f (handsBack by v) = false
-pending f nothing = f
+pending f D = cond (isRetireAttempt D) true (cond (isCollect D) false f)
 
 pub record CollectBefore (d : ℕ) (es : List Event) (j : ℕ) : Type 0 where
   pub place : ℕ
@@ -42,7 +35,7 @@ pub record Spaced (d : ℕ) (f : Bool) (es : List Event) : Type 0 where
 
 -- of the events after the first
 spaced-next : (d : ℕ) (f : Bool) (e : Event) (es : List Event) → Spaced d f (e ∷ es) → Spaced d (pending f (own d (deedAt (e ∷ es) 0))) es
-spaced-next d f e es sp = record { between = between; since = by-cases (own d (deedAt (e ∷ es) 0)) refl }
+spaced-next d f e es sp = record { between = between; since = by-cases (isRetireAttempt (own d (deedAt (e ∷ es) 0))) (isCollect (own d (deedAt (e ∷ es) 0))) refl refl }
   where
     -- a collect that is not the first event
     later : (j m : ℕ) → 0 < m → m < suc j → isCollect (own d (deedAt (e ∷ es) m)) ≡ true → CollectBefore d es j
@@ -69,16 +62,11 @@ spaced-next d f e es sp = record { between = between; since = by-cases (own d (d
         not-first zero h = absurd (true≢false (cc))
         not-first (suc m) h = omega arith
 
-    by-cases : (D : Deed) → own d (deedAt (e ∷ es) 0) ≡ D → pending f D ≡ true → (j : ℕ) → isRetireAttempt (own d (deedAt es j)) ≡ true
-        → CollectBefore d es j
-    by-cases (takes by c p v) q = fromSince (ap isCollect q)
-    by-cases (drops by c) q = fromSince (ap isCollect q)
-    by-cases (swaps by p) q = fromSince (ap isCollect q)
-    by-cases (retires by v) q = λ z. fromFirst (ap isRetireAttempt q)
-    by-cases (lacksRoom by) q = λ z. fromFirst (ap isRetireAttempt q)
-    by-cases (collects by) q = λ z. (absurd (true≢false (cc)))
-    by-cases (handsBack by v) q = λ z. (absurd (true≢false (cc)))
-    by-cases nothing q = fromSince (ap isCollect q)
+    by-cases : (retire collect : Bool) → isRetireAttempt (own d (deedAt (e ∷ es) 0)) ≡ retire → isCollect (own d (deedAt (e ∷ es) 0)) ≡ collect
+        → cond retire true (cond collect false f) ≡ true → (j : ℕ) → isRetireAttempt (own d (deedAt es j)) ≡ true → CollectBefore d es j
+    by-cases true collect a c z = fromFirst a
+    by-cases false true a c z = absurd (true≢false (sym z))
+    by-cases false false a c z = fromSince c z
 
 -- a retire refused for want of room is an attempt of that desk
 own-lacks-room : (d : ℕ) (D : Deed) → D ≡ lacksRoom d → own d D ≡ lacksRoom d

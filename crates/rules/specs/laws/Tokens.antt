@@ -33,11 +33,11 @@ abbrev pub sumOver : (ℕ → ℕ) → List ℕ → ℕ
 sumOver g [] = 0
 sumOver g (r ∷ us) = g r + sumOver g us
 
-pub sum-append : (g : ℕ → ℕ) (xs ys : List ℕ) → sumOver g (xs ++ ys) ≡ sumOver g xs + sumOver g ys
+sum-append : (g : ℕ → ℕ) (xs ys : List ℕ) → sumOver g (xs ++ ys) ≡ sumOver g xs + sumOver g ys
 sum-append g [] ys = omega arith
 sum-append g (x ∷ xs) ys = omega (arith, sum-append g xs ys)
 
-pub sum-le : (g g′ : ℕ → ℕ) (us : List ℕ) → ((r : ℕ) → 1 ≤ copies r us → g r ≤ g′ r) → sumOver g us ≤ sumOver g′ us
+sum-le : (g g′ : ℕ → ℕ) (us : List ℕ) → ((r : ℕ) → 1 ≤ copies r us → g r ≤ g′ r) → sumOver g us ≤ sumOver g′ us
 sum-le g g′ [] h = omega arith
 sum-le g g′ (r ∷ us) h = omega (arith, h r (omega (arith, matches-same r)), sum-le g g′ us (λ x q. h x (omega arith)))
 
@@ -79,7 +79,7 @@ ties-next H x n (handsBack e s) l r h = omega arith
 ties-next H x n nothing l r h = omega arith
 
 module _ (H : Hall) (f : ℕ → Deed) (n : ℕ) where
-  pub live-next : (k r : ℕ) → r < n → live H f (suc n) k r ≤ live H f n k r
+  live-next : (k r : ℕ) → r < n → live H f (suc n) k r ≤ live H f n k r
   live-next zero r h = omega arith
   live-next (suc k) r h = omega (arith, live-next k r h, ties-next H k n (f n) (link H f k n) r h)
 
