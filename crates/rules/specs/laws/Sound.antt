@@ -10,10 +10,10 @@ use lib.Dec.{leb, ltb, eqb}
 use borrow.Author.Tests.{eq-eqb, ne-eqb, le-leb, lt-ltb}
 use Rattle.rules.specs.Hall.{Desk, TestedPlace, marked, mostAllScreens, unmarked, usedPlaces}
 use Rattle.rules.specs.History.{copies}
-use Rattle.rules.specs.Steps.{begin, beginAt, collect, isNone, isSession, markEach, nextScreens, owe, retire, scan, settle}
+use Rattle.rules.specs.Steps.{begin, beginAt, collect, isNone, isSession, nextScreens, owe, retire, scan, settle}
 use Rattle.rules.specs.Table.{allMarks, bitsOfWords, encodeDesk, every, listOf, markWords, marksOf, ones, recordSound, scanSound, sessionsOf, wordsOfBits}
 use Rattle.rules.specs.laws.Bools.{and-true}
-use Rattle.rules.specs.laws.Collect.{Orderly, Scanning, by-scan, collect-orderly, copiesOn, retire-orderly}
+use Rattle.rules.specs.laws.Collect.{Orderly, Scanning, by-scan, collect-orderly, copiesOn, readOn, retire-orderly}
 use Rattle.rules.specs.laws.Encoding.{length-marks, length-sessions, markBits, marks-read-back, ones-marks}
 use Rattle.rules.specs.laws.Lists.{copies-append}
 use Rattle.rules.specs.laws.Marks.{length-mark-each, mark-count-begin, mark-count-mark-each, markCount, testedCopies}
@@ -70,25 +70,22 @@ scan-fits : (S : ℕ) (shown : List ℕ) (A : Desk) → 1 ≤ S → length shown
     → ScanFits S (settle S (scan shown A) .scanned) (settle S (scan shown A) .tested)
 scan-fits S shown A hS hl m =
     by-scan (λ (X : Desk). ScanFits S (X .scanned) (X .tested)) S shown A hS hl (begun-scanning S (A .scanned) (A .tested) m)
-    (λ e. rest (A .tested) e m) (λ h1 h2 h3. on (A .tested) refl h1 h2 h3 m) (λ h1 h2 h3 h4. refl)
+    (λ e. rw e (rw e at m)) on (λ h1 h2 h3 h4. refl)
   where
-    rest : (t : List TestedPlace) → t ≡ [] → BegunFits S (A .scanned) t → ScanFits S (A .scanned) t
-    rest [] e m = m
-    rest (p ∷ ps) e m = absurd (omega (arith, ap length e))
+    begun : (t : List TestedPlace) → 1 ≤ length t → BegunFits S (A .scanned) t → (A .scanned % 2 ≡ 0) × (markCount t ≤ A .scanned)
+    begun [] h m = absurd (omega arith)
+    begun (p ∷ ps) h m = (m .0, m .2)
 
     busy : (k : ℕ) (t : List TestedPlace) → 1 ≤ length t → k % 2 ≡ 0 → 2 ≤ k → k < S → markCount t ≤ k → ScanFits S k t
     busy k [] h a b c d = absurd (omega arith)
     busy k (p ∷ ps) h a b c d = (a, b, c, d)
 
-    on : (t : List TestedPlace) → A .tested ≡ t → 1 ≤ length (A .tested) → length (nextScreens shown A) ≡ 2 → A .scanned + 2 < S
-        → BegunFits S (A .scanned) t → ScanFits S (A .scanned + length (nextScreens shown A)) (markEach (nextScreens shown A) (A .tested))
-    on [] e h1 h2 h3 m = absurd (omega (arith, ap length e))
-    on (p ∷ ps) e h1 h2 h3 m =
+    on : 1 ≤ length (A .tested) → length (nextScreens shown A) ≡ 2 → A .scanned + 2 < S → ScanFits S (readOn shown A .scanned) (readOn shown A .tested)
+    on h1 h2 h3 =
+        let was = begun (A .tested) h1 m in
         let lw = length-mark-each (nextScreens shown A) (A .tested) in
         let mw = mark-count-mark-each (nextScreens shown A) (A .tested) in
-        let me = ap markCount e in
-        busy (A .scanned + length (nextScreens shown A)) (markEach (nextScreens shown A) (A .tested)) (omega arith) (omega arith) (omega arith)
-        (omega arith) (omega arith)
+        busy (readOn shown A .scanned) (readOn shown A .tested) (omega arith) (omega arith) (omega arith) (omega arith) (omega arith)
 
 pub collect-sound : (S : ℕ) (shown : List ℕ) (D : Desk) → 1 ≤ S → length shown ≡ S → Sound S D → Sound S (collect S shown D .after)
 collect-sound S shown D hS hl s =
