@@ -38,8 +38,8 @@ module _ (d : ℕ) where
 
   spaced-by-test : (es : List Event) (f : Bool) → collectsBetween f (deedsOf d es) ≡ true → Spaced d f es
   spaced-by-test [] f q = record {
-    between = λ i j l a b. (absurd (true≢false (cc)));
-    since = λ q j a. (absurd (true≢false (cc)));
+    between = λ i j l a b. absurd (true≢false (cc));
+    since = λ q j a. absurd (true≢false (cc));
   }
   spaced-by-test (e ∷ es) f q =
       by-cases (isRetireAttempt (own d (deedAt (e ∷ es) 0))) (isCollect (own d (deedAt (e ∷ es) 0))) refl refl f q (spaced-by-test es)
@@ -52,11 +52,11 @@ module _ (d : ℕ) where
           let s = ih true q in
           record {
             between = later-between e es (s .between) (λ j x y. s .since refl j y);
-            since = λ z. (absurd (true≢false (cc)));
+            since = λ z. absurd (true≢false (cc));
           }
       by-cases false true at ct f q ih =
           let s = ih false q in
-          record { between = later-between e es (s .between) (λ j x y. (absurd (true≢false (cc)))); since = since }
+          record { between = later-between e es (s .between) (λ j x y. absurd (true≢false (cc))); since = since }
         where
           since : f ≡ true → (j : ℕ) → isRetireAttempt (own d (deedAt (e ∷ es) j)) ≡ true → CollectBefore d (e ∷ es) j
           since z zero x = absurd (true≢false (cc))
@@ -64,7 +64,7 @@ module _ (d : ℕ) where
       by-cases false false at ct f q ih =
           let s = ih f q in
           record {
-            between = later-between e es (s .between) (λ j x y. (absurd (true≢false (cc))));
+            between = later-between e es (s .between) (λ j x y. absurd (true≢false (cc)));
             since = since (s .since);
           }
         where

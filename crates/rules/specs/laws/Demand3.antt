@@ -24,7 +24,7 @@ module _ (H : Hall) (some : 1 ≤ allScreens H) (cs : List Call) where
   never-lacks-room d disciplined i q =
       let r = subst (Range H) q (range-run H cs (fresh H) (fresh-formed H) i) in
       room-run H d some (r .0) cs (fresh H) false (fresh-formed H) (fresh-room H d some)
-      (record { between = disciplined; since = λ z. (absurd (true≢false (cc))) }) i q
+      (record { between = disciplined; since = λ z. absurd (true≢false (cc)) }) i q
 
   -- ---- What is on the list.
   pub on-list : (d : ℕ) → 1 ≤ d → retirements d (run H (fresh H) cs) ≡ handBacks d (run H (fresh H) cs) + usedPlaces (deskOf (end H (fresh H) cs) d)

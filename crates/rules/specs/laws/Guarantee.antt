@@ -1,4 +1,4 @@
--- The guarantee of Definition 2.1, of every list of calls from the opening on.
+-- The guarantee of Definition 2.1, of every list of calls from the opening on: the pairings of all desks and sessions together.
 use Prim.Native.Nat.{ℕ, _+_, _≤_, _<_}
 use native.Mathlib.Omega.{arith}
 use native.Mathlib.Decide.{ℕ-discrete, decLe}
@@ -13,7 +13,7 @@ use Rattle.rules.specs.Steps.{Call, end, run}
 use Rattle.rules.specs.laws.Effect.{Range}
 use Rattle.rules.specs.laws.Fresh.{fresh-copies, fresh-formed, fresh-sound}
 use Rattle.rules.specs.laws.Links.{ScreensAgree, link, unlinked}
-use Rattle.rules.specs.laws.Pairing.{MayPair, Guard, guard-along, takes-find-unlinked}
+use Rattle.rules.specs.laws.Pairing.{Guard, MayPair, guard-along, takes-find-unlinked}
 use Rattle.rules.specs.laws.Splits.{deed-within, range-run, tells-itself}
 
 -- A pairing for one desk and one session.
