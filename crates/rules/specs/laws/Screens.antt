@@ -1,7 +1,6 @@
 -- What the screens show, told from the history alone: a screen that shows a session was taken, and not dropped since.
 use Prim.Native.Nat.{ℕ, _+_, _≤_, zero, suc, _<_}
 use native.Mathlib.Omega.{arith}
-use native.Mathlib.Decide.{ℕ-discrete}
 use mathlib.Core.Path.{_≡_, refl, sym, ap, _∙_, subst}
 use mathlib.Core.Bool.{cond, Bool, true, false, true≢false}
 use mathlib.Core.List.{List, [], _∷_}
@@ -16,7 +15,7 @@ use Rattle.rules.specs.laws.Lists.{matches-other}
 use Rattle.rules.specs.laws.OwnDeeds.{isDrop}
 use Rattle.rules.specs.laws.Runs.{Hidden}
 use Rattle.rules.specs.laws.ScreenIndex.{screen-stored}
-use Rattle.rules.specs.laws.Splits.{Tells, tells-first, tells-rest}
+use Rattle.rules.specs.laws.Splits.{Tells, one-place-more, tells-first, tells-rest}
 
 -- What stands at place x of the screens is the session of a take.
 pub record ShownBy (H : Hall) (f : ℕ → Deed) (n x v : ℕ) : Type 0 where
@@ -40,16 +39,9 @@ still-shown H f n x v k no-drop = record {
     position = k .shows .position;
     earlier = omega (arith, k .shows .earlier);
     take = k .shows .take;
-    undropped = undropped;
+    undropped = one-place-more (λ m. f m ≡ drops (k .desk) (k .screen) → ⊥) (k .shows .takenAt) n no-drop (k .shows .undropped);
   };
 }
-  where
-    undropped : (m : ℕ) → k .shows .takenAt < m → m < suc n → f m ≡ drops (k .desk) (k .screen) → ⊥
-    undropped m a b q = by-cases (ℕ-discrete m n)
-      where
-        by-cases : Dec (m ≡ n) → ⊥
-        by-cases (yes t) = no-drop (ap f (sym t) ∙ q)
-        by-cases (no t) = k .shows .undropped m a (omega arith) q
 
 module _ (H : Hall) (f : ℕ → Deed) (n : ℕ) (st : State) (formed : Formed H st) (before : AllShown H f n st) where
   after-take : (d c p v : ℕ) (after : State) → Took H st d c p v after → f n ≡ takes d c p v → AllShown H f (suc n) (withShown st (screenIndex H d c) v)

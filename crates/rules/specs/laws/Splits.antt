@@ -1,7 +1,8 @@
 -- Lists of calls: cut in two, told from a place on, past their end, and what no call of a list does.
 use Prim.Native.Nat.{ℕ, _+_, _≤_, _<_, zero, suc}
 use native.Mathlib.Omega.{arith}
-use mathlib.Core.Path.{_≡_, refl, ap, _∙_, sym}
+use native.Mathlib.Decide.{ℕ-discrete}
+use mathlib.Core.Path.{_≡_, refl, sym, ap, _∙_, subst}
 use mathlib.Core.Bool.{cond, Bool, true, false}
 use mathlib.Core.List.{List, [], _∷_}
 use lib.ListN.{length, take, drop}
@@ -54,6 +55,14 @@ tells-from H n cs st = record { at = at n cs st }
     at (suc n) [] st i = refl
     at (suc n) (c ∷ cs) st i =
         let e : suc n + i ≡ suc (n + i) = omega arith in ap (deedAt (run H st (c ∷ cs))) e ∙ at n cs (step H st c .after) i
+
+-- what holds between places i and n, and at n, holds between i and n + 1
+pub one-place-more : (Q : ℕ → Type 0) (i n : ℕ) → Q n → ((m : ℕ) → i < m → m < n → Q m) → (m : ℕ) → i < m → m < suc n → Q m
+one-place-more Q i n here earlier m a b = by-cases (ℕ-discrete m n)
+  where
+    by-cases : Dec (m ≡ n) → Q m
+    by-cases (yes t) = subst Q (sym t) here
+    by-cases (no t) = earlier m a (omega arith)
 
 -- past the end nothing is done
 pub deed-within : (H : Hall) (cs : List Call) (st : State) (place : ℕ) → (deedAt (run H st cs) place ≡ nothing → ⊥) → place < length cs
