@@ -24,7 +24,7 @@ use Rattle.rules.specs.laws.ScreenIndex.{screen-in}
 use Rattle.rules.specs.laws.Sound.{Sound, sound-orderly}
 use Rattle.rules.specs.laws.Splits.{Tells, tells-first, tells-rest}
 use Rattle.rules.specs.laws.Tokens.{Leaves, Tokens, begin-tokens, hand-back-other, hand-back-same, live-at, live-at-most-one, scan-tokens}
-use Rattle.rules.specs.laws.Tokens.{ties, tokens-later}
+use Rattle.rules.specs.laws.Tokens.{ties, tokens-later, tokens-with}
 use Rattle.rules.specs.laws.Track.{linked-dropped}
 
 -- A hand-back at place a, of session s to desk d, may be paired with the retirement at place r.
@@ -209,12 +209,8 @@ module _ (H : Hall) (f : ℕ → Deed) (in-hall : (m : ℕ) → Range H (f m))
           let t = tokens-later H f s n (g .count) (deskOf st d) (deskOf st d .owed) below (g .tokens) in
           let w = copies-append s (deskOf st d .waiting) (deskOf st d .owed ∷ []) in
           let z : matches s (deskOf st d .owed) ≡ 0 = ap (matches s) o ∙ matches-other s v ne in
-          record {
-            old = t .old;
-            new = t .new;
-            same = t .same;
-            held = record { sum = omega (arith, t .held .sum); tests = t .held .tests; marks = t .held .marks; waits = omega (arith, t .held .waits) };
-          }
+          let h = t .held in
+          tokens-with t (record { sum = omega (arith, h .sum); tests = h .tests; marks = h .marks; waits = omega (arith, h .waits) })
 
       before-back : Tokens H f s n (beforeHandBack (allScreens H) (st .shown) (deskOf st d)) (g .count)
       before-back =
