@@ -16,12 +16,12 @@ use Rattle.rules.specs.laws.Links.{link}
 
 -- ---- Demand 1. "an accepted call writes only the words its step names"
 
--- The words that a step names: take and drop, the one screen; swap, the position, and the owed word only "if the old is not 0";
--- retire, the owed word, the count of waiting and the first unused place of the list; collect, k, the counts, the marks and the list.
 abbrev pub or : Bool → Bool → Bool
 or true b = true
 or false b = b
 
+-- The words that a step names: take and drop, the one screen; swap, the position, and the owed word only "if the old is not 0";
+-- retire, the owed word, the count of waiting and the first unused place of the list; collect, k, the counts, the marks and the list.
 abbrev pub names : List ℕ → Call → ℕ → Bool
 names table (Take d c p) i = eqb i (screenWord (hallIn table) d c)
 names table (Drop d c) i = eqb i (screenWord (hallIn table) d c)

@@ -17,9 +17,10 @@ use Rattle.rules.specs.Steps.{Call, Collect, Done, Drop, Retire, Swap, T
 use Rattle.rules.specs.Table.{TableDone, allMarks, decode, decodeDesk, encodeDesk, endTable, hallIn, headerWords, listOf, listPlace, markWords, marksOf}
 use Rattle.rules.specs.Table.{need, openQuestions, openedTable, positionWord, putRecord, recordOf, recordSound, recordStart, recordWidth, runTable}
 use Rattle.rules.specs.Table.{screenWord, sessionsOf, sound, stepTable, usedIn, waitingPlace, wordsOfBits, written}
+use Rattle.rules.specs.laws.Collect.{owed-collect}
 use Rattle.rules.specs.laws.Decoding.{record-again, small-drop, small-take}
+use Rattle.rules.specs.laws.Effect.{desk-fact, retire-facts, retire-room-fact, swap-facts}
 use Rattle.rules.specs.laws.Fresh.{get-same}
-use Rattle.rules.specs.laws.Links.{desk-fact, owed-collect, retire-facts, retire-room-fact, swap-facts}
 use Rattle.rules.specs.laws.Parts.{get-past, put-is}
 use Rattle.rules.specs.laws.Sound.{Sound, collect-sound, length-list, retire-sound}
 use Rattle.rules.specs.laws.SoundTables.{desk-sound, encoded, valid}

@@ -2,22 +2,21 @@
 use Prim.Native.Nat.{ℕ, _+_, _-_, _≤_, suc, _*_, _<_}
 use native.Mathlib.Omega.{arith}
 use native.Mathlib.Decide.{decLt}
-use mathlib.Core.Path.{_≡_, sym, ap, _∙_, subst}
-use mathlib.Core.Bool.{false}
+use mathlib.Core.Path.{_≡_, ap, subst}
+use mathlib.Core.Bool.{false, true≢false}
 use mathlib.Core.List.{List}
 use lib.ListN.{length, take, drop}
 use Rattle.rules.specs.Demands.{BackWithin, exactBound}
-use Rattle.rules.specs.Hall.{Hall, State, allScreens, deskOf, fresh, usedPlaces}
-use Rattle.rules.specs.History.{Deed, Disciplined, Shows, collectsOf, deedAt, handBacks, handBacksOf, isCollect, isHandBackOf, lacksRoom}
-use Rattle.rules.specs.History.{nothing, retirements, retirementsOf, retires}
+use Rattle.rules.specs.Hall.{Hall, allScreens, deskOf, fresh, usedPlaces}
+use Rattle.rules.specs.History.{Deed, Disciplined, Shows, collectsOf, deedAt, handBacks, handBacksOf, isCollect, isHandBackOf, lacksRoom, retirements}
+use Rattle.rules.specs.History.{retirementsOf}
 use Rattle.rules.specs.Steps.{Call, end, run}
-use Rattle.rules.specs.laws.Checks.{disciplined}
+use Rattle.rules.specs.laws.Effect.{Range}
 use Rattle.rules.specs.laws.Fresh.{fresh-copies, fresh-formed, fresh-places, fresh-room, fresh-shown, fresh-sound}
 use Rattle.rules.specs.laws.HandBack.{due-start}
-use Rattle.rules.specs.laws.Links.{Range}
 use Rattle.rules.specs.laws.Runs.{copies-run, due-run, formed-run, places-run, room-run, sound-run}
 use Rattle.rules.specs.laws.Screens.{AllShown, all-shown-run, hidden-run}
-use Rattle.rules.specs.laws.Splits.{count-split, deeds-past, deeds-split, range-run, run-take}
+use Rattle.rules.specs.laws.Splits.{count-split, deed-within, range-run, run-take, tells-from, tells-itself}
 
 module _ (H : Hall) (some : 1 ≤ allScreens H) (cs : List Call) where
   -- ---- Room.
@@ -25,7 +24,7 @@ module _ (H : Hall) (some : 1 ≤ allScreens H) (cs : List Call) where
   never-lacks-room d disciplined i q =
       let r = subst (Range H) q (range-run H cs (fresh H) (fresh-formed H) i) in
       room-run H d some (r .0) cs (fresh H) false (fresh-formed H) (fresh-room H d some)
-      (record { between = disciplined; since = λ z. (let o : _≡_ {A = ℕ} 0 1 = cc in absurd (omega arith)) }) i q
+      (record { between = disciplined; since = λ z. absurd (true≢false (cc)) }) i q
 
   -- ---- What is on the list.
   pub on-list : (d : ℕ) → 1 ≤ d → retirements d (run H (fresh H) cs) ≡ handBacks d (run H (fresh H) cs) + usedPlaces (deskOf (end H (fresh H) cs) d)
@@ -47,20 +46,18 @@ module _ (H : Hall) (some : 1 ≤ allScreens H) (cs : List Call) (B : ℕ) (enou
       → ((m e c : ℕ) → n ≤ m → m < n + k → Shows (deedAt (run H (fresh H) cs)) m e c s → ⊥)
       → retirementsOf d s (run H (fresh H) (take n cs)) ≤ handBacksOf d s (run H (fresh H) (take (n + k) cs))
   back-from d s n k hd hs hn hc unshown =
-      let st : State = end H (fresh H) (take n cs) in
       let f : ℕ → Deed = deedAt (run H (fresh H) cs) in
       let formed = formed-run H (take n cs) (fresh H) (fresh-formed H) in
       let ok = sound-run H d some hd (take n cs) (fresh H) (fresh-formed H) (fresh-sound H d) in
-      let zero-plus : (i : ℕ) → f (0 + i) ≡ f i = (λ i. let e : 0 + i ≡ i = omega arith in ap f e) in
       let shown : AllShown H f n (end H (fresh H) (take n cs)) =
       subst (λ (m : ℕ). AllShown H f m (end H (fresh H) (take n cs))) (omega arith)
-      (all-shown-run H f s hs n cs (fresh H) 0 zero-plus (fresh-formed H) (fresh-shown H f) hn) in
-      let hidden = hidden-run H f s hs k (drop n cs) (end H (fresh H) (take n cs)) n (deeds-split H n cs (fresh H)) formed shown unshown in
+      (all-shown-run H f n cs (fresh H) 0 (tells-itself (run H (fresh H) cs)) (fresh-formed H) (fresh-shown H f) hn) in
+      let hidden = hidden-run H f s hs k (drop n cs) (end H (fresh H) (take n cs)) n (tells-from H n cs (fresh H)) formed shown unshown in
       let c1 = copies-run H d some hd s hs (take n cs) (fresh H) (fresh-formed H) (fresh-sound H d) in
       let c2 = copies-run H d some hd s hs (take k (drop n cs)) (end H (fresh H) (take n cs)) formed ok in
       let du =
       due-run H d some hd s (take k (drop n cs)) (end H (fresh H) (take n cs)) B 0 formed ok
-      (due-start (allScreens H) s B 0 (deskOf (end H (fresh H) (take n cs)) d) some enough (ok .pass)) hidden hc in
+      (due-start (allScreens H) s B 0 (deskOf (end H (fresh H) (take n cs)) d) enough (ok .pass)) hidden hc in
       let hb = count-split (isHandBackOf s) d H n k cs (fresh H) in
       omega (arith, fresh-copies H d s)
 
@@ -71,14 +68,7 @@ module _ (H : Hall) (some : 1 ≤ allScreens H) (cs : List Call) (B : ℕ) (enou
       range = subst (Range H) q (range-run H cs (fresh H) (fresh-formed H) r)
 
       inside : suc r ≤ length cs
-      inside = at (decLt r (length cs))
-        where
-          at : Dec (r < length cs) → suc r ≤ length cs
-          at (yes l) = l
-          at (no l) =
-              let k : nothing ≡ retires d s = sym (deeds-past H cs (fresh H) r (omega arith)) ∙ q in
-              let z : _≡_ {A = ℕ} 0 1 = cc in
-              absurd (omega arith)
+      inside = deed-within H cs (fresh H) r (λ e. true≢false (cc))
 
       collected : (n : ℕ) → collectsOf d (take n (run H (fresh H) cs)) ≡ collectsOf d (run H (fresh H) (take n cs))
       collected n = ap (collectsOf d) (run-take H n cs (fresh H))

@@ -1,54 +1,54 @@
--- The guarantee of Definition 2.1, of every list of calls from the opening on.
-use Prim.Native.Nat.{ℕ, zero, suc, _+_, _≤_, _<_}
+-- The guarantee of Definition 2.1, of every list of calls from the opening on: the pairings of all desks and sessions together.
+use Prim.Native.Nat.{ℕ, _+_, _≤_, _<_}
 use native.Mathlib.Omega.{arith}
-use native.Mathlib.Decide.{ℕ-discrete, decLt, decLe}
-use mathlib.Core.Path.{_≡_, refl, sym, ap, _∙_, subst}
-use mathlib.Core.List.{List, [], _∷_}
+use native.Mathlib.Decide.{ℕ-discrete, decLe}
+use mathlib.Core.Path.{_≡_, sym, ap, _∙_, subst}
+use mathlib.Core.Bool.{true≢false}
+use mathlib.Core.List.{List, []}
 use lib.ListN.{length, getD-replicate}
 use Rattle.rules.specs.Demands.{Guarantee}
-use Rattle.rules.specs.Hall.{Hall, State, allScreens, deskOf, fresh, screenIndex}
+use Rattle.rules.specs.Hall.{Hall, allScreens, deskOf, fresh, screenIndex}
 use Rattle.rules.specs.History.{Deed, collects, deedAt, drops, handsBack, lacksRoom, nothing, retires, swaps, takes}
-use Rattle.rules.specs.Steps.{Call, end, run, step}
+use Rattle.rules.specs.Steps.{Call, end, run}
+use Rattle.rules.specs.laws.Effect.{Range}
 use Rattle.rules.specs.laws.Fresh.{fresh-copies, fresh-formed, fresh-sound}
-use Rattle.rules.specs.laws.Links.{Range, ScreensAgree, link, unlinked}
-use Rattle.rules.specs.laws.Pairing.{Good, Guard, guard-along, in-range-run, takes-find-unlinked}
-
--- past the end nothing is done
-past : (H : Hall) (cs : List Call) (st : State) (a : ℕ) → length cs ≤ a → deedAt (run H st cs) a ≡ nothing
-past H [] st a h = refl
-past H (c ∷ cs) st zero h = absurd (omega arith)
-past H (c ∷ cs) st (suc a) h = past H cs (step H st c .after) a (omega arith)
+use Rattle.rules.specs.laws.Links.{ScreensAgree, link, unlinked}
+use Rattle.rules.specs.laws.Pairing.{Guard, MayPair, guard-along, takes-find-unlinked}
+use Rattle.rules.specs.laws.Splits.{deed-within, range-run, tells-itself}
 
 -- A pairing for one desk and one session.
-record Works (f : ℕ → Deed) (d s : ℕ) (p : ℕ → ℕ) : Type 0 where
-  good : (a : ℕ) → f a ≡ handsBack d s → Good f d s a (p a)
+record Pairs (f : ℕ → Deed) (d s : ℕ) (p : ℕ → ℕ) : Type 0 where
+  good : (a : ℕ) → f a ≡ handsBack d s → MayPair f d s a (p a)
   once : (a b : ℕ) → f a ≡ handsBack d s → f b ≡ handsBack d s → p a ≡ p b → a ≡ b
 
 module _ (H : Hall) (some : 1 ≤ allScreens H) (cs : List Call) where
   abbrev f : ℕ → Deed
   f = deedAt (run H (fresh H) cs)
 
-  agree0 : ScreensAgree H f 0 (fresh H)
-  agree0 x h = getD-replicate (allScreens H) x 0 0 h
+  fresh-agree : ScreensAgree H f 0 (fresh H)
+  fresh-agree x h = getD-replicate (allScreens H) x 0 0 h
 
-  start : (i : ℕ) → f (0 + i) ≡ f i
-  start i = let e : 0 + i ≡ i = omega arith in ap f e
+  in-hall : (m : ℕ) → Range H (f m)
+  in-hall = range-run H cs (fresh H) (fresh-formed H)
 
-  sane : (m : ℕ) → Range H (f m)
-  sane = in-range-run H cs (fresh H) (fresh-formed H)
-
-  calm : (i x c p v : ℕ) → f i ≡ takes x c p v → link H f (screenIndex H x c) i ≡ unlinked
-  calm i x c p v t =
+  finds-free : (i x c p v : ℕ) → f i ≡ takes x c p v → link H f (screenIndex H x c) i ≡ unlinked
+  finds-free i x c p v t =
       let e : 0 + i ≡ i = omega arith in
       subst (λ (k : ℕ). link H f (screenIndex H x c) k ≡ unlinked) e
-      (takes-find-unlinked H f cs (fresh H) 0 start (fresh-formed H) agree0 i x c p v (ap f e ∙ t))
+      (takes-find-unlinked H f cs (fresh H) 0 (tells-itself (run H (fresh H) cs)) (fresh-formed H) fresh-agree i x c p v (ap f e ∙ t))
 
-  guard : (d s : ℕ) → 1 ≤ d → d ≤ H .desks → (s ≡ 0 → ⊥) → Guard H f d s (0 + length cs) (deskOf (end H (fresh H) cs) d)
-  guard d s h h′ hs = guard-along H f sane calm some d s h hs cs (fresh H) 0 start (fresh-formed H) (fresh-sound H d) agree0
+  guard : (d s : ℕ) → 1 ≤ d → (s ≡ 0 → ⊥) → Guard H f d s (0 + length cs) (deskOf (end H (fresh H) cs) d)
+  guard d s h hs =
+      guard-along H f in-hall finds-free some d s h hs cs (fresh H) 0 (tells-itself (run H (fresh H) cs)) (fresh-formed H) (fresh-sound H d)
+      fresh-agree
       (record {
         count = λ r. 0;
-        tokens =
-            record { old = []; new = []; same = λ r. omega arith; held = record { sum = omega (arith, fresh-copies H d s); tests = omega arith; marks = omega arith; waits = omega arith } };
+        tokens = record {
+          old = [];
+          new = [];
+          same = λ r. omega arith;
+          held = record { sum = omega (arith, fresh-copies H d s); tests = omega arith; marks = omega arith; waits = omega arith };
+        };
         single = λ r. omega arith;
         mine = λ r q. absurd (omega arith);
         pair = λ a. 0;
@@ -58,33 +58,34 @@ module _ (H : Hall) (some : 1 ≤ allScreens H) (cs : List Call) where
       })
 
   within-end : (a d s : ℕ) → f a ≡ handsBack d s → a < 0 + length cs
-  within-end a d s q = by-cases (decLt a (length cs))
-    where
-      by-cases : Dec (a < length cs) → a < 0 + length cs
-      by-cases (yes h) = omega arith
-      by-cases (no h) =
-          let k : nothing ≡ handsBack d s = sym (past H cs (fresh H) a (omega arith)) ∙ q in let z : _≡_ {A = ℕ} 0 1 = cc in absurd (omega arith)
+  within-end a d s q =
+      omega (
+        arith,
+        deed-within H cs (fresh H) a (λ e. true≢false (cc)),
+      )
 
-  choose : (d s : ℕ) → Dec (1 ≤ d) → Dec (d ≤ H .desks) → Dec (s ≡ 0) → ℕ → ℕ
-  choose d s (yes h) (yes h′) (no z) = guard d s h h′ z .pair
-  choose d s (yes h) (yes h′) (yes z) = λ a. 0
-  choose d s (yes h) (no h′) e = λ a. 0
-  choose d s (no h) g e = λ a. 0
+  -- the pairing that the guard built; there is no desk 0 and no session 0
+  choose : (d s : ℕ) → Dec (1 ≤ d) → Dec (s ≡ 0) → ℕ → ℕ
+  choose d s (yes h) (no z) = guard d s h z .pair
+  choose d s (yes h) (yes z) = λ a. 0
+  choose d s (no h) e = λ a. 0
 
   pairOf : ℕ → ℕ → ℕ → ℕ
-  pairOf d s = choose d s (decLe 1 d) (decLe d (H .desks)) (ℕ-discrete s 0)
+  pairOf d s = choose d s (decLe 1 d) (ℕ-discrete s 0)
 
-  works : (d s : ℕ) → 1 ≤ d → d ≤ H .desks → (s ≡ 0 → ⊥) → Works f d s (pairOf d s)
+  works : (d s : ℕ) → 1 ≤ d → (s ≡ 0 → ⊥) → Pairs f d s (pairOf d s)
   unfolding pairOf choose
-  works d s h h′ hs = by-cases (decLe 1 d) (decLe d (H .desks)) (ℕ-discrete s 0)
+  works d s h hs = by-cases (decLe 1 d) (ℕ-discrete s 0)
     where
-      by-cases : (x : Dec (1 ≤ d)) (y : Dec (d ≤ H .desks)) (z : Dec (s ≡ 0)) → Works f d s (choose d s x y z)
-      by-cases (yes x) (yes y) (no z) =
-          let g = guard d s x y z in
-          record { good = λ a q. g .good a (within-end a d s q) q; once = λ a b q q′. g .once a b (within-end a d s q) (within-end b d s q′) q q′ }
-      by-cases (yes x) (yes y) (yes z) = absurd (hs z)
-      by-cases (yes x) (no y) z = absurd (y h′)
-      by-cases (no x) y z = absurd (x h)
+      by-cases : (x : Dec (1 ≤ d)) (z : Dec (s ≡ 0)) → Pairs f d s (choose d s x z)
+      by-cases (yes x) (no z) =
+          let g = guard d s x z in
+          record {
+            good = λ a q. g .good a (within-end a d s q) q;
+            once = λ a b q q′. g .once a b (within-end a d s q) (within-end b d s q′) q q′;
+          }
+      by-cases (yes x) (yes z) = absurd (hs z)
+      by-cases (no x) z = absurd (x h)
 
   partner : ℕ → Deed → ℕ
   partner a (takes d c p v) = 0
@@ -101,9 +102,9 @@ module _ (H : Hall) (some : 1 ≤ allScreens H) (cs : List Call) where
   unfolding partner
   found a d s q = ap (partner a) q
 
-  is-good : (a d s : ℕ) → f a ≡ handsBack d s → Good f d s a (partner a (f a))
+  is-good : (a d s : ℕ) → f a ≡ handsBack d s → MayPair f d s a (partner a (f a))
   is-good a d s q =
-      let r = subst (Range H) q (sane a) in subst (λ (m : ℕ). Good f d s a m) (sym (found a d s q)) (works d s (r .0) (r .1) (r .2) .good a q)
+      let r = subst (Range H) q (in-hall a) in subst (λ (m : ℕ). MayPair f d s a m) (sym (found a d s q)) (works d s (r .0) (r .2) .good a q)
 
   is-once : (a d s b d′ s′ : ℕ) → f a ≡ handsBack d s → f b ≡ handsBack d′ s′ → partner a (f a) ≡ partner b (f b) → a ≡ b
   is-once a d s b d′ s′ q q′ e =
@@ -111,8 +112,8 @@ module _ (H : Hall) (some : 1 ≤ allScreens H) (cs : List Call) where
       let dd : d′ ≡ d = cc in
       let ss : s′ ≡ s = cc in
       let qb : f b ≡ handsBack d s = q′ ∙ (λ i. handsBack (dd i) (ss i)) in
-      let r = subst (Range H) q (sane a) in
-      works d s (r .0) (r .1) (r .2) .once a b q qb (sym (found a d s q) ∙ e ∙ found b d s qb)
+      let r = subst (Range H) q (in-hall a) in
+      works d s (r .0) (r .2) .once a b q qb (sym (found a d s q) ∙ e ∙ found b d s qb)
 
   -- The guarantee of Definition 2.1.
   pub guaranteed : Guarantee (deedAt (run H (fresh H) cs))

@@ -3,7 +3,7 @@ use Prim.Native.Nat.{ℕ, _+_, _-_, _≤_, zero, suc, _*_, _<_}
 use native.Mathlib.Omega.{arith}
 use native.Mathlib.Nat.{mul-le-mul-right, mul-le-mul}
 use mathlib.Core.Path.{_≡_, refl, sym, ap, _∙_}
-use mathlib.Core.Bool.{cond, Bool, true, false, _&&_}
+use mathlib.Core.Bool.{Bool, true, false, _&&_}
 use mathlib.Core.List.{List, [], _∷_, _++_, map, append-assoc}
 use lib.ListN.{length, take, getD, drop, set, length-append, replicate, length-drop, length-set, List·getD-append}
 use lib.Seq.{set-append-left, take-append-le}
@@ -11,11 +11,10 @@ use lib.Dec.{leb}
 use borrow.Author.Tests.{le-leb}
 use Rattle.rules.specs.Hall.{Hall, Limits, State, allScreens, mostAllScreens, mostDesks}
 use Rattle.rules.specs.Steps.{Call, Collect, Drop, Retire, Swap, Take, collect, firstNo, perform, questions, retire}
-use Rattle.rules.specs.Table.{openedTable, openQuestions, openTable, TableDone, decode, decodeDesk, encodeDesk, everyRecord, hallIn, headerWords, inLimits, mostWords, need, pieces}
-use Rattle.rules.specs.Table.{positionWord, putRecord, recordOf, recordSound, recordStart, recordWidth, recordsIn, screenWord, sound, stepTable, widthFor}
-use Rattle.rules.specs.Table.{written}
-use Rattle.rules.specs.laws.Effect.{Formed}
-use Rattle.rules.specs.laws.Links.{desk-fact, drop-facts, position-asked, swap-facts, swap-position-asked, take-facts}
+use Rattle.rules.specs.Table.{TableDone, decode, decodeDesk, encodeDesk, everyRecord, hallIn, headerWords, inLimits, mostWords, need, openQuestions}
+use Rattle.rules.specs.Table.{openTable, openedTable, pieces, positionWord, putRecord, recordOf, recordSound, recordStart, recordWidth, recordsIn}
+use Rattle.rules.specs.Table.{screenWord, sound, stepTable, widthFor, written}
+use Rattle.rules.specs.laws.Effect.{Formed, desk-fact, drop-facts, position-asked, swap-facts, swap-position-asked, take-facts}
 use Rattle.rules.specs.laws.ScreenIndex.{screen-in}
 use Rattle.rules.specs.laws.SoundTables.{valid}
 use Rattle.rules.specs.laws.TableSteps.{accepted-open, accepted-step, asked, known, refused-open, refused-step, unsound-step}

@@ -1,24 +1,23 @@
 -- What the screens show, told from the history alone: a screen that shows a session was taken, and not dropped since.
-use Prim.Native.Nat.{ℕ, _+_, _-_, _≤_, zero, suc, _<_}
+use Prim.Native.Nat.{ℕ, _+_, _≤_, zero, suc, _<_}
 use native.Mathlib.Omega.{arith}
-use native.Mathlib.Decide.{ℕ-discrete}
 use mathlib.Core.Path.{_≡_, refl, sym, ap, _∙_, subst}
-use mathlib.Core.Bool.{cond, Bool, true, false}
+use mathlib.Core.Bool.{cond, Bool, true, false, true≢false}
 use mathlib.Core.List.{List, [], _∷_}
 use lib.ListN.{length, take, getD, set}
 use lib.Dec.{eqb}
 use borrow.Author.Tests.{eqb-true, eqb-false}
-use Rattle.rules.specs.Hall.{Hall, State, allScreens, deskOf, screenIndex}
-use Rattle.rules.specs.History.{Deed, Shows, collects, copies, deed, deedAt, drops, handsBack, lacksRoom, nothing, refusedDeed, retires, swaps}
-use Rattle.rules.specs.History.{takes}
-use Rattle.rules.specs.Steps.{Call, Collect, Drop, Retire, Swap, Take, collect, decide, end, firstNo, perform, questions, run, step}
-use Rattle.rules.specs.laws.Checks.{nowhere}
-use Rattle.rules.specs.laws.Effect.{Formed, formed-step}
-use Rattle.rules.specs.laws.Links.{drop-facts, set-at, take-facts}
+use Rattle.rules.specs.Hall.{Hall, State, screenIndex, withShown}
+use Rattle.rules.specs.History.{Deed, Shows, collects, copies, drops, handsBack, lacksRoom, nothing, retires, swaps, takes}
+use Rattle.rules.specs.Steps.{Call, end, run, step}
+use Rattle.rules.specs.laws.Effect.{Did, Dropped, Formed, Took, deedOf, did-as, formed-step}
 use Rattle.rules.specs.laws.Lists.{matches-other}
+use Rattle.rules.specs.laws.OwnDeeds.{isDrop}
 use Rattle.rules.specs.laws.Runs.{Hidden}
-use Rattle.rules.specs.laws.ScreenIndex.{screen-in}
+use Rattle.rules.specs.laws.ScreenIndex.{screen-stored}
+use Rattle.rules.specs.laws.Splits.{Tells, one-place-more, tells-first, tells-rest}
 
+-- What stands at place x of the screens is the session of a take.
 pub record ShownBy (H : Hall) (f : ℕ → Deed) (n x v : ℕ) : Type 0 where
   pub desk : ℕ
   pub screen : ℕ
@@ -35,42 +34,25 @@ still-shown H f n x v k no-drop = record {
   desk = k .desk;
   screen = k .screen;
   index = k .index;
-  shows =
-      record { takenAt = k .shows .takenAt; position = k .shows .position; earlier = omega (arith, k .shows .earlier); take = k .shows .take; undropped = undropped };
+  shows = record {
+    takenAt = k .shows .takenAt;
+    position = k .shows .position;
+    earlier = omega (arith, k .shows .earlier);
+    take = k .shows .take;
+    undropped = one-place-more (λ m. f m ≡ drops (k .desk) (k .screen) → ⊥) (k .shows .takenAt) n no-drop (k .shows .undropped);
+  };
 }
-  where
-    undropped : (m : ℕ) → k .shows .takenAt < m → m < suc n → f m ≡ drops (k .desk) (k .screen) → ⊥
-    undropped m a b q = by-cases (ℕ-discrete m n)
-      where
-        by-cases : Dec (m ≡ n) → ⊥
-        by-cases (yes t) = no-drop (ap f (sym t) ∙ q)
-        by-cases (no t) = k .shows .undropped m a (omega arith) q
 
 module _ (H : Hall) (f : ℕ → Deed) (n : ℕ) (st : State) (formed : Formed H st) (before : AllShown H f n st) where
-  -- a deed that is no drop, and no screen changes
-  unchanged : ((d c : ℕ) → f n ≡ drops d c → ⊥) → AllShown H f (suc n) st
-  unchanged no-drop x nz = still-shown H f n x (getD (st .shown) x 0) (before x nz) (no-drop (before x nz .desk) (before x nz .screen))
-
-  after-take : (d c p : ℕ) → firstNo (questions H st (Take d c p)) ≡ 0 → f n ≡ takes d c p (getD (st .held) (p - 1) 0)
-      → AllShown H f (suc n) (perform H st (Take d c p) .after)
-  after-take d c p e q x nz = subst (ShownBy H f (suc n) x) (sym value) (by-cases (eqb y x) refl (subst (λ (v : ℕ). v ≡ 0 → ⊥) value nz))
+  after-take : (d c p v : ℕ) (after : State) → Took H st d c p v after → f n ≡ takes d c p v → AllShown H f (suc n) (withShown st (screenIndex H d c) v)
+  after-take d c p v after k q x nz =
+      subst (ShownBy H f (suc n) x) (sym value) (by-cases (eqb (screenIndex H d c) x) refl (subst (λ (w : ℕ). w ≡ 0 → ⊥) value nz))
     where
-      y : ℕ
-      y = screenIndex H d c
+      value : getD (set (st .shown) (screenIndex H d c) v) x 0 ≡ cond (eqb (screenIndex H d c) x) v (getD (st .shown) x 0)
+      value = screen-stored H (st .shown) (formed .screens) d c v x (k .desk) (k .screen)
 
-      w : ℕ
-      w = getD (st .held) (p - 1) 0
-
-      facts : (1 ≤ d) × (d ≤ H .desks) × (1 ≤ c) × (c ≤ H .screens) × (1 ≤ p) × (getD (st .shown) (screenIndex H d c) 0 ≡ 0) × (getD (st .held) (p - 1) 0 ≡ 0 → ⊥)
-      facts = take-facts H st formed d c p e
-
-      value : getD (set (st .shown) (screenIndex H d c) (getD (st .held) (p - 1) 0)) x 0 ≡ cond (eqb (screenIndex H d c) x) (getD (st .held) (p - 1) 0) (getD (st .shown) x 0)
-      value =
-          set-at (st .shown) (screenIndex H d c) x (getD (st .held) (p - 1) 0)
-          (omega (arith, formed .screens, screen-in H d c (facts .0) (facts .1) (facts .2) (facts .3)))
-
-      by-cases : (b : Bool) → eqb (screenIndex H d c) x ≡ b → (cond b (getD (st .held) (p - 1) 0) (getD (st .shown) x 0) ≡ 0 → ⊥)
-          → ShownBy H f (suc n) x (cond b (getD (st .held) (p - 1) 0) (getD (st .shown) x 0))
+      by-cases : (b : Bool) → eqb (screenIndex H d c) x ≡ b → (cond b v (getD (st .shown) x 0) ≡ 0 → ⊥)
+          → ShownBy H f (suc n) x (cond b v (getD (st .shown) x 0))
       by-cases true t nz = record {
         desk = d;
         screen = c;
@@ -78,17 +60,14 @@ module _ (H : Hall) (f : ℕ → Deed) (n : ℕ) (st : State) (formed : Formed H
         shows = record { takenAt = n; position = p; earlier = omega arith; take = q; undropped = λ m a b. absurd (omega arith) };
       }
       by-cases false t nz =
-          still-shown H f n x (getD (st .shown) x 0) (before x nz)
-          (λ u. let k : takes d c p (getD (st .held) (p - 1) 0) ≡ drops (before x nz .desk) (before x nz .screen) = sym q ∙ u in let z : _≡_ {A = ℕ} 0 1 = cc in omega arith)
+          still-shown H f n x (getD (st .shown) x 0) (before x nz) (λ u. true≢false (cc))
 
-  after-drop : (d c : ℕ) → firstNo (questions H st (Drop d c)) ≡ 0 → f n ≡ drops d c → AllShown H f (suc n) (perform H st (Drop d c) .after)
-  after-drop d c e q x nz = subst (ShownBy H f (suc n) x) (sym value) (by-cases (eqb (screenIndex H d c) x) refl (subst (λ (v : ℕ). v ≡ 0 → ⊥) value nz))
+  after-drop : (d c : ℕ) (after : State) → Dropped H st d c after → f n ≡ drops d c → AllShown H f (suc n) (withShown st (screenIndex H d c) 0)
+  after-drop d c after k q x nz =
+      subst (ShownBy H f (suc n) x) (sym value) (by-cases (eqb (screenIndex H d c) x) refl (subst (λ (w : ℕ). w ≡ 0 → ⊥) value nz))
     where
-      facts : (1 ≤ d) × (d ≤ H .desks) × (1 ≤ c) × (c ≤ H .screens)
-      facts = drop-facts H st formed d c e
-
       value : getD (set (st .shown) (screenIndex H d c) 0) x 0 ≡ cond (eqb (screenIndex H d c) x) 0 (getD (st .shown) x 0)
-      value = set-at (st .shown) (screenIndex H d c) x 0 (omega (arith, formed .screens, screen-in H d c (facts .0) (facts .1) (facts .2) (facts .3)))
+      value = screen-stored H (st .shown) (formed .screens) d c 0 x (k .desk) (k .screen)
 
       by-cases : (b : Bool) → eqb (screenIndex H d c) x ≡ b → (cond {A = ℕ} b 0 (getD (st .shown) x 0) ≡ 0 → ⊥)
           → ShownBy H f (suc n) x (cond b 0 (getD (st .shown) x 0))
@@ -102,72 +81,55 @@ module _ (H : Hall) (f : ℕ → Deed) (n : ℕ) (st : State) (formed : Formed H
               let cc′ : c ≡ before x nz .screen = cc in
               eqb-false (screenIndex H d c) x t ((λ i. screenIndex H (dd i) (cc′ i)) ∙ before x nz .index)
 
-  pub all-shown-step : (c : Call) → f n ≡ deed c (step H st c .answer .number) (step H st c .answer .session)
-      → AllShown H f (suc n) (step H st c .after)
-  all-shown-step c q = by-cases (firstNo (questions H st c)) c refl q
+  pub all-shown-step : (c : Call) → f n ≡ deedOf H st c → AllShown H f (suc n) (step H st c .after)
+  all-shown-step c q = at (f n) (step H st c .after) refl (did-as H st formed c (f n) (sym q))
     where
-      refused : (c : Call) (m : ℕ) → f n ≡ refusedDeed c (suc m) → (a b : ℕ) → f n ≡ drops a b → ⊥
-      refused (Take d c p) m q a b u = let k : nothing ≡ drops a b = sym q ∙ u in let z : _≡_ {A = ℕ} 0 1 = cc in omega arith
-      refused (Drop d c) m q a b u = let k : nothing ≡ drops a b = sym q ∙ u in let z : _≡_ {A = ℕ} 0 1 = cc in omega arith
-      refused (Swap d p v) m q a b u = let k : nothing ≡ drops a b = sym q ∙ u in let z : _≡_ {A = ℕ} 0 1 = cc in omega arith
-      refused (Retire d) m q a b u = by-cases (eqb (suc m) 14) (sym q ∙ u)
+      -- a deed that is no drop, and no screen changes
+      unchanged : (D : Deed) (after : State) → f n ≡ D → isDrop D ≡ false → after .shown ≡ st .shown → AllShown H f (suc n) after
+      unchanged D after q no-drop e x nz =
+          subst (λ (vs : List ℕ). ShownBy H f (suc n) x (getD vs x 0)) (sym e) (still (subst (λ (vs : List ℕ). getD vs x 0 ≡ 0 → ⊥) e nz))
         where
-          by-cases : (y : Bool) → cond y (lacksRoom d) nothing ≡ drops a b → ⊥
-          by-cases true k = let z : _≡_ {A = ℕ} 0 1 = cc in omega arith
-          by-cases false k = let z : _≡_ {A = ℕ} 0 1 = cc in omega arith
-      refused (Collect d) m q a b u = let k : nothing ≡ drops a b = sym q ∙ u in let z : _≡_ {A = ℕ} 0 1 = cc in omega arith
+          still : (getD (st .shown) x 0 ≡ 0 → ⊥) → ShownBy H f (suc n) x (getD (st .shown) x 0)
+          still nz =
+              still-shown H f n x (getD (st .shown) x 0) (before x nz) (λ u. true≢false (ap isDrop (sym u ∙ q) ∙ no-drop))
 
-      collected : (d v : ℕ) (y : Bool) → f n ≡ cond y (collects d) (handsBack d v) → (a b : ℕ) → f n ≡ drops a b → ⊥
-      collected d v true q a b u = let k : collects d ≡ drops a b = sym q ∙ u in let z : _≡_ {A = ℕ} 0 1 = cc in omega arith
-      collected d v false q a b u = let k : handsBack d v ≡ drops a b = sym q ∙ u in let z : _≡_ {A = ℕ} 0 1 = cc in omega arith
-
-      by-cases : (m : ℕ) (c : Call) → firstNo (questions H st c) ≡ m
-          → f n ≡ deed c (decide m st (perform H st c) .answer .number) (decide m st (perform H st c) .answer .session)
-          → AllShown H f (suc n) (decide m st (perform H st c) .after)
-      by-cases zero (Take d c p) e q = after-take d c p e q
-      by-cases zero (Drop d c) e q = after-drop d c e q
-      by-cases zero (Swap d p v) e q = unchanged (λ a b u. let k : swaps d p ≡ drops a b = sym q ∙ u in let z : _≡_ {A = ℕ} 0 1 = cc in omega arith)
-      by-cases zero (Retire d) e q =
-          unchanged (λ a b u. let k : retires d (deskOf st d .owed) ≡ drops a b = sym q ∙ u in let z : _≡_ {A = ℕ} 0 1 = cc in omega arith)
-      by-cases zero (Collect d) e q =
-          unchanged
-          (collected d (collect (allScreens H) (st .shown) (deskOf st d) .session) (eqb (collect (allScreens H) (st .shown) (deskOf st d) .session) 0) q)
-      by-cases (suc m) c e q = unchanged (refused c m q)
+      at : (D : Deed) (after : State) → f n ≡ D → Did H st D after → AllShown H f (suc n) after
+      at (takes d c p v) after q k = rw (k .state) (after-take d c p v after k q)
+      at (drops d c) after q k = rw (k .state) (after-drop d c after k q)
+      at (swaps d p) after q k = unchanged (swaps d p) after q refl (ap (λ (s : State). s .shown) (k .state))
+      at (retires d v) after q k = unchanged (retires d v) after q refl (ap (λ (s : State). s .shown) (k .state))
+      at (lacksRoom d) after q k = unchanged (lacksRoom d) after q refl (ap (λ (s : State). s .shown) (k .state))
+      at (collects d) after q k = unchanged (collects d) after q refl (ap (λ (s : State). s .shown) (k .state))
+      at (handsBack d v) after q k = unchanged (handsBack d v) after q refl (ap (λ (s : State). s .shown) (k .state))
+      at nothing after q k = unchanged nothing after q refl (ap (λ (s : State). s .shown) k)
 
 -- a session that stands at no place of a list
 copies-none : (s : ℕ) (xs : List ℕ) → ((x : ℕ) → getD xs x 0 ≡ s → ⊥) → copies s xs ≡ 0
 copies-none s [] h = refl
 copies-none s (y ∷ xs) h = omega (arith, matches-other s y (λ q. h 0 (sym q)), copies-none s xs (λ x. h (suc x)))
 
-module _ (H : Hall) (f : ℕ → Deed) (s : ℕ) (hs : s ≡ 0 → ⊥) where
+module _ (H : Hall) (f : ℕ → Deed) where
   -- where no screen shows s before any of k calls
-  pub hidden-run : (k : ℕ) (cs : List Call) (st : State) (n : ℕ) → ((i : ℕ) → f (n + i) ≡ deedAt (run H st cs) i) → Formed H st → AllShown H f n st
+  pub hidden-run : (s : ℕ) → (s ≡ 0 → ⊥) → (k : ℕ) (cs : List Call) (st : State) (n : ℕ) → Tells f n (run H st cs) → Formed H st → AllShown H f n st
       → ((m d c : ℕ) → n ≤ m → m < n + k → Shows f m d c s → ⊥) → Hidden H s st (take k cs)
-  hidden-run zero cs st n at formed shown hid = tt
-  hidden-run (suc k) [] st n at formed shown hid = tt
-  hidden-run (suc k) (c ∷ cs) st n at formed shown hid = (
+  hidden-run s hs zero cs st n tells formed shown hid = tt
+  hidden-run s hs (suc k) [] st n tells formed shown hid = tt
+  hidden-run s hs (suc k) (c ∷ cs) st n tells formed shown hid = (
     copies-none s (st .shown) nowhere,
-    hidden-run k cs (step H st c .after) (suc n) (λ i. shift (suc n + i) (n + suc i) (omega arith) ∙ at (suc i))
-        (formed-step H st 1 formed (omega arith) c)
-        (all-shown-step H f n st formed shown c (shift n (n + 0) (omega arith) ∙ at 0)) (λ m d c a b. hid m d c (omega arith) (omega arith)),
+    hidden-run s hs k cs (step H st c .after) (suc n) (tells-rest tells) (formed-step H st formed c)
+        (all-shown-step H f n st formed shown c (tells-first tells)) (λ m d c a b. hid m d c (omega arith) (omega arith)),
   )
     where
-      shift : (a b : ℕ) → a ≡ b → f a ≡ f b
-      shift a b e = ap f e
-
       nowhere : (x : ℕ) → getD (st .shown) x 0 ≡ s → ⊥
       nowhere x e =
           let k = shown x (λ z. hs (sym e ∙ z)) in
           hid n (k .desk) (k .screen) (omega arith) (omega arith) (subst (Shows f n (k .desk) (k .screen)) e (k .shows))
 
-  pub all-shown-run : (k : ℕ) (cs : List Call) (st : State) (n : ℕ) → ((i : ℕ) → f (n + i) ≡ deedAt (run H st cs) i) → Formed H st → AllShown H f n st
-      → k ≤ length cs → AllShown H f (n + k) (end H st (take k cs))
-  all-shown-run zero cs st n at formed shown l = subst (λ (m : ℕ). AllShown H f m st) (omega arith) shown
-  all-shown-run (suc k) [] st n at formed shown l = absurd (omega arith)
-  all-shown-run (suc k) (c ∷ cs) st n at formed shown l =
+  pub all-shown-run : (k : ℕ) (cs : List Call) (st : State) (n : ℕ) → Tells f n (run H st cs) → Formed H st → AllShown H f n st → k ≤ length cs
+      → AllShown H f (n + k) (end H st (take k cs))
+  all-shown-run zero cs st n tells formed shown l = subst (λ (m : ℕ). AllShown H f m st) (omega arith) shown
+  all-shown-run (suc k) [] st n tells formed shown l = absurd (omega arith)
+  all-shown-run (suc k) (c ∷ cs) st n tells formed shown l =
       subst (λ (m : ℕ). AllShown H f m (end H (step H st c .after) (take k cs))) (omega arith)
-      (all-shown-run k cs (step H st c .after) (suc n) (λ i. shift (suc n + i) (n + suc i) (omega arith) ∙ at (suc i)) (formed-step H st 1 formed (omega arith) c)
-      (all-shown-step H f n st formed shown c (shift n (n + 0) (omega arith) ∙ at 0)) (omega arith))
-    where
-      shift : (a b : ℕ) → a ≡ b → f a ≡ f b
-      shift a b e = ap f e
+      (all-shown-run k cs (step H st c .after) (suc n) (tells-rest tells) (formed-step H st formed c)
+      (all-shown-step H f n st formed shown c (tells-first tells)) (omega arith))

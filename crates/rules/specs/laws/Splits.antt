@@ -1,74 +1,94 @@
--- A list of calls, cut in two: the histories, the counts and the states of its parts.
-use Prim.Native.Nat.{ℕ, _+_, _≤_, zero, suc}
+-- Lists of calls: cut in two, told from a place on, past their end, and what no call of a list does.
+use Prim.Native.Nat.{ℕ, _+_, _≤_, _<_, zero, suc}
 use native.Mathlib.Omega.{arith}
-use mathlib.Core.Path.{_≡_, refl, ap, _∙_, sym}
+use native.Mathlib.Decide.{ℕ-discrete}
+use mathlib.Core.Path.{_≡_, refl, sym, ap, _∙_, subst}
 use mathlib.Core.Bool.{cond, Bool, true, false}
 use mathlib.Core.List.{List, [], _∷_}
 use lib.ListN.{length, take, drop}
+use lib.Seq.{take-nil}
 use lib.Dec.{eqb}
 use borrow.Author.Tests.{eqb-true, ne-eqb}
 use Rattle.rules.specs.Hall.{Hall, State}
-use Rattle.rules.specs.History.{Deed, collects, deedAt, deedsOf, drops, handBacksOf, handsBack, howMany, isHandBackOf, isRetirementOf}
-use Rattle.rules.specs.History.{lacksRoom, nothing, oneIf, own, retirementsOf, retires, swaps, takes}
+use Rattle.rules.specs.History.{Deed, collects, deedAt, deedsOf, drops, handBacksOf, handsBack, howMany, isHandBackOf, isRetirementOf, lacksRoom, nothing}
+use Rattle.rules.specs.History.{oneIf, own, retirementsOf, retires, swaps, takes}
 use Rattle.rules.specs.Steps.{Call, Event, end, run, step}
-use Rattle.rules.specs.laws.Effect.{Formed, formed-step}
-use Rattle.rules.specs.laws.Links.{Range, range-step}
+use Rattle.rules.specs.laws.Effect.{Formed, IsDesk, Range, formed-step, range-step}
 use Rattle.rules.specs.laws.OwnDeeds.{Own, othersDeed, own-cases, ownDeed}
 
+-- the history of the first calls
 pub run-take : (H : Hall) (i : ℕ) (cs : List Call) (st : State) → take i (run H st cs) ≡ run H st (take i cs)
 run-take H zero cs st = refl
 run-take H (suc i) [] st = refl
 run-take H (suc i) (c ∷ cs) st =
     ap {B = List Event} (λ r. record { call = c; answer = step H st c .answer } ∷ r) (run-take H i cs (step H st c .after))
 
-pub end-split : (H : Hall) (n k : ℕ) (cs : List Call) (st : State) → end H st (take (n + k) cs) ≡ end H (end H st (take n cs)) (take k (drop n cs))
-end-split H zero k cs st = let e : 0 + k ≡ k = omega arith in ap (λ (m : ℕ). end H st (take m cs)) e
-end-split H (suc n) k [] st = nil (suc n + k) k
-  where
-    nil : (m j : ℕ) → end H st (take m []) ≡ end H st (take j [])
-    nil zero zero = refl
-    nil zero (suc j) = refl
-    nil (suc m) zero = refl
-    nil (suc m) (suc j) = refl
-end-split H (suc n) k (c ∷ cs) st =
-    let e : suc n + k ≡ suc (n + k) = omega arith in ap (λ (m : ℕ). end H st (take m (c ∷ cs))) e ∙ end-split H n k cs (step H st c .after)
-
+-- a count in the first n + k calls, cut at n
 pub count-split : (test : Deed → Bool) (d : ℕ) (H : Hall) (n k : ℕ) (cs : List Call) (st : State)
-    → howMany test (deedsOf d (run H st (take (n + k) cs))) ≡ howMany test (deedsOf d (run H st (take n cs))) + howMany test (deedsOf d (run H (end H st (take n cs)) (take k (drop n cs))))
+    → howMany test (deedsOf d (run H st (take (n + k) cs)))
+    ≡ howMany test (deedsOf d (run H st (take n cs))) + howMany test (deedsOf d (run H (end H st (take n cs)) (take k (drop n cs))))
 count-split test d H zero k cs st = let e : 0 + k ≡ k = omega arith in ap (λ (m : ℕ). howMany test (deedsOf d (run H st (take m cs)))) e ∙ omega arith
-count-split test d H (suc n) k [] st = nil (suc n + k) k
-  where
-    nil : (m j : ℕ) → howMany test (deedsOf d (run H st (take m []))) ≡ 0 + howMany test (deedsOf d (run H st (take j [])))
-    nil zero zero = refl
-    nil zero (suc j) = refl
-    nil (suc m) zero = refl
-    nil (suc m) (suc j) = refl
+count-split test d H (suc n) k [] st = simp take-nil
 count-split test d H (suc n) k (c ∷ cs) st =
     let e : suc n + k ≡ suc (n + k) = omega arith in
     ap (λ (m : ℕ). howMany test (deedsOf d (run H st (take m (c ∷ cs))))) e ∙ omega (arith, count-split test d H n k cs (step H st c .after))
 
+-- ---- A function from places to deeds that tells, from place n on, the deeds of a history.
+pub record Tells (f : ℕ → Deed) (n : ℕ) (history : List Event) : Type 0 where
+  pub at : (i : ℕ) → f (n + i) ≡ deedAt history i
+
+pub tells-first : {f : ℕ → Deed} {n : ℕ} {history : List Event} → Tells f n history → f n ≡ deedAt history 0
+tells-first {f} {n} t = let e : n ≡ n + 0 = omega arith in ap f e ∙ t .at 0
+
+pub tells-rest : {f : ℕ → Deed} {n : ℕ} {event : Event} {history : List Event} → Tells f n (event ∷ history) → Tells f (suc n) history
+tells-rest {f} {n} t = record { at = λ i. (let e : suc n + i ≡ n + suc i = omega arith in ap f e ∙ t .at (suc i)) }
+
+pub tells-itself : (history : List Event) → Tells (deedAt history) 0 history
+tells-itself history = record { at = λ i. (let e : 0 + i ≡ i = omega arith in ap (deedAt history) e) }
+
 -- the deeds after the first n
-pub deeds-split : (H : Hall) (n : ℕ) (cs : List Call) (st : State) (i : ℕ)
-    → deedAt (run H st cs) (n + i) ≡ deedAt (run H (end H st (take n cs)) (drop n cs)) i
-deeds-split H zero cs st i = let e : 0 + i ≡ i = omega arith in ap (deedAt (run H st cs)) e
-deeds-split H (suc n) [] st i = refl
-deeds-split H (suc n) (c ∷ cs) st i =
-    let e : suc n + i ≡ suc (n + i) = omega arith in ap (deedAt (run H st (c ∷ cs))) e ∙ deeds-split H n cs (step H st c .after) i
+pub tells-from : (H : Hall) (n : ℕ) (cs : List Call) (st : State) → Tells (deedAt (run H st cs)) n (run H (end H st (take n cs)) (drop n cs))
+tells-from H n cs st = record { at = at n cs st }
+  where
+    at : (n : ℕ) (cs : List Call) (st : State) (i : ℕ) → deedAt (run H st cs) (n + i) ≡ deedAt (run H (end H st (take n cs)) (drop n cs)) i
+    at zero cs st i = tells-itself (run H st cs) .at i
+    at (suc n) [] st i = refl
+    at (suc n) (c ∷ cs) st i =
+        let e : suc n + i ≡ suc (n + i) = omega arith in ap (deedAt (run H st (c ∷ cs))) e ∙ at n cs (step H st c .after) i
+
+-- what holds between places i and n, and at n, holds between i and n + 1
+pub one-place-more : (Q : ℕ → Type 0) (i n : ℕ) → Q n → ((m : ℕ) → i < m → m < n → Q m) → (m : ℕ) → i < m → m < suc n → Q m
+one-place-more Q i n here earlier m a b = by-cases (ℕ-discrete m n)
+  where
+    by-cases : Dec (m ≡ n) → Q m
+    by-cases (yes t) = subst Q (sym t) here
+    by-cases (no t) = earlier m a (omega arith)
 
 -- past the end nothing is done
-pub deeds-past : (H : Hall) (cs : List Call) (st : State) (a : ℕ) → length cs ≤ a → deedAt (run H st cs) a ≡ nothing
-deeds-past H [] st a h = refl
-deeds-past H (c ∷ cs) st zero h = absurd (omega arith)
-deeds-past H (c ∷ cs) st (suc a) h = deeds-past H cs (step H st c .after) a (omega arith)
+pub deed-within : (H : Hall) (cs : List Call) (st : State) (place : ℕ) → (deedAt (run H st cs) place ≡ nothing → ⊥) → place < length cs
+deed-within H [] st place something = absurd (something refl)
+deed-within H (c ∷ cs) st zero something = omega arith
+deed-within H (c ∷ cs) st (suc place) something = omega (arith, deed-within H cs (step H st c .after) place something)
 
 -- every deed of a run is of a desk of the hall
 pub range-run : (H : Hall) (cs : List Call) (st : State) → Formed H st → (m : ℕ) → Range H (deedAt (run H st cs) m)
 range-run H [] st formed m = tt
 range-run H (c ∷ cs) st formed zero = range-step H st formed c
-range-run H (c ∷ cs) st formed (suc m) = range-run H cs (step H st c .after) (formed-step H st 1 formed (omega arith) c) m
+range-run H (c ∷ cs) st formed (suc m) = range-run H cs (step H st c .after) (formed-step H st formed c) m
 
--- and so a desk that the hall does not have does nothing
-module _ (H : Hall) (d : ℕ) (outside : (1 ≤ d) × (d ≤ H .desks) → ⊥) where
+-- so what no such deed is has the count 0
+none-counted : (H : Hall) (d : ℕ) (test : Deed → Bool) → ((D : Deed) → Range H D → test (own d D) ≡ false) → (cs : List Call) (st : State) → Formed H st
+    → howMany test (deedsOf d (run H st cs)) ≡ 0
+none-counted H d test fails [] st formed = refl
+none-counted H d test fails (c ∷ cs) st formed =
+    omega (
+      arith,
+      ap oneIf (fails (deedAt (run H st (c ∷ cs)) 0) (range-step H st formed c)),
+      none-counted H d test fails cs (step H st c .after) (formed-step H st formed c),
+    )
+
+-- A desk that the hall does not have does nothing.
+module _ (H : Hall) (d : ℕ) (outside : IsDesk H d → ⊥) where
   others : (by : ℕ) (D : Deed) → 1 ≤ by → by ≤ H .desks → (b : Bool) → eqb by d ≡ b → cond b D nothing ≡ nothing
   others by D h g true q = let same : by ≡ d = eqb-true by d q in absurd (outside (omega arith, omega arith))
   others by D h g false q = refl
@@ -85,14 +105,7 @@ module _ (H : Hall) (d : ℕ) (outside : (1 ≤ d) × (d ≤ H .desks) → ⊥) 
 
   pub outsider-counts : (test : Deed → Bool) → test nothing ≡ false → (cs : List Call) (st : State) → Formed H st
       → howMany test (deedsOf d (run H st cs)) ≡ 0
-  outsider-counts test none [] st formed = refl
-  outsider-counts test none (c ∷ cs) st formed =
-      omega (
-        arith,
-        ap (λ (D : Deed). oneIf (test D)) (outsider (deedAt (run H st (c ∷ cs)) 0) (range-step H st formed c)),
-        ap oneIf none,
-        outsider-counts test none cs (step H st c .after) (formed-step H st 1 formed (omega arith) c),
-      )
+  outsider-counts test none = none-counted H d test (λ D r. ap test (outsider D r) ∙ none)
 
 -- Session 0 is neither retired nor handed back.
 range-not-zero : (H : Hall) (d : ℕ) (D : Deed) → Range H D → (isRetirementOf 0 (own d D) ≡ false) × (isHandBackOf 0 (own d D) ≡ false)
@@ -114,8 +127,7 @@ range-not-zero H d D r = by-cases (own-cases d D)
 
 pub no-session-zero : (H : Hall) (cs : List Call) (st : State) → Formed H st → (d : ℕ)
     → (retirementsOf d 0 (run H st cs) ≡ 0) × (handBacksOf d 0 (run H st cs) ≡ 0)
-no-session-zero H [] st formed d = (refl, refl)
-no-session-zero H (c ∷ cs) st formed d =
-    let n = range-not-zero H d (deedAt (run H st (c ∷ cs)) 0) (range-step H st formed c) in
-    let ih = no-session-zero H cs (step H st c .after) (formed-step H st 1 formed (omega arith) c) d in
-    (omega (arith, ap oneIf (n .0), ih .0), omega (arith, ap oneIf (n .1), ih .1))
+no-session-zero H cs st formed d = (
+  none-counted H d (isRetirementOf 0) (λ D r. range-not-zero H d D r .0) cs st formed,
+  none-counted H d (isHandBackOf 0) (λ D r. range-not-zero H d D r .1) cs st formed,
+)

@@ -13,9 +13,8 @@ use Rattle.rules.specs.Steps.{Call, Collect, Drop, Retire, Swap, Take, c
 use Rattle.rules.specs.Table.{decode, decodeDesk, encodeDesk, hallIn, headerWords, need, positionWord, putRecord, recordOf, recordStart, recordWidth}
 use Rattle.rules.specs.Table.{screenWord, sound, stepTable, written}
 use Rattle.rules.specs.laws.Bytes.{words-length}
-use Rattle.rules.specs.laws.Effect.{in-range}
+use Rattle.rules.specs.laws.Effect.{desk-fact, drop-facts, holds, in-range, take-facts}
 use Rattle.rules.specs.laws.Front.{bytes-append, front-laid-back}
-use Rattle.rules.specs.laws.Links.{desk-fact, drop-facts, holds, take-facts}
 use Rattle.rules.specs.laws.Parts.{put-is}
 use Rattle.rules.specs.laws.ScreenIndex.{screen-in}
 use Rattle.rules.specs.laws.SoundTables.{valid}
