@@ -22,7 +22,7 @@ module _ (H : Hall) (some : 1 ≤ allScreens H) (cs : List Call) where
   -- ---- Room.
   pub never-lacks-room : (d : ℕ) → Disciplined (deedAt (run H (fresh H) cs)) d → (i : ℕ) → deedAt (run H (fresh H) cs) i ≡ lacksRoom d → ⊥
   never-lacks-room d disciplined i q =
-      let r = subst (Range H) q (range-run H cs (fresh H) (fresh-formed H) i) in
+      let r = subst (Range H) q (range-run H cs (fresh H) i) in
       room-run H d some (r .0) cs (fresh H) false (fresh-formed H) (fresh-room H d some)
       (record { between = disciplined; since = λ z. absurd (true≢false (cc)) }) i q
 
@@ -65,7 +65,7 @@ module _ (H : Hall) (some : 1 ≤ allScreens H) (cs : List Call) (B : ℕ) (enou
   back-in-time d s r h q hc unshown = by-cases (decLt h r)
     where
       range : (1 ≤ d) × (d ≤ H .desks) × (s ≡ 0 → ⊥)
-      range = subst (Range H) q (range-run H cs (fresh H) (fresh-formed H) r)
+      range = subst (Range H) q (range-run H cs (fresh H) r)
 
       inside : suc r ≤ length cs
       inside = deed-within H cs (fresh H) r (λ e. true≢false (cc))
