@@ -134,27 +134,6 @@ bytes-end limits bytes (call ∷ calls) h w =
     let a = bytes-step limits bytes call h (w .0) in
     bytes-end limits (stepBytes limits bytes call .after) calls (a .areBytes) (w .1) ∙ ap (λ (t : List ℕ). endTable limits t calls) (a .words)
 
--- the bytes at the end are bytes, as many, with the same odd last one
-pub end-are-bytes : (limits : Limits) (bytes : List ℕ) (calls : List Call) → IsBytes bytes → Calls16 calls → IsBytes (endBytes limits bytes calls)
-end-are-bytes limits bytes [] h w = h
-end-are-bytes limits bytes (call ∷ calls) h w = end-are-bytes limits (stepBytes limits bytes call .after) calls (bytes-step limits bytes call h (w .0) .areBytes) (w .1)
-
-pub end-length : (limits : Limits) (bytes : List ℕ) (calls : List Call) → IsBytes bytes → Calls16 calls → length (endBytes limits bytes calls) ≡ length bytes
-end-length limits bytes [] h w = refl
-end-length limits bytes (call ∷ calls) h w =
-    let a = bytes-step limits bytes call h (w .0) in end-length limits (stepBytes limits bytes call .after) calls (a .areBytes) (w .1) ∙ a .sameLength
-
-pub end-last-byte : (limits : Limits) (bytes : List ℕ) (calls : List Call) → IsBytes bytes → Calls16 calls
-    → drop (2 * length (wordsOfBytes bytes)) (endBytes limits bytes calls) ≡ drop (2 * length (wordsOfBytes bytes)) bytes
-end-last-byte limits bytes [] h w = refl
-end-last-byte limits bytes (call ∷ calls) h w =
-    let a = bytes-step limits bytes call h (w .0) in
-    let after : List ℕ = stepBytes limits bytes call .after in
-    let n : length (wordsOfBytes after) ≡ length (wordsOfBytes bytes) =
-    ap length (a .words) ∙ step-length limits (wordsOfBytes bytes) call (words-are-16 bytes h) in
-    let e : 2 * length (wordsOfBytes after) ≡ 2 * length (wordsOfBytes bytes) = omega arith in
-    subst (λ (m : ℕ). drop m (endBytes limits after calls) ≡ drop m after) e (end-last-byte limits after calls (a .areBytes) (w .1)) ∙ a .lastByte
-
 -- ---- Demand 1.
 -- a byte stays where its word stays, and where it stands past the words
 pub laid-word : (words bytes : List ℕ) (j : ℕ) → IsBytes bytes → length words ≡ length (wordsOfBytes bytes)
