@@ -12,7 +12,6 @@ use Rattle.rules.specs.History.{lacksRoom, retirements, retirementsOf, r
 use Rattle.rules.specs.Steps.{Call, Collect, Drop, Event, Retire, Swap, Take, inRange, isSession}
 use Rattle.rules.specs.Table.{hallIn, listIn, listPlace, need, openTable, positionWord, recordOf, recordStart, recordWidth, screenWord, sound, stepTable}
 use Rattle.rules.specs.Table.{usedIn, waitingPlace}
-use Rattle.rules.specs.laws.Links.{link}
 
 -- ---- Demand 1. "an accepted call writes only the words its step names"
 
@@ -123,5 +122,5 @@ pub record Demand3 (hall : Hall) (history : List Event) (tableAfter : ℕ → Li
 abbrev pub readings : ℕ → ℕ
 readings S = (S + 1) / 2
 
-abbrev pub exactBound : ℕ → ℕ
-exactBound S = 2 * S + 2 * readings S - 2
+abbrev pub sharperBound : ℕ → ℕ
+sharperBound S = 2 * S + 2 * readings S - 2

@@ -10,7 +10,7 @@ use Rattle.rules.specs.Steps.{Answer, Call, Collect, Drop, Event, Retire
 use Rattle.rules.specs.Table.{decodeDesk, encodeDesk, openTable, recordSound, runTable, sound, stepTable}
 use Rattle.rules.specs.History.{Deed, Disciplined, DroppedBefore, Linked, deedAt, handBacks, handBacksOf, handsBack, isRetirementOf, retirements, retires}
 use Rattle.rules.specs.History.{swaps, takes}
-use Rattle.rules.specs.Demands.{BackWithin, Guarantee, exactBound}
+use Rattle.rules.specs.Demands.{BackWithin, Guarantee, sharperBound}
 use Rattle.rules.specs.Theorems.{back-sooner, demand-2, demand-3}
 use Rattle.rules.specs.Cases.{_⇒_, ok, refused}
 use Rattle.rules.specs.laws.Checks.{disciplined, never-shown, nowhere, one-of-two, only-at, placesWhere}
@@ -55,7 +55,7 @@ slowest =
     shown 1 11 ++ (shown 2 12 ++ (shown 3 13 ++ (Collect 1 ∷ retiring 21 ++ (retiring 22 ++ (retiring 5
     ++ (Collect 1 ∷ Drop 1 1 ∷ Drop 2 1 ∷ Drop 3 1 ∷ Collect 1 ∷ Collect 1 ∷ Collect 1 ∷ Collect 1 ∷ Collect 1 ∷ Collect 1 ∷ Collect 1 ∷ []))))))
 
-pub exact-for-three : exactBound 3 ≡ 8
+pub exact-for-three : sharperBound 3 ≡ 8
 exact-for-three = refl
 
 pub seven-are-too-few : BackWithin 7 (historyOf (hallOf 3 1 1) 70 slowest) → ⊥

@@ -10,7 +10,7 @@ use Rattle.rules.specs.Steps.{Call}
 use Rattle.rules.specs.Table.{hallIn, need, endTable, openTable, runTable, sound, stepTable}
 use Rattle.rules.specs.Bytes.{Agrees, Call16, Calls16, IsBytes, Words16, endBytes, openBytes, runBytes, stepBytes, wordsOfBytes}
 use Rattle.rules.specs.History.{numberAt}
-use Rattle.rules.specs.Demands.{BackWithin, BytesDemand1, Demand1, Demand2, Demand3, OpeningDemand1, exactBound}
+use Rattle.rules.specs.Demands.{BackWithin, BytesDemand1, Demand1, Demand2, Demand3, OpeningDemand1, sharperBound}
 use Rattle.rules.specs.laws.Demand1.{demand1, never-five, opening-demand1}
 use Rattle.rules.specs.laws.Tables.{hall-opens, sound-table}
 use Rattle.rules.specs.laws.Prefix.{open-append, step-append}
@@ -69,10 +69,10 @@ module _ (limits : Limits) (hall : Hall) (table : List ℕ) (accepted : openTabl
       (demand3-opened limits hall (hall-opens limits hall table (asks .0) .0) table calls)
 
   -- The hand-back comes sooner than demand 3 asks: within 2S + 2 ceil(S / 2) - 2 collects (Examples: for S = 3 one fewer is too few).
-  pub back-sooner : (calls : List Call) → BackWithin (exactBound (allScreens hall)) (runTable limits (openTable limits hall table .after) calls)
+  pub back-sooner : (calls : List Call) → BackWithin (sharperBound (allScreens hall)) (runTable limits (openTable limits hall table .after) calls)
   back-sooner calls =
       let asks = opening-asks limits hall table accepted in
-      subst (λ (start : List ℕ). BackWithin (exactBound (allScreens hall)) (runTable limits start calls)) (sym (asks .1))
+      subst (λ (start : List ℕ). BackWithin (sharperBound (allScreens hall)) (runTable limits start calls)) (sym (asks .1))
       (back-opened limits hall (hall-opens limits hall table (asks .0) .0) table calls)
 
 -- ---- On bytes, as the host calls.
@@ -116,7 +116,7 @@ module _ (limits : Limits) (hall : Hall) (bytes : List ℕ) (are : IsBytes bytes
       (never-unsound limits hall (wordsOfBytes bytes) (words-accepted limits hall bytes are accepted calls wide) calls)
 
   -- The sharper bound on bytes.
-  pub back-sooner-on-bytes : BackWithin (exactBound (allScreens hall)) (runBytes limits (openBytes limits hall bytes .after) calls)
+  pub back-sooner-on-bytes : BackWithin (sharperBound (allScreens hall)) (runBytes limits (openBytes limits hall bytes .after) calls)
   back-sooner-on-bytes =
-      of-bytes limits hall bytes are accepted calls wide (λ history tables. BackWithin (exactBound (allScreens hall)) history)
+      of-bytes limits hall bytes are accepted calls wide (λ history tables. BackWithin (sharperBound (allScreens hall)) history)
       (back-sooner limits hall (wordsOfBytes bytes) (words-accepted limits hall bytes are accepted calls wide) calls)

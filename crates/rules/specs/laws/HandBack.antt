@@ -5,7 +5,7 @@ use mathlib.Core.Path.{_≡_, refl, sym, ap, _∙_}
 use mathlib.Core.Bool.{true}
 use mathlib.Core.List.{List, [], _∷_, _++_, map}
 use lib.ListN.{length, drop, length-append, length-map}
-use Rattle.rules.specs.Demands.{exactBound, readings}
+use Rattle.rules.specs.Demands.{sharperBound, readings}
 use Rattle.rules.specs.Hall.{Desk, TestedPlace, unmarked, usedPlaces}
 use Rattle.rules.specs.History.{copies}
 use Rattle.rules.specs.Steps.{begin, beginAt, collect, handBack, markEach, markedOf, nextScreens, owe, retire, scan, settle, settleIf, unmarkedOf}
@@ -28,7 +28,7 @@ pub data Due (S s B m : ℕ) (D : Desk) : Type 0 where
   isReady : copies s (drop B (D .ready)) + testedCopies s (D .tested) + copies s (D .waiting) ≤ m → Due S s B m D
 
 -- At the retire, with enough collects ahead.
-pub due-start : (S s B m : ℕ) (D : Desk) → exactBound S ≤ B → ScanFits S (D .scanned) (D .tested) → Due S s B m D
+pub due-start : (S s B m : ℕ) (D : Desk) → sharperBound S ≤ B → ScanFits S (D .scanned) (D .tested) → Due S s B m D
 due-start S s B m D hB fits = by-cases (D .tested) refl fits
   where
     by-cases : (t : List TestedPlace) → D .tested ≡ t → ScanFits S (D .scanned) t → Due S s B m D

@@ -7,7 +7,7 @@ use mathlib.Core.Bool.{cond, Bool, true, false}
 use mathlib.Core.List.{List, [], _++_}
 use lib.ListN.{length, take, drop, replicate}
 use lib.Seq.{take-at}
-use Rattle.rules.specs.Demands.{BackWithin, Demand2, Demand3, countsOfDesk, exactBound, listOfDesk}
+use Rattle.rules.specs.Demands.{BackWithin, Demand2, Demand3, countsOfDesk, sharperBound, listOfDesk}
 use Rattle.rules.specs.Hall.{Desk, Hall, Limits, allScreens, deskOf, fresh, usedPlaces}
 use Rattle.rules.specs.History.{copies, handBacks, handBacksOf, isHandBack, isHandBackOf, isRetirement, isRetirementOf, retirements, retirementsOf}
 use Rattle.rules.specs.Steps.{Call, Event, end, firstNo, inRange, run}
@@ -126,5 +126,5 @@ module _ (limits : Limits) (H : Hall) (inside : inLimits limits H ≡ true) (t :
       subst (λ (history : List Event). Demand3 H history (λ i. endTable limits (openedTable H t) (take i cs))) (sym run-is)
       (record { room = never-lacks-room H some cs; list = list-after; counts = counts-after; back = back-in-time H some cs (3 * allScreens H) (three-is-enough (allScreens H) some) })
 
-  pub back-opened : BackWithin (exactBound (allScreens H)) (runTable limits (openedTable H t) cs)
-  back-opened = subst (BackWithin (exactBound (allScreens H))) (sym run-is) (back-in-time H some cs (exactBound (allScreens H)) (omega arith))
+  pub back-opened : BackWithin (sharperBound (allScreens H)) (runTable limits (openedTable H t) cs)
+  back-opened = subst (BackWithin (sharperBound (allScreens H))) (sym run-is) (back-in-time H some cs (sharperBound (allScreens H)) (omega arith))
