@@ -7,15 +7,15 @@ use mathlib.Core.List.{List, _++_}
 use lib.ListN.{length, take}
 use Rattle.rules.specs.Hall.{Hall, Limits, allScreens}
 use Rattle.rules.specs.Steps.{Call}
-use Rattle.rules.specs.Table.{hallIn, need, endTable, openTable, runTable, sound, stepTable}
+use Rattle.rules.specs.Table.{endTable, hallIn, need, openTable, runTable, sound, stepTable}
 use Rattle.rules.specs.Bytes.{Agrees, Call16, Calls16, IsBytes, Words16, endBytes, openBytes, runBytes, stepBytes, wordsOfBytes}
 use Rattle.rules.specs.History.{numberAt}
-use Rattle.rules.specs.Demands.{BackWithin, BytesDemand1, Demand1, Demand2, Demand3, OpeningDemand1, sharperBound}
+use Rattle.rules.specs.Demands.{BackWithin, BytesDemand1, BytesOpeningDemand1, Demand1, Demand2, Demand3, OpeningDemand1, sharperBound}
 use Rattle.rules.specs.laws.Demand1.{demand1, never-five, opening-demand1}
 use Rattle.rules.specs.laws.Tables.{hall-opens, sound-table}
 use Rattle.rules.specs.laws.Prefix.{open-append, step-append}
 use Rattle.rules.specs.laws.TableHistories.{back-opened, demand2-opened, demand3-opened, opening-asks}
-use Rattle.rules.specs.laws.Bytes.{bytes-demand1, bytes-open, bytes-step, words-are-16}
+use Rattle.rules.specs.laws.Bytes.{bytes-demand1, bytes-open, bytes-opening-demand1, bytes-step, words-are-16}
 use Rattle.rules.specs.laws.ByteHistories.{of-bytes, same-history, words-accepted}
 
 -- ---- On words.
@@ -88,7 +88,11 @@ step-on-bytes limits = bytes-step limits
 
 -- Demand 1 on bytes, an odd last byte included.
 pub demand-1-on-bytes : (limits : Limits) (bytes : List ℕ) (call : Call) → IsBytes bytes → Call16 call → BytesDemand1 limits bytes call
-demand-1-on-bytes limits bytes call are wide = bytes-demand1 limits bytes call are wide (demand1 limits (wordsOfBytes bytes) (words-are-16 bytes are) call .accepted)
+demand-1-on-bytes limits bytes call are wide = bytes-demand1 limits bytes call are wide (demand1 limits (wordsOfBytes bytes) (words-are-16 bytes are) call)
+
+-- Demand 1 of an opening on bytes.
+pub demand-1-opening-on-bytes : (limits : Limits) (hall : Hall) (bytes : List ℕ) → IsBytes bytes → BytesOpeningDemand1 limits hall bytes
+demand-1-opening-on-bytes limits hall bytes are = bytes-opening-demand1 limits hall bytes are (opening-demand1 limits hall (wordsOfBytes bytes))
 
 -- Of every hall, all bytes whose opening is accepted, and every list of calls with 16-bit numbers:
 module _ (limits : Limits) (hall : Hall) (bytes : List ℕ) (are : IsBytes bytes) (accepted : openBytes limits hall bytes .reply ≡ 0) (calls : List Call)
