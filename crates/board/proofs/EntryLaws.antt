@@ -1,14 +1,16 @@
 -- What `enter` answers, taken apart: a refusal, or a sound table with the desk's place in it.
-use Prim.Native.Nat.{ℕ, _≤_}
+use Prim.Native.Nat.{ℕ, _+_, _≤_}
 use native.Mathlib.Omega.{arith}
-use mathlib.Core.Bool.{Bool, true, false, cond}
+use mathlib.Core.Bool.{Bool, true, false}
 use mathlib.Core.List.{List}
-use mathlib.Core.Path.{_≡_, refl, sym, ap, _∙_}
-use Rattle.rules.specs.Hall.{allScreens, hallLimits}
-use Rattle.rules.specs.Steps.{Call, inRange}
-use Rattle.rules.specs.Table.{hallIn, recordStart, sound, stepTable}
+use mathlib.Core.Path.{_≡_, refl, sym, ap}
+use lib.ListN.{length}
+use Rattle.rules.specs.Hall.{allScreens, hallLimits, mostAllScreens}
+use Rattle.rules.specs.Steps.{Call, Collect, Drop, Retire, Swap, Take, inRange}
+use Rattle.rules.specs.Table.{hallIn, recordStart, sound, stepTable, widthFor}
 use Rattle.rules.specs.laws.Effect.{in-range}
-use Rattle.rules.specs.laws.TableSteps.{Known, asked, known, refused-step, unsound-step}
+use Rattle.rules.specs.laws.TableSteps.{Known, asked, known, record-within, refused-step, unsound-step}
+use Rattle.rules.specs.laws.Window.{deskIn}
 use Rattle.reply.specs.declared.Reply.{Reply}
 use Rattle.reply.specs.declared.Reply.the-variants.{NoDesk, Unsound}
 use Rattle.reply.specs.Answer.{told}
@@ -26,35 +28,56 @@ pub record Entered (t : List ℕ) (desk : ℕ) (p : Place) : Type 0 where
   pub screens-is : p .screens ≡ hallIn t .screens
   pub all-is : p .all ≡ allScreens (hallIn t)
   pub start-is : p .start ≡ recordStart (hallIn t) desk
+  pub most : p .all ≤ mostAllScreens
+  pub end : p .start + widthFor (p .all) ≤ length t
 
-pub entered : (t : List ℕ) (desk : ℕ) (p : Place) → At p ≡ entryOf t desk → Entered t desk p
+pub entered : {t : List ℕ} {desk : ℕ} {p : Place} → At p ≡ entryOf t desk → Entered t desk p
 unfolding entryOf
-entered t desk p q = go (sound hallLimits t) (inRange desk (hallIn t .desks)) refl refl q
+entered {t} {desk} {p} q = go (sound hallLimits t) (inRange desk (hallIn t .desks)) refl refl
   where
     here : sound hallLimits t ≡ true → inRange desk (hallIn t .desks) ≡ true → p ≡ placeOf t desk → Entered t desk p
     here e g is =
+        let f = known hallLimits t e in
+        let r = in-range desk (hallIn t .desks) g in
+        let all = ap (λ (x : Place). x .all) is in
+        let start = ap (λ (x : Place). x .start) is in
         record {
           yes-sound = e;
           yes-desk = g;
-          facts = known hallLimits t e;
-          range = in-range desk (hallIn t .desks) g;
+          facts = f;
+          range = r;
           positions-is = ap (λ (x : Place). x .positions) is;
           screens-is = ap (λ (x : Place). x .screens) is;
-          all-is = ap (λ (x : Place). x .all) is;
-          start-is = ap (λ (x : Place). x .start) is;
+          all-is = all;
+          start-is = start;
+          most = omega (arith, all, f .most);
+          end = omega (arith, all, start, f .long, record-within (hallIn t) desk (r .0) (r .1));
         }
 
-    go : (a b : Bool) → sound hallLimits t ≡ a → inRange desk (hallIn t .desks) ≡ b → At p ≡ cond a (cond b (At (placeOf t desk)) (No NoDesk)) (No Unsound) → Entered t desk p
-    go true true e g q = here e g (cc)
-    go true false e g q = let z : _≡_ {A = ℕ} 0 1 = cc in absurd (omega arith)
-    go false b e g q = let z : _≡_ {A = ℕ} 0 1 = cc in absurd (omega arith)
+    go : (a b : Bool) → sound hallLimits t ≡ a → inRange desk (hallIn t .desks) ≡ b → Entered t desk p
+    go true true e g = let z : At p ≡ At (placeOf t desk) = rw (e, g) at q in here e g (cc)
+    go true false e g = let z : At p ≡ No NoDesk = rw (e, g) at q in let never : _≡_ {A = ℕ} 0 1 = cc in absurd (omega arith)
+    go false b e g = let z : At p ≡ No Unsound = rw e at q in let never : _≡_ {A = ℕ} 0 1 = cc in absurd (omega arith)
 
--- ---- refused: of any call that asks for its desk first
-pub refused : (t : List ℕ) (desk : ℕ) (x : Reply) (c : Call) (m : ℕ) → asked t c ≡ cond {A = ℕ} (inRange desk (hallIn t .desks)) m 6 → No x ≡ entryOf t desk → told x t ≡ stepTable hallLimits t c
+-- ---- refused: every call asks for its desk first
+no-desk : (t : List ℕ) (c : Call) → inRange (deskIn c) (hallIn t .desks) ≡ false → asked t c ≡ 6
+no-desk t (Take d i q) out = rw out
+no-desk t (Drop d i) out = rw out
+no-desk t (Swap d q v) out = rw out
+no-desk t (Retire d) out = rw out
+no-desk t (Collect d) out = rw out
+
+pub refused : {t : List ℕ} {x : Reply} (c : Call) → No x ≡ entryOf t (deskIn c) → told x t ≡ stepTable hallLimits t c
 unfolding entryOf
-refused t desk x c m a q = go (sound hallLimits t) (inRange desk (hallIn t .desks)) refl refl q
+refused {t} {x} c q = go (sound hallLimits t) (inRange (deskIn c) (hallIn t .desks)) refl refl
   where
-    go : (b d : Bool) → sound hallLimits t ≡ b → inRange desk (hallIn t .desks) ≡ d → No x ≡ cond b (cond d (At (placeOf t desk)) (No NoDesk)) (No Unsound) → told x t ≡ stepTable hallLimits t c
-    go true true e g q = let z : _≡_ {A = ℕ} 0 1 = cc in absurd (omega arith)
-    go true false e g q = let y : x ≡ NoDesk = cc in ap (λ (r : Reply). told r t) y ∙ sym (refused-step hallLimits t c 5 e (a ∙ ap (λ (d : Bool). cond {A = ℕ} d m 6) g))
-    go false b e g q = let y : x ≡ Unsound = cc in ap (λ (r : Reply). told r t) y ∙ sym (unsound-step hallLimits t c e)
+    go : (a b : Bool) → sound hallLimits t ≡ a → inRange (deskIn c) (hallIn t .desks) ≡ b → told x t ≡ stepTable hallLimits t c
+    go true true e g = let z : No x ≡ At (placeOf t (deskIn c)) = rw (e, g) at q in let never : _≡_ {A = ℕ} 0 1 = cc in absurd (omega arith)
+    go true false e g =
+        let z : No x ≡ No NoDesk = rw (e, g) at q in
+        let y : x ≡ NoDesk = cc in
+        rw y (sym (refused-step hallLimits t c 5 e (no-desk t c g)))
+    go false b e g =
+        let z : No x ≡ No Unsound = rw e at q in
+        let y : x ≡ Unsound = cc in
+        rw y (sym (unsound-step hallLimits t c e))

@@ -1,109 +1,138 @@
 -- The steps, return by return: what the code answers and leaves is what the rules say.
-use Prim.Native.Nat.{ℕ, zero, suc, _+_, _-_, _^_, _≤_, _<_}
+use Prim.Native.Nat.{ℕ, zero, suc, _+_, _-_, _≤_, _<_}
 use native.Mathlib.Nat.{add-assoc}
 use native.Mathlib.Omega.{arith}
-use mathlib.Core.Bool.{Bool, true, false, not, cond}
-use mathlib.Core.List.{List, [], _∷_, _++_}
+use mathlib.Core.Bool.{false}
+use mathlib.Core.List.{List, [], _∷_}
 use mathlib.Core.Path.{_≡_, refl, sym, ap, ap₂, _∙_}
-use lib.Dec.{eqb}
+use lib.Dec.{eqb·suc-zero}
 use lib.ListN.{length, getD, take, drop, set, length-drop}
 use lib.Seq.{getD-take, getD-drop, length-take-le}
-use borrow.Author.Tests.{eq-eqb, ne-eqb}
-use Rattle.rules.specs.Hall.{Desk, allScreens, deskOf, hallLimits, mostAllScreens, screenIndex}
-use Rattle.rules.specs.Steps.{Collect, Collected, Drop, Retire, Swap, Take, collect, collectSeeing, firstNo, inRange, retire, retireQuestions}
-use Rattle.rules.specs.Table.{decode, decodeDesk, encodeDesk, hallIn, headerWords, positionWord, recordOf, screenWord, sound, stepTable, widthFor}
-use Rattle.rules.specs.laws.Decoding.{small-drop, small-take}
-use Rattle.rules.specs.laws.Effect.{in-range}
+use borrow.Author.Tests.{ne-eqb}
+use borrow.Rule.Slice.PartMut.{put-same}
+use Rattle.rules.specs.Hall.{Desk, Hall, allScreens, deskOf, hallLimits}
+use Rattle.rules.specs.Steps.{Call, Collect, Collected, Drop, Retire, Swap, Take, collect, collectSeeing, firstNo, inRange, nextScreens, perform, retire}
+use Rattle.rules.specs.Steps.{retireQuestions}
+use Rattle.rules.specs.Table.{decode, decodeDesk, encodeDesk, hallIn, headerWords, positionWord, putRecord, recordOf, scannedPlace, stepTable, widthFor, written}
 use Rattle.rules.specs.laws.Tables.{some-screens}
-use Rattle.rules.specs.laws.TableSteps.{accepted-step, asked, asked-no, asked-yes, collect-seeing, desk-word, held-word, owed-word, refused-step, shown-at}
-use Rattle.rules.specs.laws.TableSteps.{shown-word}
+use Rattle.rules.specs.laws.TableSteps.{accepted-step, asked, collect-seeing, owed-word, refused-step, shown-at}
 use Rattle.reply.specs.declared.Reply.{Reply}
 use Rattle.reply.specs.declared.Reply.the-variants.{Accepted, DeskOwes, NoPosition, NoScreen, PositionEmpty, ScreenEmpty, ScreenInUse}
 use Rattle.reply.specs.Answer.{answerOf, told}
 use Rattle.marks.proofs.Scan.{ended, rest}
-use Rattle.desk.specs.Record.{Encoded, Retired}
-use Rattle.desk.proofs.DeskTie.{scanned-below, sound-encoded}
+use Rattle.desk.specs.Record.{Retired}
+use Rattle.desk.proofs.DeskTie.{scanned-below}
 use Rattle.board.specs.declared.Place.{Place}
 use Rattle.board.proofs.EntryLaws.{Entered}
-use Rattle.board.proofs.SoundLaws.{Lent, lent, put-on, put-same}
+use Rattle.board.proofs.PlaceLaws.{AtScreen, AtPosition, Lent, lentRecord, screenAt, withRecord}
 
--- ---- drop
-module _ (t : List ℕ) (d i : ℕ) (p : Place) (e : Entered t d p) where
-  pub drop-no-screen : inRange i (hallIn t .screens) ≡ false → told NoScreen t ≡ stepTable hallLimits t (Drop d i)
-  drop-no-screen w = sym (refused-step hallLimits t (Drop d i) 6 (e .yes-sound) (asked-yes (inRange d (hallIn t .desks)) _ 6 7 (e .yes-desk) (asked-no (inRange i (hallIn t .screens)) _ 7 w)))
+module _ {t : List ℕ} {d : ℕ} {p : Place} (e : Entered t d p) where
+  -- a step of the rules, by the number that its questions give
+  refuse : (n : ℕ) (c : Call) → asked t c ≡ suc n → record { answer = record { number = suc n; session = 0 }; after = t } ≡ stepTable hallLimits t c
+  refuse n c q = sym (refused-step hallLimits t c n (e .yes-sound) q)
 
-  module _ (w : inRange i (hallIn t .screens) ≡ true) (a : ℕ) (at : a ≡ screenWord (hallIn t) d i) where
-    shows : getD (decode (hallIn t) t .shown) (screenIndex (hallIn t) d i) 0 ≡ getD t a 0
-    shows = let r = in-range i (hallIn t .screens) w in shown-word t d i (e .range .0) (e .range .1) (r .0) (r .1) ∙ ap (λ (k : ℕ). getD t k 0) (sym at)
+  accept : (c : Call) → asked t c ≡ 0
+      → record { answer = record { number = 0; session = perform (hallIn t) (decode (hallIn t) t) c .session }; after = written t c } ≡ stepTable hallLimits t c
+  accept c q = sym (accepted-step hallLimits t c (e .yes-sound) q)
 
-    pub drop-screen-empty : getD t a 0 ≡ 0 → told ScreenEmpty t ≡ stepTable hallLimits t (Drop d i)
-    drop-screen-empty z =
-        sym (refused-step hallLimits t (Drop d i) 10 (e .yes-sound)
-        (asked-yes (inRange d (hallIn t .desks)) _ 6 11 (e .yes-desk)
-        (asked-yes (inRange i (hallIn t .screens)) _ 7 11 w
-        (asked-no (not (eqb (getD (decode (hallIn t) t .shown) (screenIndex (hallIn t) d i) 0) 0)) 0 11 (ap not (eq-eqb _ 0 (shows ∙ z)))))))
+  -- ---- drop
+  pub drop-no-screen : (i : ℕ) → inRange i (p .screens) ≡ false → told NoScreen t ≡ stepTable hallLimits t (Drop d i)
+  drop-no-screen i out = refuse 6 (Drop d i) (rw (e .yes-desk, ← e .screens-is, out))
 
-    pub drop-accepted : (getD t a 0 ≡ 0 → ⊥) → told (Accepted (getD t a 0)) (set t a 0) ≡ stepTable hallLimits t (Drop d i)
-    drop-accepted n =
-        (λ j. record { answer = record { number = 0; session = sym shows j }; after = set t (at j) 0 })
-        ∙ sym (accepted-step hallLimits t (Drop d i) (e .yes-sound)
-        (asked-yes (inRange d (hallIn t .desks)) _ 6 0 (e .yes-desk)
-        (asked-yes (inRange i (hallIn t .screens)) _ 7 0 w
-        (asked-yes (not (eqb (getD (decode (hallIn t) t .shown) (screenIndex (hallIn t) d i) 0) 0)) 0 11 0 (ap not (ne-eqb _ 0 (λ z. n (sym shows ∙ z)))) refl))))
+  module _ {i : ℕ} (s : AtScreen t d i p) where
+    pub drop-screen-empty : getD t (screenAt p d i) 0 ≡ 0 → told ScreenEmpty t ≡ stepTable hallLimits t (Drop d i)
+    drop-screen-empty none = refuse 10 (Drop d i) (rw (e .yes-desk, s .yes-screen, s .shows, none))
 
--- ---- the record of the desk, as the code lends it
-pub record Ready (t : List ℕ) (d s a : ℕ) : Type 0 where
-  pub lent-is : Lent t d s a
-  pub end : a + widthFor s ≤ length t
-  pub most : s ≤ mostAllScreens
-  pub all-is : s ≡ allScreens (hallIn t)
-  pub encoded : Encoded s (take (a + widthFor s - a) (drop a t))
-  pub desk-is : decodeDesk (take (a + widthFor s - a) (drop a t)) ≡ deskOf (decode (hallIn t) t) d
+    pub drop-accepted : (getD t (screenAt p d i) 0 ≡ 0 → ⊥)
+        → told (Accepted (getD t (screenAt p d i) 0)) (set t (screenAt p d i) 0) ≡ stepTable hallLimits t (Drop d i)
+    drop-accepted some =
+        (λ j. record { answer = record { number = 0; session = sym (s .shows) j }; after = set t (s .is j) 0 })
+        ∙ accept (Drop d i) (rw (e .yes-desk, s .yes-screen, s .shows, ne-eqb (getD t (screenAt p d i) 0) 0 some))
 
-pub ready : (t : List ℕ) (d : ℕ) (p : Place) → Entered t d p → ((i : ℕ) → getD t i 0 < 2 ^ 16) → Ready t d (p .all) (p .start)
-ready t d p e sm =
-    let s = p .all in
-    let a = p .start in
-    let g = lent t (e .facts) d s a (e .all-is) (e .start-is) (e .range .0) (e .range .1) in
-    let m : s ≤ mostAllScreens = omega (arith, e .all-is, e .facts .most) in
-    record {
-      lent-is = g;
-      end = g .end;
-      most = m;
-      all-is = e .all-is;
-      encoded = sound-encoded s (take (a + widthFor s - a) (drop a t)) m (g .long) (small-take (a + widthFor s - a) (drop a t) (small-drop a t sm)) (g .sound);
-      desk-is = ap decodeDesk (g .part) ∙ sym (desk-word t d (e .range .0) (e .range .1));
-    }
+  -- ---- take
+  pub take-no-screen : (i q : ℕ) → inRange i (p .screens) ≡ false → told NoScreen t ≡ stepTable hallLimits t (Take d i q)
+  take-no-screen i q out = refuse 6 (Take d i q) (rw (e .yes-desk, ← e .screens-is, out))
 
--- ---- retire
-pub retire-told : (t : List ℕ) (d : ℕ) (p : Place) → Entered t d p → (r : Ready t d (p .all) (p .start)) (x : Reply) (ys : List ℕ)
-    → Retired (p .all) (take (p .start + widthFor (p .all) - p .start) (drop (p .start) t)) (answerOf x) ys
-    → told x (take (p .start) t ++ (ys ++ drop (p .start + widthFor (p .all) - p .start) (drop (p .start) t))) ≡ stepTable hallLimits t (Retire d)
-retire-told t d p e r x ys q = go (answerOf x .number) refl
-  where
-    all-asked : asked t (Retire d) ≡ answerOf x .number
-    all-asked = asked-yes (inRange d (hallIn t .desks)) _ 6 _ (e .yes-desk) (sym (q .number ∙ ap₂ (λ (n : ℕ) (D : Desk). firstNo (retireQuestions n D)) (r .all-is) (r .desk-is)))
+  module _ {i : ℕ} (s : AtScreen t d i p) where
+    pub take-no-position : (q : ℕ) → inRange q (p .positions) ≡ false → told NoPosition t ≡ stepTable hallLimits t (Take d i q)
+    take-no-position q out = refuse 7 (Take d i q) (rw (e .yes-desk, s .yes-screen, ← e .positions-is, out))
 
-    go : (n : ℕ) → answerOf x .number ≡ n → told x (take (p .start) t ++ (ys ++ drop (p .start + widthFor (p .all) - p .start) (drop (p .start) t))) ≡ stepTable hallLimits t (Retire d)
-    go zero z =
-        let yes : eqb (answerOf x .number) 0 ≡ true = eq-eqb (answerOf x .number) 0 z in
-        let v : answerOf x .session ≡ deskOf (decode (hallIn t) t) d .owed
-        = q .session ∙ ap (λ (b : Bool). cond b (decodeDesk (take (p .start + widthFor (p .all) - p .start) (drop (p .start) t)) .owed) 0) yes ∙ ap (λ (D : Desk). D .owed) (r .desk-is) in
-        let w : ys ≡ encodeDesk (allScreens (hallIn t)) (retire (decodeDesk (recordOf (hallIn t) t d)))
-        = q .after ∙ ap (λ (b : Bool). cond b (encodeDesk (p .all) (retire (decodeDesk (take (p .start + widthFor (p .all) - p .start) (drop (p .start) t))))) (take (p .start + widthFor (p .all) - p .start) (drop (p .start) t))) yes
-        ∙ ap₂ (λ (n : ℕ) (l : List ℕ). encodeDesk n (retire (decodeDesk l))) (r .all-is) (r .lent-is .part) in
-        (λ i. record { answer = record { number = z i; session = v i }; after = put-on t d (p .all) (p .start) (r .lent-is) (r .all-is) ys _ w i })
-        ∙ sym (accepted-step hallLimits t (Retire d) (e .yes-sound) (all-asked ∙ z))
-    go (suc n) z =
-        let no-more : eqb (answerOf x .number) 0 ≡ false = ne-eqb (answerOf x .number) 0 (λ y. omega arith) in
-        let v : answerOf x .session ≡ 0 = q .session ∙ ap (λ (b : Bool). cond b (decodeDesk (take (p .start + widthFor (p .all) - p .start) (drop (p .start) t)) .owed) 0) no-more in
-        let w : ys ≡ take (p .start + widthFor (p .all) - p .start) (drop (p .start) t)
-        = q .after ∙ ap (λ (b : Bool). cond b (encodeDesk (p .all) (retire (decodeDesk (take (p .start + widthFor (p .all) - p .start) (drop (p .start) t))))) (take (p .start + widthFor (p .all) - p .start) (drop (p .start) t))) no-more in
-        (λ i. record { answer = record { number = z i; session = v i }; after = put-same t (p .start) (p .start + widthFor (p .all) - p .start) ys w i })
-        ∙ sym (refused-step hallLimits t (Retire d) n (e .yes-sound) (all-asked ∙ z))
+    module _ {q : ℕ} (h : AtPosition t q) where
+      pub take-screen-in-use : (getD t (screenAt p d i) 0 ≡ 0 → ⊥) → told ScreenInUse t ≡ stepTable hallLimits t (Take d i q)
+      take-screen-in-use some =
+          refuse 8 (Take d i q) (rw (e .yes-desk, s .yes-screen, h .yes-position, s .shows, ne-eqb (getD t (screenAt p d i) 0) 0 some))
 
--- ---- collect: the screens that are read
-scanned-word : (r : List ℕ) → getD r 1 0 ≡ decodeDesk r .scanned
+      pub take-position-empty : getD t (screenAt p d i) 0 ≡ 0 → getD t (positionWord q) 0 ≡ 0 → told PositionEmpty t ≡ stepTable hallLimits t (Take d i q)
+      take-position-empty free none = refuse 9 (Take d i q) (rw (e .yes-desk, s .yes-screen, h .yes-position, s .shows, free, h .holds, none))
+
+      pub take-accepted : getD t (screenAt p d i) 0 ≡ 0 → (getD t (positionWord q) 0 ≡ 0 → ⊥)
+          → told (Accepted (getD t (positionWord q) 0)) (set t (screenAt p d i) (getD t (positionWord q) 0)) ≡ stepTable hallLimits t (Take d i q)
+      take-accepted free some =
+          (λ j. record { answer = record { number = 0; session = sym (h .holds) j }; after = set t (s .is j) (getD t (positionWord q) 0) })
+          ∙ accept (Take d i q) (rw (e .yes-desk, s .yes-screen, h .yes-position, s .shows, free, h .holds, ne-eqb (getD t (positionWord q) 0) 0 some))
+
+  -- ---- swap
+  owes : deskOf (decode (hallIn t) t) d .owed ≡ getD t (p .start) 0
+  owes = owed-word t d (e .range .0) (e .range .1) ∙ ap (λ (k : ℕ). getD t k 0) (sym (e .start-is))
+
+  module _ (q v : ℕ) where
+    pub swap-no-position : inRange q (p .positions) ≡ false → told NoPosition t ≡ stepTable hallLimits t (Swap d q v)
+    swap-no-position out = refuse 7 (Swap d q v) (rw (e .yes-desk, ← e .positions-is, out))
+
+    module _ (h : AtPosition t q) where
+      pub swap-desk-owes : (getD t (p .start) 0 ≡ 0 → ⊥) → told DeskOwes t ≡ stepTable hallLimits t (Swap d q v)
+      swap-desk-owes some = refuse 11 (Swap d q v) (rw (e .yes-desk, h .yes-position, owes, ne-eqb (getD t (p .start) 0) 0 some))
+
+      pub swap-accepted : getD t (p .start) 0 ≡ 0
+          → let old = getD t (positionWord q) 0 in told (Accepted old) (set (set t (positionWord q) v) (p .start) old) ≡ stepTable hallLimits t (Swap d q v)
+      swap-accepted none =
+          let old = getD t (positionWord q) 0 in
+          (λ j. record { answer = record { number = 0; session = sym (h .holds) j }; after = set (set t (positionWord q) v) (e .start-is j) old })
+          ∙ accept (Swap d q v) (rw (e .yes-desk, h .yes-position, owes, none))
+
+  -- ---- retire
+  module _ (l : Lent t d p) where
+    pub retire-told : (x : Reply) (ys : List ℕ) → Retired (p .all) (lentRecord t p) (answerOf x) ys
+        → told x (withRecord t p ys) ≡ stepTable hallLimits t (Retire d)
+    retire-told x ys r = go (answerOf x .number) refl
+      where
+        all-asked : asked t (Retire d) ≡ answerOf x .number
+        all-asked = rw (e .yes-desk) (sym (r .number ∙ ap₂ (λ (n : ℕ) (D : Desk). firstNo (retireQuestions n D)) (e .all-is) (l .desk-is)))
+
+        go : (n : ℕ) → answerOf x .number ≡ n → told x (withRecord t p ys) ≡ stepTable hallLimits t (Retire d)
+        go zero z =
+            let session : answerOf x .session ≡ deskOf (decode (hallIn t) t) d .owed = rw z at (r .session) ∙ ap (λ (D : Desk). D .owed) (l .desk-is) in
+            let after : ys ≡ encodeDesk (allScreens (hallIn t)) (retire (decodeDesk (recordOf (hallIn t) t d))) =
+            rw z at (r .after) ∙ ap₂ (λ (n : ℕ) (x : List ℕ). encodeDesk n (retire (decodeDesk x))) (e .all-is) (l .part) in
+            (λ i. record { answer = record { number = z i; session = session i }; after = (l .put ys ∙ ap (putRecord (hallIn t) t d) after) i })
+            ∙ accept (Retire d) (all-asked ∙ z)
+        go (suc n) z =
+            let session : answerOf x .session ≡ 0 = rw (z, eqb·suc-zero) at (r .session) in
+            let after : ys ≡ lentRecord t p = rw (z, eqb·suc-zero) at (r .after) in
+            let same : withRecord t p ys ≡ t = ap (withRecord t p) after ∙ put-same (p .start) (p .start + widthFor (p .all) - p .start) t in
+            (λ i. record { answer = record { number = z i; session = session i }; after = same i })
+            ∙ refuse n (Retire d) (all-asked ∙ z)
+
+    -- ---- collect
+    pub collect-told : (vs : List ℕ) → vs ≡ nextScreens (decode (hallIn t) t .shown) (decodeDesk (lentRecord t p)) → (x : ℕ) (ys : List ℕ)
+        → x ≡ collectSeeing (p .all) vs (decodeDesk (lentRecord t p)) .session
+        → ys ≡ encodeDesk (p .all) (collectSeeing (p .all) vs (decodeDesk (lentRecord t p)) .after)
+        → told (Accepted x) (withRecord t p ys) ≡ stepTable hallLimits t (Collect d)
+    collect-told vs seen x ys ex ey =
+        let H : Hall = hallIn t in
+        let D : Desk = decodeDesk (lentRecord t p) in
+        let shown : List ℕ = decode H t .shown in
+        let same : collectSeeing (p .all) vs D ≡ collect (allScreens H) shown D =
+        ap₂ (λ (n : ℕ) (l : List ℕ). collectSeeing n l D) (e .all-is) seen ∙ collect-seeing (allScreens H) shown D in
+        let session = ex ∙ ap (λ (g : Collected). g .session) same ∙ ap (λ (E : Desk). collect (allScreens H) shown E .session) (l .desk-is) in
+        let after : ys ≡ encodeDesk (allScreens H) (collect (allScreens H) shown (decodeDesk (recordOf H t d)) .after) =
+        ey ∙ ap₂ (λ (n : ℕ) (g : Collected). encodeDesk n (g .after)) (e .all-is) same
+        ∙ ap (λ (r : List ℕ). encodeDesk (allScreens H) (collect (allScreens H) shown (decodeDesk r) .after)) (l .part) in
+        (λ i. record { answer = record { number = 0; session = session i }; after = (l .put ys ∙ ap (putRecord H t d) after) i })
+        ∙ accept (Collect d) (rw (e .yes-desk))
+
+-- the screens that a collect reads
+scanned-word : (r : List ℕ) → getD r scannedPlace 0 ≡ decodeDesk r .scanned
 unfolding decodeDesk
 scanned-word r = refl
 
@@ -113,128 +142,32 @@ two l k h = rw (rest l k (omega arith), rest l (k + 1) h)
 one : (l : List ℕ) (k : ℕ) → k + 1 ≡ length l → take 2 (drop k l) ≡ getD l k 0 ∷ []
 one l k h = rw (rest l k (omega arith), ended l (k + 1) (omega arith))
 
-pub record Reads (t : List ℕ) (d s l a k : ℕ) : Type 0 where
-  pub scanned-is : k ≡ decodeDesk (take (a + widthFor s - a) (drop a t)) .scanned
-  pub below : k < s
-  pub at : headerWords + l + s ≤ a
-  pub see-two : k + 1 < s → getD t (headerWords + l + k) 0 ∷ getD t (headerWords + l + k + 1) 0 ∷ [] ≡ take 2 (drop k (decode (hallIn t) t .shown))
-  pub see-one : s ≤ k + 1 → getD t (headerWords + l + k) 0 ∷ [] ≡ take 2 (drop k (decode (hallIn t) t .shown))
+pub record Reads (t : List ℕ) (p : Place) (k : ℕ) : Type 0 where
+  pub scanned-is : k ≡ decodeDesk (lentRecord t p) .scanned
+  pub below : k < p .all
+  pub there : headerWords + p .positions + p .all < length t
+  pub see-two : k + 1 < p .all
+      → let at = headerWords + p .positions + k in getD t at 0 ∷ getD t (at + 1) 0 ∷ [] ≡ nextScreens (decode (hallIn t) t .shown) (decodeDesk (lentRecord t p))
+  pub see-one : p .all ≤ k + 1 → getD t (headerWords + p .positions + k) 0 ∷ [] ≡ nextScreens (decode (hallIn t) t .shown) (decodeDesk (lentRecord t p))
 
-pub reads : (t : List ℕ) (d k : ℕ) (p : Place) → Entered t d p → (r : Ready t d (p .all) (p .start)) → k ≡ getD t (p .start + 1) 0 → Reads t d (p .all) (p .positions) (p .start) k
-reads t d k p e r ek =
+pub reads : {t : List ℕ} {d k : ℕ} {p : Place} → Entered t d p → Lent t d p → k ≡ getD t (p .start + scannedPlace) 0 → Reads t p k
+reads {t} {d} {k} {p} e l is =
+    let H : Hall = hallIn t in
     let s = p .all in
-    let l = p .positions in
     let a = p .start in
+    let shown : List ℕ = decode H t .shown in
     let n = a + widthFor s - a in
-    let en = r .end in
-    let es = e .all-is in
-    let el = e .positions-is in
-    let fm = e .facts .most in
-    let fl = e .facts .long in
-    let s1 : 1 ≤ allScreens (hallIn t) = some-screens (hallIn t) (e .facts .fits) in
-    let rk : k ≡ getD (take n (drop a t)) 1 0 = ek ∙ sym (getD-take n (drop a t) 1 0 (omega arith) ∙ getD-drop a t 1 0) in
-    let kl : getD (take n (drop a t)) 1 0 < s = scanned-below s (take n (drop a t)) (omega arith) (r .lent-is .sound) in
-    let ls : length (decode (hallIn t) t .shown) ≡ s
-    = length-take-le (allScreens (hallIn t)) (drop (hallIn t .positions) (drop headerWords t)) (omega (arith, length-drop (hallIn t .positions) (drop headerWords t), length-drop headerWords t)) ∙ sym es in
-    let look : (j : ℕ) → j < s → getD (decode (hallIn t) t .shown) j 0 ≡ getD t (headerWords + l + j) 0
-    = λ j h. shown-at t j (omega arith) ∙ ap (λ (x : ℕ). getD t (headerWords + x + j) 0) (sym el) in
+    let word : k ≡ getD (lentRecord t p) scannedPlace 0 = is ∙ sym (getD-take n (drop a t) scannedPlace 0 (omega arith) ∙ getD-drop a t scannedPlace 0) in
+    let scanned : k ≡ decodeDesk (lentRecord t p) .scanned = word ∙ scanned-word (lentRecord t p) in
+    let below : k < s = omega (arith, word, scanned-below s (lentRecord t p) (omega (arith, e .all-is, some-screens H (e .facts .fits))) (l .sound)) in
+    let room : allScreens H ≤ length (drop (H .positions) (drop headerWords t)) = simp length-drop (omega (arith, e .facts .long)) in
+    let long : length shown ≡ s = length-take-le (allScreens H) (drop (H .positions) (drop headerWords t)) room ∙ sym (e .all-is) in
+    let look : (j : ℕ) → j < s → getD shown j 0 ≡ getD t (headerWords + p .positions + j) 0 =
+    λ j h. shown-at t j (omega (arith, e .all-is)) ∙ ap (λ (x : ℕ). getD t (headerWords + x + j) 0) (sym (e .positions-is)) in
     record {
-      scanned-is = rk ∙ scanned-word (take n (drop a t));
-      below = omega arith;
-      at = omega (arith, e .start-is);
-      see-two = λ h. sym (two (decode (hallIn t) t .shown) k (omega arith) ∙ (λ i. look k (omega arith) i ∷ (look (k + 1) h ∙ ap (λ (x : ℕ). getD t x 0) (sym (add-assoc (headerWords + l) k 1))) i ∷ []));
-      see-one = λ h. sym (one (decode (hallIn t) t .shown) k (omega arith) ∙ (λ i. look k (omega arith) i ∷ []));
+      scanned-is = scanned;
+      below = below;
+      there = omega (arith, e .start-is, e .positions-is, e .all-is, e .end);
+      see-two = λ h. rw (← scanned, two shown k (omega arith), look k below, look (k + 1) h, ← add-assoc (headerWords + p .positions) k 1);
+      see-one = λ h. rw (← scanned, one shown k (omega arith), look k below);
     }
-
-pub collect-told : (t : List ℕ) (d k : ℕ) (p : Place) → Entered t d p → (r : Ready t d (p .all) (p .start)) → k ≡ decodeDesk (take (p .start + widthFor (p .all) - p .start) (drop (p .start) t)) .scanned
-    → (vs : List ℕ) → vs ≡ take 2 (drop k (decode (hallIn t) t .shown)) → (x : ℕ) (ys : List ℕ)
-    → x ≡ collectSeeing (p .all) vs (decodeDesk (take (p .start + widthFor (p .all) - p .start) (drop (p .start) t))) .session
-    → ys ≡ encodeDesk (p .all) (collectSeeing (p .all) vs (decodeDesk (take (p .start + widthFor (p .all) - p .start) (drop (p .start) t))) .after)
-    → told (Accepted x) (take (p .start) t ++ (ys ++ drop (p .start + widthFor (p .all) - p .start) (drop (p .start) t))) ≡ stepTable hallLimits t (Collect d)
-collect-told t d k p e r ek vs ev x ys ex ey =
-    let D = decodeDesk (take (p .start + widthFor (p .all) - p .start) (drop (p .start) t)) in
-    let H = hallIn t in
-    let scr = decode (hallIn t) t .shown in
-    let same : collectSeeing (p .all) vs D ≡ collect (allScreens H) scr D
-    = ap₂ (λ (n : ℕ) (l : List ℕ). collectSeeing n l D) (r .all-is) (ev ∙ ap (λ (j : ℕ). take 2 (drop j scr)) ek) ∙ collect-seeing (allScreens H) scr D in
-    let v = ex ∙ ap (λ (g : Collected). g .session) same ∙ ap (λ (E : Desk). collect (allScreens H) scr E .session) (r .desk-is) in
-    let w : ys ≡ encodeDesk (allScreens H) (collect (allScreens H) scr (decodeDesk (recordOf H t d)) .after)
-    = ey ∙ ap₂ (λ (n : ℕ) (g : Collected). encodeDesk n (g .after)) (r .all-is) same ∙ ap (λ (l : List ℕ). encodeDesk (allScreens H) (collect (allScreens H) scr (decodeDesk l) .after)) (r .lent-is .part) in
-    (λ i. record { answer = record { number = 0; session = v i }; after = put-on t d (p .all) (p .start) (r .lent-is) (r .all-is) ys _ w i })
-    ∙ sym (accepted-step hallLimits t (Collect d) (e .yes-sound) (asked-yes (inRange d (hallIn t .desks)) _ 6 0 (e .yes-desk) refl))
-
--- ---- take
-module _ (t : List ℕ) (d i q : ℕ) (p : Place) (e : Entered t d p) where
-  pub take-no-screen : inRange i (hallIn t .screens) ≡ false → told NoScreen t ≡ stepTable hallLimits t (Take d i q)
-  take-no-screen w = sym (refused-step hallLimits t (Take d i q) 6 (e .yes-sound) (asked-yes (inRange d (hallIn t .desks)) _ 6 7 (e .yes-desk) (asked-no (inRange i (hallIn t .screens)) _ 7 w)))
-
-  module _ (w : inRange i (hallIn t .screens) ≡ true) where
-    pub take-no-position : inRange q (hallIn t .positions) ≡ false → told NoPosition t ≡ stepTable hallLimits t (Take d i q)
-    take-no-position v =
-        sym (refused-step hallLimits t (Take d i q) 7 (e .yes-sound)
-        (asked-yes (inRange d (hallIn t .desks)) _ 6 8 (e .yes-desk)
-        (asked-yes (inRange i (hallIn t .screens)) _ 7 8 w
-        (asked-no (inRange q (hallIn t .positions)) _ 8 v))))
-
-    module _ (w' : inRange q (hallIn t .positions) ≡ true) (a : ℕ) (at : a ≡ screenWord (hallIn t) d i) where
-      screen : getD (decode (hallIn t) t .shown) (screenIndex (hallIn t) d i) 0 ≡ getD t a 0
-      screen = let r = in-range i (hallIn t .screens) w in shown-word t d i (e .range .0) (e .range .1) (r .0) (r .1) ∙ ap (λ (k : ℕ). getD t k 0) (sym at)
-
-      held : getD (decode (hallIn t) t .held) (q - 1) 0 ≡ getD t (positionWord q) 0
-      held = let r = in-range q (hallIn t .positions) w' in held-word t q (r .0) (r .1)
-
-      three : (y : ℕ) (u : ℕ) → cond {A = ℕ} (eqb (getD (decode (hallIn t) t .shown) (screenIndex (hallIn t) d i) 0) 0) u 9 ≡ y → cond {A = ℕ} (inRange d (hallIn t .desks)) (cond {A = ℕ} (inRange i (hallIn t .screens)) (cond {A = ℕ} (inRange q (hallIn t .positions)) (cond {A = ℕ} (eqb (getD (decode (hallIn t) t .shown) (screenIndex (hallIn t) d i) 0) 0) u 9) 8) 7) 6 ≡ y
-      three y u z = asked-yes (inRange d (hallIn t .desks)) _ 6 y (e .yes-desk) (asked-yes (inRange i (hallIn t .screens)) _ 7 y w (asked-yes (inRange q (hallIn t .positions)) _ 8 y w' z))
-
-      pub take-screen-in-use : (getD t a 0 ≡ 0 → ⊥) → told ScreenInUse t ≡ stepTable hallLimits t (Take d i q)
-      take-screen-in-use z = sym (refused-step hallLimits t (Take d i q) 8 (e .yes-sound) (three 9 _ (asked-no (eqb (getD (decode (hallIn t) t .shown) (screenIndex (hallIn t) d i) 0) 0) _ 9 (ne-eqb _ 0 (λ y. z (sym screen ∙ y))))))
-
-      pub take-position-empty : getD t a 0 ≡ 0 → getD t (positionWord q) 0 ≡ 0 → told PositionEmpty t ≡ stepTable hallLimits t (Take d i q)
-      take-position-empty z v =
-          sym (refused-step hallLimits t (Take d i q) 9 (e .yes-sound) (three 10 _ (asked-yes (eqb (getD (decode (hallIn t) t .shown) (screenIndex (hallIn t) d i) 0) 0) _ 9 10 (eq-eqb _ 0 (screen ∙ z))
-          (asked-no (not (eqb (getD (decode (hallIn t) t .held) (q - 1) 0) 0)) 0 10 (ap not (eq-eqb _ 0 (held ∙ v)))))))
-
-      pub take-accepted : getD t a 0 ≡ 0 → (getD t (positionWord q) 0 ≡ 0 → ⊥) → told (Accepted (getD t (positionWord q) 0)) (set t a (getD t (positionWord q) 0)) ≡ stepTable hallLimits t (Take d i q)
-      take-accepted z v =
-          (λ j. record { answer = record { number = 0; session = sym held j }; after = set t (at j) (getD t (positionWord q) 0) })
-          ∙ sym (accepted-step hallLimits t (Take d i q) (e .yes-sound) (three 0 _ (asked-yes (eqb (getD (decode (hallIn t) t .shown) (screenIndex (hallIn t) d i) 0) 0) _ 9 0 (eq-eqb _ 0 (screen ∙ z))
-          (asked-yes (not (eqb (getD (decode (hallIn t) t .held) (q - 1) 0) 0)) 0 10 0 (ap not (ne-eqb _ 0 (λ y. v (sym held ∙ y)))) refl))))
-
--- ---- swap
-module _ (t : List ℕ) (d q v : ℕ) (p : Place) (e : Entered t d p) where
-  pub swap-no-position : inRange q (hallIn t .positions) ≡ false → told NoPosition t ≡ stepTable hallLimits t (Swap d q v)
-  swap-no-position w = sym (refused-step hallLimits t (Swap d q v) 7 (e .yes-sound) (asked-yes (inRange d (hallIn t .desks)) _ 6 8 (e .yes-desk) (asked-no (inRange q (hallIn t .positions)) _ 8 w)))
-
-  module _ (w : inRange q (hallIn t .positions) ≡ true) where
-    owes : deskOf (decode (hallIn t) t) d .owed ≡ getD t (p .start) 0
-    owes = owed-word t d (e .range .0) (e .range .1) ∙ ap (λ (k : ℕ). getD t k 0) (sym (e .start-is))
-
-    old : getD (decode (hallIn t) t .held) (q - 1) 0 ≡ getD t (positionWord q) 0
-    old = let r = in-range q (hallIn t .positions) w in held-word t q (r .0) (r .1)
-
-    pub swap-desk-owes : (getD t (p .start) 0 ≡ 0 → ⊥) → told DeskOwes t ≡ stepTable hallLimits t (Swap d q v)
-    swap-desk-owes z =
-        sym (refused-step hallLimits t (Swap d q v) 11 (e .yes-sound) (asked-yes (inRange d (hallIn t .desks)) _ 6 12 (e .yes-desk) (asked-yes (inRange q (hallIn t .positions)) _ 8 12 w
-        (asked-no (eqb (deskOf (decode (hallIn t) t) d .owed) 0) 0 12 (ne-eqb _ 0 (λ y. z (sym owes ∙ y)))))))
-
-    pub swap-accepted : getD t (p .start) 0 ≡ 0 → told (Accepted (getD t (positionWord q) 0)) (set (set t (positionWord q) v) (p .start) (getD t (positionWord q) 0)) ≡ stepTable hallLimits t (Swap d q v)
-    swap-accepted z =
-        (λ j. record { answer = record { number = 0; session = sym old j }; after = set (set t (positionWord q) v) (e .start-is j) (getD t (positionWord q) 0) })
-        ∙ sym (accepted-step hallLimits t (Swap d q v) (e .yes-sound) (asked-yes (inRange d (hallIn t .desks)) _ 6 0 (e .yes-desk) (asked-yes (inRange q (hallIn t .positions)) _ 8 0 w
-        (asked-yes (eqb (deskOf (decode (hallIn t) t) d .owed) 0) 0 12 0 (eq-eqb _ 0 (owes ∙ z)) refl))))
-
--- where a position and a desk's record stand
-pub record Stands (t : List ℕ) (l q a : ℕ) : Type 0 where
-  pub first : 1 ≤ q
-  pub place : headerWords + (q - 1) < length t
-  pub before : headerWords + (q - 1) < a
-  pub owed : a < length t
-
-pub stands : (t : List ℕ) (d q : ℕ) (p : Place) → Entered t d p → inRange q (hallIn t .positions) ≡ true → Stands t (p .positions) q (p .start)
-stands t d q p e w =
-    let r = in-range q (hallIn t .positions) w in
-    let l = lent t (e .facts) d (p .all) (p .start) (e .all-is) (e .start-is) (e .range .0) (e .range .1) in
-    let a = l .end in
-    let b = e .start-is in
-    let c = e .positions-is in
-    record { first = r .0; place = omega arith; before = omega arith; owed = omega arith }

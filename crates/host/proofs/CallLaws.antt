@@ -1,7 +1,7 @@
 -- A step that decodes the front of the table, calls the board and encodes what it left does what the rules do on the bytes.
 use Prim.Native.Nat.{ℕ, zero, suc, _≤_}
 use native.Mathlib.Omega.{arith}
-use mathlib.Core.Path.{_≡_, refl, sym, ap, subst, subst₂, _∙_}
+use mathlib.Core.Path.{_≡_, refl, sym, ap, _∙_}
 use mathlib.Core.List.{List, _++_}
 use lib.ListN.{length, take, drop}
 use lib.Seq.{length-take-le, take-at}
@@ -18,50 +18,51 @@ use Rattle.reply.specs.declared.Reply.{Reply}
 use Rattle.reply.specs.Answer.{answerOf, told}
 use Rattle.host.specs.Heard.{Front, Seen, Told, heard}
 
--- The board was lent the first n words of a buffer, and left others in their place.
-module _ (n number : ℕ) (call : Call) (buffer bytes after : List ℕ) (r : Reply) (answer : number ≡ reply (answerOf r))
-    (e : told r after ≡ stepTable hallLimits (take n buffer) call) where
+-- ---- the board was lent the first n words of a buffer, and left as many others in their place
+module _ (n : ℕ) (buffer after : List ℕ) (room : n ≤ length buffer) (as-long : length after ≡ length (take n buffer)) where
+  lent-is : take n (after ++ drop n buffer) ≡ after
+  lent-is = take-at after (drop n buffer) n (as-long ∙ length-take-le n buffer room)
+
+  pub lent-length : length (take n (after ++ drop n buffer)) ≡ n
+  lent-length = ap length lent-is ∙ as-long ∙ length-take-le n buffer room
+
+module _ (n : ℕ) (call : Call) (buffer bytes after : List ℕ) (r : Reply) (e : told r after ≡ stepTable hallLimits (take n buffer) call) where
   number-is : answerOf r .number ≡ stepTable hallLimits (take n buffer) call .answer .number
   number-is = ap (λ (d : TableDone). d .answer .number) e
 
-  answer-is : number ≡ reply (stepTable hallLimits (take n buffer) call .answer)
-  answer-is = answer ∙ ap (λ (d : TableDone). reply (d .answer)) e
+  reply-is : reply (answerOf r) ≡ reply (stepTable hallLimits (take n buffer) call .answer)
+  reply-is = ap (λ (d : TableDone). reply (d .answer)) e
 
-  pub refusal-told : (answerOf r .number ≡ 0 → ⊥) → Told number call (take n buffer) bytes bytes
-  refusal-told refused =
-      record { answer = answer-is; written = λ z. absurd (refused (number-is ∙ z)); refused = λ _. refl }
+  pub refusal-told : {number : ℕ} → number ≡ reply (answerOf r) → (answerOf r .number ≡ 0 → ⊥) → Told number call (take n buffer) bytes bytes
+  refusal-told answer refused = record { answer = answer ∙ reply-is; written = λ z. absurd (refused (number-is ∙ z)); refused = λ _. refl }
 
   module _ (accepted : answerOf r .number ≡ 0) (room : n ≤ length buffer) (as-long : length after ≡ length (take n buffer)) where
-    lent-is : take n (after ++ drop n buffer) ≡ after
-    lent-is = take-at after (drop n buffer) n (as-long ∙ length-take-le n buffer room)
-
     -- only the two parts of its desk are other words than those of the bytes
-    pub step-rewrote : Words16 buffer → take n buffer ≡ take n (wordsOfBytes bytes) → (d : ℕ) → d ≡ deskIn call
+    pub step-rewrote : Words16 buffer → take n buffer ≡ take n (wordsOfBytes bytes) → {d : ℕ} → d ≡ deskIn call
         → Rewritten d (take (length (take n (after ++ drop n buffer))) (wordsOfBytes bytes)) (take n (after ++ drop n buffer))
-    step-rewrote small read d is =
-        let left : stepTable hallLimits (take n buffer) call .after ≡ take n (after ++ drop n buffer) = ap (λ (s : TableDone). s .after) (sym e) ∙ sym lent-is in
-        let long : n ≡ length (take n (after ++ drop n buffer)) = sym (ap length lent-is ∙ as-long ∙ length-take-le n buffer room) in
-        subst (λ (x : ℕ). Rewritten x (take (length (take n (after ++ drop n buffer))) (wordsOfBytes bytes)) (take n (after ++ drop n buffer))) (sym is)
-        (subst₂ (λ (x y : List ℕ). Rewritten (deskIn call) x y) (read ∙ ap (λ (k : ℕ). take k (wordsOfBytes bytes)) long) left (step-rewritten hallLimits (take n buffer) (small-take n buffer small) call (sym number-is ∙ accepted)))
+    step-rewrote small read is =
+        let done = step-rewritten hallLimits (take n buffer) (small-take n buffer small) call (sym number-is ∙ accepted) in
+        rw (lent-length n buffer after room as-long, lent-is n buffer after room as-long, is, ← read, ap (λ (s : TableDone). s .after) e) done
 
-    pub step-told : (out : List ℕ) → out ≡ laidOver (take n (after ++ drop n buffer)) bytes → Told number call (take n buffer) bytes out
-    step-told out laid =
+    pub step-told : {number : ℕ} → number ≡ reply (answerOf r) → {out : List ℕ} → out ≡ laidOver (take n (after ++ drop n buffer)) bytes
+        → Told number call (take n buffer) bytes out
+    step-told answer laid =
         record {
-          answer = answer-is;
-          written = λ _. laid ∙ ap (λ (words : List ℕ). laidOver words bytes) (lent-is ∙ ap (λ (d : TableDone). d .after) e);
+          answer = answer ∙ reply-is;
+          written = λ _. laid ∙ ap (λ (words : List ℕ). laidOver words bytes) (lent-is n buffer after room as-long ∙ ap (λ (d : TableDone). d .after) e);
           refused = λ no-step. absurd (no-step (sym number-is ∙ accepted));
         }
 
--- Of the first m words n are there, and the step was on these.
-pub step-heard : (m n number : ℕ) (bytes words out : List ℕ) (call : Call) → IsBytes bytes → Front (hallIn (wordsOfBytes bytes)) m → Seen bytes m n
+-- ---- of the first m words n are there, and the step was on these
+pub step-heard : {m n number : ℕ} {bytes words out : List ℕ} {call : Call} → IsBytes bytes → Front (hallIn (wordsOfBytes bytes)) m → Seen bytes m n
     → words ≡ take n (wordsOfBytes bytes) → Told number call words bytes out → heard number out ≡ stepBytes hallLimits bytes call
-step-heard m n number bytes words out call are front seen read done =
+step-heard {m} {n} {number} {bytes} {words} {out} {call} are front seen read done =
     let ws : List ℕ = wordsOfBytes bytes in
     let lent : words ≡ take m ws = read ∙ seen .front in
-    let long : length (stepTable hallLimits words call .after) ≡ length (take m ws) =
-    ap (λ (w : List ℕ). length (stepTable hallLimits w call .after)) lent ∙ step-length hallLimits (take m ws) call (small-take m ws (words-are-16 bytes are)) in
-    (λ i. record { reply = done .answer i; after = left (stepTable hallLimits words call .answer .number) refl i })
-    ∙ step-on-front hallLimits m bytes are (stepTable hallLimits words call) long (front .header) (front .enough) call (ap (λ (w : List ℕ). stepTable hallLimits w call) lent)
+    let step = stepTable hallLimits words call in
+    let long : length (step .after) ≡ length (take m ws) = rw lent (step-length hallLimits (take m ws) call (small-take m ws (words-are-16 bytes are))) in
+    (λ i. heard (done .answer i) (left (step .answer .number) refl i))
+    ∙ step-on-front hallLimits m bytes are step long (front .header) (front .enough) call (ap (λ (w : List ℕ). stepTable hallLimits w call) lent)
   where
     left : (k : ℕ) → stepTable hallLimits words call .answer .number ≡ k → out ≡ laidOver (stepTable hallLimits words call .after) bytes
     left zero q = done .written q

@@ -1,14 +1,16 @@
 -- An opening that writes the header and zeros over the bytes does what the rules do on them.
-use Prim.Native.Nat.{ℕ, zero, suc, _+_, _-_, _*_, _≤_}
+use Prim.Native.Nat.{ℕ, zero, suc, _-_, _*_, _≤_}
 use native.Mathlib.Omega.{arith}
 use mathlib.Core.Path.{_≡_, refl, sym, ap, ap₂, _∙_}
 use mathlib.Core.List.{List, [], _∷_, _++_}
-use lib.ListN.{length, take, drop, replicate, length-drop, length-replicate}
-use lib.Seq.{length-take-le, drop-drop}
+use lib.ListN.{length, take, drop, replicate, length-replicate}
+use lib.Seq.{length-take-le}
+use borrow.Rule.Slice.PartMut.{mid-len, midOf, post-is, putMid}
 use Rattle.rules.specs.Hall.{Hall, hallLimits}
 use Rattle.rules.specs.Steps.{firstNo}
 use Rattle.rules.specs.Table.{TableDone, headerWords, mostWords, need, openQuestions, openTable}
-use Rattle.rules.specs.Bytes.{IsBytes, bytesOfWords, laidOver, onBytes, openBytes, reply, wordsOfBytes}
+use Rattle.rules.specs.Bytes.{IsBytes, bytesOfWords, laidOver, openBytes, reply, wordsOfBytes}
+use Rattle.rules.specs.laws.Bytes.{laid-back, words-length}
 use Rattle.rules.specs.laws.Front.{laid-front}
 use Rattle.rules.specs.laws.Prefix.{need-at-most}
 use Rattle.rules.specs.laws.Tables.{hall-opens, limits-fit}
@@ -16,7 +18,6 @@ use Rattle.rules.specs.laws.TableSteps.{accepted-open}
 use Rattle.reply.specs.declared.Reply.{Reply}
 use Rattle.reply.specs.Answer.{answerOf}
 use Rattle.board.proofs.OpenLaws.{is-opened, not-opened}
-use Rattle.rules.specs.laws.Bytes.{laid-back, words-length}
 use Rattle.host.specs.Heard.{heard}
 
 -- the header's three words
@@ -25,14 +26,13 @@ header H = H .desks ∷ H .screens ∷ H .positions ∷ []
 
 zero-bytes : (k : ℕ) → bytesOfWords (replicate k 0) ≡ replicate (2 * k) 0
 zero-bytes zero = refl
-zero-bytes (suc k) =
-    let e : suc (suc (2 * k)) ≡ 2 * suc k = omega arith in
-    ap {B = List ℕ} (λ bytes. 0 ∷ 0 ∷ bytes) (zero-bytes k) ∙ ap (λ (m : ℕ). replicate m 0) e
+zero-bytes (suc k) = let e : 2 * suc k ≡ suc (suc (2 * k)) = omega arith in rw (e, zero-bytes k)
 
 pub record Room (H : Hall) (bytes : List ℕ) : Type 0 where
   pub asked : firstNo (openQuestions hallLimits H (wordsOfBytes bytes)) ≡ 0
   pub least : headerWords ≤ need H
   pub most : need H ≤ mostWords
+  pub words : need H ≤ length (wordsOfBytes bytes)
   pub there : 2 * need H ≤ length bytes
 
 module _ (H : Hall) (bytes : List ℕ) (r : Reply) (e : answerOf r ≡ openTable hallLimits H (wordsOfBytes bytes) .answer) where
@@ -45,45 +45,34 @@ module _ (H : Hall) (bytes : List ℕ) (r : Reply) (e : answerOf r ≡ openTable
         asked = asked;
         least = omega arith;
         most = omega (arith, need-at-most H (limits-fit hallLimits H (o .0)));
+        words = o .1;
         there = omega (arith, o .1, words-length bytes);
       }
 
-  module _ (are : IsBytes bytes) (number : ℕ) (answer : number ≡ reply (answerOf r)) where
+  module _ (are : IsBytes bytes) {number : ℕ} (answer : number ≡ reply (answerOf r)) where
     pub refusal-heard : (answerOf r .number ≡ 0 → ⊥) → heard number bytes ≡ openBytes hallLimits H bytes
     unfolding openBytes
     refusal-heard no-opening =
-        (λ i. record { reply = answer i; after = sym (laid-back bytes are) i })
-        ∙ ap (λ (d : TableDone). onBytes d bytes) (not-opened H (wordsOfBytes bytes) r e no-opening)
+        let same = ap (λ (d : TableDone). laidOver (d .after) bytes) (not-opened H (wordsOfBytes bytes) r e no-opening) in
+        λ i. heard ((answer ∙ ap reply e) i) ((sym (laid-back bytes are) ∙ same) i)
 
-    zeros-heard : answerOf r .number ≡ 0 → (n : ℕ) → n ≡ need H → (zeros : List ℕ)
-        → zeros ≡ replicate (length (take (2 * n - 2 * headerWords) (drop (2 * headerWords) (laidOver (header H) bytes)))) 0
-        → heard number (take (2 * headerWords) (laidOver (header H) bytes) ++ (zeros ++ drop (2 * n - 2 * headerWords) (drop (2 * headerWords) (laidOver (header H) bytes)))) ≡ openBytes hallLimits H bytes
+    -- the header was laid over the bytes, and then zeros up to the need
+    pub opened-heard : answerOf r .number ≡ 0 → {n : ℕ} → n ≡ need H → {headed zeros : List ℕ} → headed ≡ laidOver (header H) bytes
+        → zeros ≡ replicate (length (midOf (2 * headerWords) (2 * n - 2 * headerWords) headed)) 0
+        → heard number (putMid (2 * headerWords) (2 * n - 2 * headerWords) headed zeros) ≡ openBytes hallLimits H bytes
     unfolding openBytes laidOver
-    zeros-heard z n is zeros q =
+    opened-heard z {n} is {headed} {zeros} h q =
         let place = room z in
         let words : List ℕ = H .desks ∷ H .screens ∷ H .positions ∷ replicate (need H - headerWords) 0 in
         let long : length words ≡ need H = omega (arith, place .least, length-replicate {A = ℕ} (need H - headerWords) 0) in
-        let all : length words ≡ length (take (need H) (wordsOfBytes bytes)) =
-        long ∙ sym (length-take-le (need H) (wordsOfBytes bytes) (hall-opens hallLimits H (wordsOfBytes bytes) (place .asked) .1)) in
-        let many : length (take (2 * n - 2 * headerWords) (drop (2 * headerWords) bytes)) ≡ 2 * (need H - headerWords) =
-        length-take-le (2 * n - 2 * headerWords) (drop (2 * headerWords) bytes) (omega (arith, length-drop (2 * headerWords) bytes, place .there)) ∙ omega (arith, place .least) in
-        let cleared : zeros ≡ bytesOfWords (replicate (need H - headerWords) 0) = q ∙ ap (λ (k : ℕ). replicate k 0) many ∙ sym (zero-bytes (need H - headerWords)) in
-        let end : 2 * headerWords + (2 * n - 2 * headerWords) ≡ 2 * length words = omega (arith, place .least, long) in
-        let behind : drop (2 * n - 2 * headerWords) (drop (2 * headerWords) bytes) ≡ drop (2 * length words) bytes = drop-drop (2 * n - 2 * headerWords) (2 * headerWords) bytes ∙ ap (λ (k : ℕ). drop k bytes) end in
-        let laid : take (2 * headerWords) (laidOver (header H) bytes) ++ (zeros ++ drop (2 * n - 2 * headerWords) (drop (2 * headerWords) (laidOver (header H) bytes))) ≡ laidOver words bytes =
-        ap₂ {C = List ℕ} (λ x y. bytesOfWords (header H) ++ (x ++ y)) cleared behind in
-        (λ i. record { reply = answer i; after = (laid ∙ laid-front (need H) bytes words are all) i })
-        ∙ ap (λ (d : TableDone). onBytes d bytes) ((λ i. record { answer = e i; after = words ++ drop (need H) (wordsOfBytes bytes) }) ∙ opened)
-      where
-        opened : record { answer = openTable hallLimits H (wordsOfBytes bytes) .answer; after = (H .desks ∷ H .screens ∷ H .positions ∷ replicate (need H - headerWords) 0) ++ drop (need H) (wordsOfBytes bytes) } ≡ openTable hallLimits H (wordsOfBytes bytes)
-        opened =
-            let found = accepted-open hallLimits H (wordsOfBytes bytes) (room z .asked) in
-            (λ i. record { answer = found i .answer; after = (H .desks ∷ H .screens ∷ H .positions ∷ replicate (need H - headerWords) 0) ++ drop (need H) (wordsOfBytes bytes) }) ∙ sym found
-
-    -- the header was laid over the bytes, and then zeros up to the need
-    pub opened-heard : answerOf r .number ≡ 0 → (n : ℕ) → n ≡ need H → (headed zeros : List ℕ) → headed ≡ laidOver (header H) bytes
-        → zeros ≡ replicate (length (take (2 * n - 2 * headerWords) (drop (2 * headerWords) headed))) 0
-        → heard number (take (2 * headerWords) headed ++ (zeros ++ drop (2 * n - 2 * headerWords) (drop (2 * headerWords) headed))) ≡ openBytes hallLimits H bytes
-    opened-heard z n is headed zeros h q =
-        ap (λ (l : List ℕ). heard number (take (2 * headerWords) l ++ (zeros ++ drop (2 * n - 2 * headerWords) (drop (2 * headerWords) l)))) h
-        ∙ zeros-heard z n is zeros (q ∙ ap (λ (l : List ℕ). replicate (length (take (2 * n - 2 * headerWords) (drop (2 * headerWords) l))) 0) h)
+        let many : length (midOf (2 * headerWords) (2 * n - 2 * headerWords) headed) ≡ 2 * (need H - headerWords) =
+        rw h (mid-len (2 * headerWords) (2 * n) bytes (omega (arith, place .there)) ∙ omega (arith, place .least)) in
+        let cleared : zeros ≡ bytesOfWords (replicate (need H - headerWords) 0) = q ∙ rw (many, zero-bytes) in
+        let end : 2 * n ≡ 2 * length words = omega (arith, long) in
+        let behind : drop (2 * n - 2 * headerWords) (drop (2 * headerWords) bytes) ≡ drop (2 * length words) bytes =
+        post-is (2 * headerWords) (2 * n) bytes (omega (arith, place .least)) ∙ ap (λ (k : ℕ). drop k bytes) end in
+        let laid : putMid (2 * headerWords) (2 * n - 2 * headerWords) headed zeros ≡ laidOver words bytes =
+        rw h (ap₂ {C = List ℕ} (λ x y. bytesOfWords (header H) ++ (x ++ y)) cleared behind) in
+        let all : length words ≡ length (take (need H) (wordsOfBytes bytes)) = long ∙ sym (length-take-le (need H) (wordsOfBytes bytes) (place .words)) in
+        let opened = ap (λ (d : TableDone). laidOver (d .after) bytes) (sym (accepted-open hallLimits H (wordsOfBytes bytes) (place .asked))) in
+        λ i. heard ((answer ∙ ap reply e) i) ((laid ∙ laid-front (need H) bytes words are all ∙ opened) i)

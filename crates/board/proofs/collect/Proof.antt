@@ -1,27 +1,36 @@
--- `board::collect` meets its contract. Each need cites one of two facts: what is known once the questions are answered, and once k is read.
---
-use Prim.Native.Nat.{ℕ, _+_, _-_}
+-- `board::collect` meets its contract.
+use Prim.Native.Nat.{ℕ}
 use native.Mathlib.Omega.{arith}
-use mathlib.Core.Path.{refl, sym, _∙_}
+use mathlib.Core.List.{List}
+use mathlib.Core.Path.{sym, _∙_}
 use borrow.Author.Needs.{needs}
-use borrow.Rule.Slice.PartMut.{same-len-mid}
 use Rattle.rules.specs.Steps.{Collect}
-use Rattle.rules.specs.Table.{widthFor}
+use Rattle.board.specs.declared.Place.{Place}
 use Rattle.board.proofs.EntryLaws.{Entered, entered, refused}
-use Rattle.board.proofs.StepLaws.{Ready, ready, Reads, reads, collect-told}
+use Rattle.board.proofs.PlaceLaws.{Lent, lent}
+use Rattle.board.proofs.StepLaws.{Reads, collect-told, reads}
 use Rattle.board.proofs.collect.Statement.{statement}
 use Rattle.board.proofs.collect.Tie as tie
 
--- the questions are answered
-here : (c : tie.After-known-told2) → Entered (c .before .before .before .before .before .before .args .t .now) (c .before .before .before .before .before .before .args .desk) (c .before .entry2 .given .0 .0)
-here c = entered (c .before .before .before .before .before .before .args .t .now) (c .before .before .before .before .before .before .args .desk) _ (sym (c .before .entry2 .given .1) ∙ c .before .before .before .enter .ensures)
+-- the call, the table as it found it, and the place of its desk
+abbrev start : tie.After-known-told2 → tie.Start
+start a = a .before .before .before .before .before .before
 
-entered-at : (c : tie.After-known-told2) → Ready (c .before .before .before .before .before .before .args .t .now) (c .before .before .before .before .before .before .args .desk) (c .before .entry2 .given .0 .0 .all) (c .before .entry2 .given .0 .0 .start)
-entered-at c = ready (c .before .before .before .before .before .before .args .t .now) (c .before .before .before .before .before .before .args .desk) _ (here c) (λ i. c .before .before .before .before .before .slice-known .given i .fits)
+abbrev T : tie.After-known-told2 → List ℕ
+T a = start a .args .t .now
 
--- and k is read
-ready-at : (c : tie.After-struct-known) → Reads (c .before .before .before .before .before .before .before .before .before .args .t .now) (c .before .before .before .before .before .before .before .before .before .args .desk) (c .before .before .before .before .entry2 .given .0 .0 .all) (c .before .before .before .before .entry2 .given .0 .0 .positions) (c .before .before .before .before .entry2 .given .0 .0 .start) (c .before .word .result)
-ready-at c = reads (c .before .before .before .before .before .before .before .before .before .args .t .now) (c .before .before .before .before .before .before .before .before .before .args .desk) _ _ (here (c .before .before .before)) (entered-at (c .before .before .before)) (c .before .word .ensures .0)
+abbrev P : tie.After-known-told2 → Place
+P a = a .before .entry2 .given .0 .0
+
+here : (a : tie.After-known-told2) → Entered (T a) (start a .args .desk) (P a)
+here a = entered (sym (a .before .entry2 .given .1) ∙ a .before .before .before .enter .ensures)
+
+record-lent : (a : tie.After-known-told2) → Lent (T a) (start a .args .desk) (P a)
+record-lent a = lent (here a) (λ i. a .before .before .before .before .before .slice-known .given i .fits)
+
+-- the screens that it reads, once it knows k
+reading : (b : tie.After-struct-known) → let a = b .before .before .before in Reads (T a) (P a) (b .before .word .result)
+reading b = let a = b .before .before .before in reads (here a) (record-lent a) (b .before .word .ensures .0)
 
 enter-requires : tie.Need-enter-requires
 enter-requires c κs = search needs
@@ -33,95 +42,104 @@ enum-known-entry-2 : tie.Need-enum-known-entry-2
 enum-known-entry-2 c = search needs
 
 mul-e : tie.Need-mul-e
-mul-e c = let g = entered-at c in let e = g .end in let m = g .most in omega arith
+mul-e c = omega (arith, here c .most)
 
 add-e : tie.Need-add-e
-add-e c = let g = entered-at c in let e = g .end in let m = g .most in omega arith
+add-e c = omega (arith, here c .most)
 
 add-e-2 : tie.Need-add-e-2
-add-e-2 c = let g = entered-at c in let e = g .end in let m = g .most in omega arith
+add-e-2 c = omega (arith, here c .end)
 
 add-word : tie.Need-add-word
-add-word c = let g = entered-at (c .before) in let e = g .end in let m = g .most in omega arith
+add-word c = omega (arith, here (c .before) .end)
 
 word-requires : tie.Need-word-requires
-word-requires c κs = let g = entered-at (c .before) in let e = g .end in let m = g .most in omega arith
+word-requires c κs = omega (arith, here (c .before) .end)
 
 add-at : tie.Need-add-at
-add-at c = let g = ready-at c in let q = entered-at (c .before .before .before) in let e = q .end in let m = q .most in omega arith
+add-at c = omega (arith, reading c .there)
 
 add-at-2 : tie.Need-add-at-2
-add-at-2 c = let g = ready-at c in let q = entered-at (c .before .before .before) in let e = q .end in let m = q .most in omega arith
+add-at-2 c = let g = reading c in omega arith
 
 mul-x : tie.Need-mul-x
-mul-x c = let g = ready-at c in let q = entered-at (c .before .before .before) in let e = q .end in let m = q .most in omega arith
+mul-x c = let g = reading c in omega arith
 
 slice-read-x : tie.Need-slice-read-x
-slice-read-x c = let g = ready-at (c .before) in let q = entered-at (c .before .before .before .before) in let e = q .end in let m = q .most in omega arith
+slice-read-x c = let g = reading (c .before) in omega arith
 
 add-if1 : tie.Need-add-if1
-add-if1 c = let g = ready-at (c .before) in let q = entered-at (c .before .before .before .before) in let e = q .end in let m = q .most in omega arith
+add-if1 c = search needs
 
 add-y : tie.Need-add-y
-add-y c = let g = ready-at (c .before .before) in let q = entered-at (c .before .before .before .before .before) in let e = q .end in let m = q .most in omega arith
+add-y c = let g = reading (c .before .before) in omega arith
 
 mul-y : tie.Need-mul-y
-mul-y c = let g = ready-at (c .before .before) in let q = entered-at (c .before .before .before .before .before) in let e = q .end in let m = q .most in omega arith
+mul-y c = let g = reading (c .before .before) in omega arith
 
 slice-read-y : tie.Need-slice-read-y
-slice-read-y c = let g = ready-at (c .before .before .before) in let q = entered-at (c .before .before .before .before .before .before) in let e = q .end in let m = q .most in omega arith
+slice-read-y c = let g = reading (c .before .before .before) in omega arith
 
 mul-collect-record : tie.Need-mul-collect-record
-mul-collect-record c = let g = ready-at (c .before .before .before) in let q = entered-at (c .before .before .before .before .before .before) in let e = q .end in let m = q .most in omega arith
+mul-collect-record c = omega (arith, here (c .before .before .before .before .before .before) .end)
 
 sub-collect-record : tie.Need-sub-collect-record
-sub-collect-record c = let g = ready-at (c .before .before .before) in let q = entered-at (c .before .before .before .before .before .before) in let e = q .end in let m = q .most in omega arith
+sub-collect-record c = search needs
 
 part-collect-record-start : tie.Need-part-collect-record-start
-part-collect-record-start c = let g = ready-at (c .before .before .before) in let q = entered-at (c .before .before .before .before .before .before) in let e = q .end in let m = q .most in omega arith
+part-collect-record-start c = search needs
 
 part-collect-record-end : tie.Need-part-collect-record-end
-part-collect-record-end c = let g = ready-at (c .before .before .before) in let q = entered-at (c .before .before .before .before .before .before) in let e = q .end in let m = q .most in omega arith
+part-collect-record-end c = here (c .before .before .before .before .before .before) .end
 
 collect-record-requires : tie.Need-collect-record-requires
-collect-record-requires c κs = let g = ready-at (c .before .before .before .before) in let q = entered-at (c .before .before .before .before .before .before .before) in let i = g .scanned-is in let m = q .most in (q .encoded, omega arith, omega arith, omega arith)
+collect-record-requires c κs =
+    let b = c .before .before .before .before in
+    (record-lent (b .before .before .before) .encoded, omega (arith, reading b .scanned-is, here (b .before .before .before) .most), omega arith, omega arith)
 
 mul-collect-record-2 : tie.Need-mul-collect-record-2
-mul-collect-record-2 c = let g = ready-at (c .before .before) in let q = entered-at (c .before .before .before .before .before) in let e = q .end in let m = q .most in omega arith
+mul-collect-record-2 c = omega (arith, here (c .before .before .before .before .before) .end)
 
 sub-collect-record-2 : tie.Need-sub-collect-record-2
-sub-collect-record-2 c = let g = ready-at (c .before .before) in let q = entered-at (c .before .before .before .before .before) in let e = q .end in let m = q .most in omega arith
+sub-collect-record-2 c = search needs
 
 part-collect-record-start-2 : tie.Need-part-collect-record-start-2
-part-collect-record-start-2 c = let g = ready-at (c .before .before) in let q = entered-at (c .before .before .before .before .before) in let e = q .end in let m = q .most in omega arith
+part-collect-record-start-2 c = search needs
 
 part-collect-record-end-2 : tie.Need-part-collect-record-end-2
-part-collect-record-end-2 c = let g = ready-at (c .before .before) in let q = entered-at (c .before .before .before .before .before) in let e = q .end in let m = q .most in omega arith
+part-collect-record-end-2 c = here (c .before .before .before .before .before) .end
 
 collect-record-requires-2 : tie.Need-collect-record-requires-2
-collect-record-requires-2 c κs = let g = ready-at (c .before .before .before) in let q = entered-at (c .before .before .before .before .before .before) in let i = g .scanned-is in let m = q .most in (q .encoded, omega arith, omega arith, omega arith)
+collect-record-requires-2 c κs =
+    let b = c .before .before .before in
+    let g = reading b in
+    (record-lent (b .before .before .before) .encoded, omega (arith, g .scanned-is, here (b .before .before .before) .most), omega arith, omega arith)
 
 same-length : tie.Need-same-length
 same-length c = search needs
 
 returns : tie.Need-returns
-returns c = refused (c .before .before .before .before .before .before .args .t .now) (c .before .before .before .before .before .before .args .desk) (c .before .entry .given .0 .0) (Collect (c .before .before .before .before .before .before .args .desk)) _ refl (sym (c .before .entry .given .1) ∙ c .before .before .before .enter .ensures)
+returns c = refused (Collect _) (sym (c .before .entry .given .1) ∙ c .before .before .before .enter .ensures)
 
 same-length-2 : tie.Need-same-length-2
-same-length-2 c = let s = c .before .before .before .before .before .before .before .before .before .before .before .entry2 .given .0 .0 .all in let a = c .before .before .before .before .before .before .before .before .before .before .before .entry2 .given .0 .0 .start in same-len-mid {X = ℕ} a (a + widthFor s - a) (c .before .before .before .before .before .before .before .before .before .before .before .before .before .before .before .before .args .t .now) (c .before .before .collect-record .last .0) (c .before .before .collect-record .kept .0)
+same-length-2 c = search needs
 
 returns-2 : tie.Need-returns-2
 returns-2 c =
-    let g = ready-at (c .before .before .before .before .before .before .before) in
-    collect-told (c .before .before .before .before .before .before .before .before .before .before .before .before .before .before .before .before .args .t .now) (c .before .before .before .before .before .before .before .before .before .before .before .before .before .before .before .before .args .desk) _ _ (here (c .before .before .before .before .before .before .before .before .before .before)) (entered-at (c .before .before .before .before .before .before .before .before .before .before)) (g .scanned-is) _ (g .see-two (c .before .before .before .before .before .if1 .taken)) _ _ (c .before .before .collect-record .ensures .0) (c .before .before .collect-record .ensures .1)
+    let b = c .before .before .before .before .before .before .before in
+    let a = b .before .before .before in
+    let r = c .before .before .collect-record .ensures in
+    collect-told (here a) (record-lent a) _ (reading b .see-two (c .before .before .before .before .before .if1 .taken)) _ _ (r .0) (r .1)
 
 same-length-3 : tie.Need-same-length-3
-same-length-3 c = let s = c .before .before .before .before .before .before .before .before .before .before .entry2 .given .0 .0 .all in let a = c .before .before .before .before .before .before .before .before .before .before .entry2 .given .0 .0 .start in same-len-mid {X = ℕ} a (a + widthFor s - a) (c .before .before .before .before .before .before .before .before .before .before .before .before .before .before .before .args .t .now) (c .before .before .collect-record2 .last .0) (c .before .before .collect-record2 .kept .0)
+same-length-3 c = search needs
 
 returns-3 : tie.Need-returns-3
 returns-3 c =
-    let g = ready-at (c .before .before .before .before .before .before) in
-    collect-told (c .before .before .before .before .before .before .before .before .before .before .before .before .before .before .before .args .t .now) (c .before .before .before .before .before .before .before .before .before .before .before .before .before .before .before .args .desk) _ _ (here (c .before .before .before .before .before .before .before .before .before)) (entered-at (c .before .before .before .before .before .before .before .before .before)) (g .scanned-is) _ (g .see-one (c .before .before .before .before .if1 .left)) _ _ (c .before .before .collect-record2 .ensures .0) (c .before .before .collect-record2 .ensures .1)
+    let b = c .before .before .before .before .before .before in
+    let a = b .before .before .before in
+    let r = c .before .before .collect-record2 .ensures in
+    collect-told (here a) (record-lent a) _ (reading b .see-one (c .before .before .before .before .if1 .left)) _ _ (r .0) (r .1)
 
 pub collect-spec : {M : Type 1} → statement M
 collect-spec =

@@ -1,74 +1,89 @@
 -- `board::enter` meets its contract.
-use Prim.Native.Nat.{_-_, _*_, _≤_}
+use Prim.Native.Nat.{ℕ, _-_, _*_, _≤_}
 use native.Mathlib.Omega.{arith}
 use mathlib.Core.Bool.{true}
-use mathlib.Core.Path.{_≡_, sym, ap₂, _∙_}
+use mathlib.Core.List.{List}
+use mathlib.Core.Path.{_≡_, ap₂, _∙_}
 use borrow.Author.Needs.{needs}
 use Rattle.rules.specs.Hall.{allScreens, hallLimits}
 use Rattle.rules.specs.Steps.{inRange}
-use Rattle.rules.specs.Table.{hallIn, recordStart, sound, startFor}
+use Rattle.rules.specs.Table.{hallIn, sound, startFor}
 use Rattle.rules.specs.laws.Effect.{in-range}
-use Rattle.rules.specs.laws.TableSteps.{Known, known}
-use Rattle.marks.proofs.BoolLaws.{not-false, not-true}
+use Rattle.rules.specs.laws.TableSteps.{known}
 use Rattle.board.specs.declared.Entry.{Entry}
 use Rattle.board.specs.Entry.{entryOf}
-use Rattle.board.proofs.SoundLaws.{is-in, is-out}
+use Rattle.board.proofs.SoundLaws.{said-no, said-yes}
 use Rattle.board.proofs.enter.Statement.{statement}
 use Rattle.board.proofs.enter.Tie as tie
 
--- the table is sound
-table-is-sound : (c : tie.Else1) → sound hallLimits (c .before .before .before .args .t .now) ≡ true
-table-is-sound c = sym (c .before .sound .ensures) ∙ not-false (c .if1 .left)
+-- the call, and the table that it is lent
+abbrev start : tie.Else1 → tie.Start
+start a = a .before .before .before
 
-facts : (c : tie.Else1) → Known (c .before .before .before .args .t .now)
-facts c = known hallLimits (c .before .before .before .args .t .now) (table-is-sound c)
+abbrev T : tie.Else1 → List ℕ
+T a = start a .args .t .now
+
+is-sound : (a : tie.Else1) → sound hallLimits (T a) ≡ true
+is-sound a = said-yes (a .before .sound .ensures) (a .if1 .left)
 
 -- the desk is one of the hall's
-is-desk : (c : tie.Else2) → inRange (c .before .before .before .before .before .before .args .desk) (hallIn (c .before .before .before .before .before .before .args .t .now) .desks) ≡ true
-is-desk c = is-in (c .before .in-range .result) (c .before .before .before .before .before .before .args .desk) (c .before .before .word .result) (hallIn (c .before .before .before .before .before .before .args .t .now) .desks) (c .before .in-range .ensures) (c .before .before .word .ensures .0) (c .if2 .left)
+is-desk : (b : tie.Else2) → let a = b .before .before .before in inRange (start a .args .desk) (hallIn (T a) .desks) ≡ true
+is-desk b = rw (b .before .before .word .ensures .0) at (said-yes (b .before .in-range .ensures) (b .if2 .left))
 
-desk-range : (c : tie.Else2) → (1 ≤ c .before .before .before .before .before .before .args .desk) × (c .before .before .before .before .before .before .args .desk ≤ hallIn (c .before .before .before .before .before .before .args .t .now) .desks)
-desk-range c = in-range (c .before .before .before .before .before .before .args .desk) (hallIn (c .before .before .before .before .before .before .args .t .now) .desks) (is-desk c)
+desk-range : (b : tie.Else2) → let a = b .before .before .before in (1 ≤ start a .args .desk) × (start a .args .desk ≤ hallIn (T a) .desks)
+desk-range b = let a = b .before .before .before in in-range (start a .args .desk) (hallIn (T a) .desks) (is-desk b)
 
 -- the hall's screens
-all-is : (c : tie.After-word3) → c .before .before .before .before .word .result * c .before .word2 .result ≡ allScreens (hallIn (c .before .before .before .before .before .before .before .before .args .t .now))
-all-is c = ap₂ _*_ (c .before .before .before .before .word .ensures .0) (c .before .word2 .ensures .0)
+all-is : (w : tie.After-word3) → let v = w .before .before .before .before in v .word .result * w .before .word2 .result ≡ allScreens (hallIn (T (v .before)))
+all-is w = ap₂ _*_ (w .before .before .before .before .word .ensures .0) (w .before .word2 .ensures .0)
 
 sound-requires : tie.Need-sound-requires
 sound-requires c κs = search needs
 
 returns : tie.Need-returns
 unfolding entryOf
-returns c = simp (sym (c .before .sound .ensures) ∙ not-true (c .if1 .taken))
+returns c = rw (said-no (c .before .sound .ensures) (c .if1 .taken))
 
 word-requires : tie.Need-word-requires
-word-requires c κs = let f = facts c in omega arith
+word-requires c κs = let f = known hallLimits (T c) (is-sound c) in omega arith
 
 in-range-requires : tie.Need-in-range-requires
 in-range-requires c κs = search needs
 
 returns-2 : tie.Need-returns-2
 unfolding entryOf
-returns-2 c = simp (table-is-sound (c .before .before .before), is-out (c .before .in-range .result) (c .before .before .before .before .before .before .args .desk) (c .before .before .word .result) (hallIn (c .before .before .before .before .before .before .args .t .now) .desks) (c .before .in-range .ensures) (c .before .before .word .ensures .0) (c .if2 .taken))
+returns-2 c =
+    let w = c .before .before in
+    rw (is-sound (w .before), ← w .word .ensures .0, said-no (c .before .in-range .ensures) (c .if2 .taken))
 
 word-requires-2 : tie.Need-word-requires-2
-word-requires-2 c κs = let f = facts (c .before .before .before) in omega arith
+word-requires-2 c κs = let a = c .before .before .before in let f = known hallLimits (T a) (is-sound a) in omega arith
 
 word-requires-3 : tie.Need-word-requires-3
-word-requires-3 c κs = let f = facts (c .before .before .before .before) in omega arith
+word-requires-3 c κs = let a = c .before .before .before .before in let f = known hallLimits (T a) (is-sound a) in omega arith
 
 mul-s : tie.Need-mul-s
-mul-s c = let f = facts (c .before .before .before .before .before) in let e = all-is c in let r = desk-range (c .before .before) in let l = c .word3 .ensures .0 in omega arith
+mul-s c = let a = c .before .before .before .before .before in omega (arith, all-is c, known hallLimits (T a) (is-sound a) .most)
 
 sub-record-start : tie.Need-sub-record-start
-sub-record-start c = let f = facts (c .before .before .before .before .before) in let e = all-is c in let r = desk-range (c .before .before) in let l = c .word3 .ensures .0 in omega arith
+sub-record-start c = omega (arith, desk-range (c .before .before))
 
 record-start-requires : tie.Need-record-start-requires
-record-start-requires c κs = let f = facts (c .before .before .before .before .before) in let e = all-is c in let r = desk-range (c .before .before) in let l = c .word3 .ensures .0 in omega arith
+record-start-requires c κs =
+    let a = c .before .before .before .before .before in
+    let f = known hallLimits (T a) (is-sound a) in
+    omega (arith, all-is c, c .word3 .ensures .0, desk-range (c .before .before))
 
 returns-3 : tie.Need-returns-3
 unfolding entryOf
-returns-3 c = let e = all-is (c .before) in let g : c .record-start .result ≡ recordStart (hallIn (c .before .before .before .before .before .before .before .before .before .args .t .now)) (c .before .before .before .before .before .before .before .before .before .args .desk) = c .record-start .ensures .0 ∙ (λ i. startFor (c .before .word3 .ensures .0 i) (e i) (c .before .before .before .before .before .before .before .before .before .args .desk - 1)) in simp (table-is-sound (c .before .before .before .before .before .before), is-desk (c .before .before .before)) (λ i. Entry.At (record { positions = c .before .word3 .ensures .0 i; screens = c .before .before .word2 .ensures .0 i; all = e i; start = g i }))
+returns-3 c =
+    let w = c .before in
+    let b = w .before .before in
+    let a = b .before .before .before in
+    let l = w .word3 .ensures .0 in
+    let s = all-is w in
+    let at = c .record-start .ensures .0 ∙ ap₂ (λ (x y : ℕ). startFor x y (start a .args .desk - 1)) l s in
+    rw (is-sound a, is-desk b) (λ i. Entry.At (record { positions = l i; screens = w .before .word2 .ensures .0 i; all = s i; start = at i }))
 
 pub enter-spec : {M : Type 1} → statement M
 enter-spec =

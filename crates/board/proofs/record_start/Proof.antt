@@ -1,9 +1,16 @@
 -- `board::record_start` meets its contract.
+use Prim.Native.Nat.{_*_, _≤_}
+use native.Mathlib.Nat.{mul-le-mul}
 use native.Mathlib.Omega.{arith}
 use borrow.Author.Needs.{needs}
-use Rattle.board.proofs.Rows.{records-bound}
+use Rattle.rules.specs.Hall.{mostAllScreens, mostDesks}
+use Rattle.rules.specs.Table.{widthFor}
 use Rattle.board.proofs.record_start.Statement.{statement}
 use Rattle.board.proofs.record_start.Tie as tie
+
+-- the records before it, at most all those of the largest hall
+before : (c : tie.Start) → c .args .d * widthFor (c .args .s) ≤ mostDesks * widthFor mostAllScreens
+before c = let h : widthFor (c .args .s) ≤ widthFor mostAllScreens = omega arith in mul-le-mul (c .pre .2) h
 
 add-result : tie.Need-add-result
 add-result c = search needs
@@ -18,13 +25,13 @@ add-result-3 : tie.Need-add-result-3
 add-result-3 c = search needs
 
 mul-result-2 : tie.Need-mul-result-2
-mul-result-2 c = omega (arith, records-bound (c .args .d) (c .args .s) (c .pre .2) (c .pre .1))
+mul-result-2 c = omega (arith, before c)
 
 add-result-4 : tie.Need-add-result-4
-add-result-4 c = omega (arith, records-bound (c .args .d) (c .args .s) (c .pre .2) (c .pre .1))
+add-result-4 c = omega (arith, before c)
 
 returns : tie.Need-returns
-returns c = omega (arith, records-bound (c .args .d) (c .args .s) (c .pre .2) (c .pre .1))
+returns c = omega (arith, before c)
 
 pub record-start-spec : {M : Type 1} → statement M
 record-start-spec =

@@ -1,18 +1,7 @@
 -- `board::step` meets its contract: each case is the step's own.
-use Prim.Native.Nat.{ℕ}
 use borrow.Author.Needs.{needs}
-use mathlib.Core.Path.{_≡_, ap, sym, _∙_}
-use mathlib.Core.List.{List}
-use Rattle.rules.specs.Hall.{hallLimits}
-use Rattle.rules.specs.Table.{TableDone, stepTable}
-use Rattle.board.specs.declared.Call.{Call}
-use Rattle.board.specs.Asked.{callOf}
 use Rattle.board.proofs.step.Statement.{statement}
 use Rattle.board.proofs.step.Tie as tie
-
--- what the step did is what the call that names it asks
-as-asked : (t : List ℕ) (call named : Call) (done : TableDone) → call ≡ named → done ≡ stepTable hallLimits t (callOf named) → done ≡ stepTable hallLimits t (callOf call)
-as-asked t call named done e told = told ∙ sym (ap (λ (x : Call). stepTable hallLimits t (callOf x)) e)
 
 enum-known-call : tie.Need-enum-known-call
 enum-known-call c = search needs
@@ -48,31 +37,31 @@ same-length : tie.Need-same-length
 same-length c = search needs
 
 returns : tie.Need-returns
-returns c = as-asked (c .before .before .before .before .before .before .before .before .args .t .now) (c .before .before .before .before .before .before .before .before .args .call) _ _ (c .before .before .before .before .before .call .given .1) (c .before .before .take .ensures)
+returns c = rw (c .before .before .before .before .before .call .given .1) (c .before .before .take .ensures)
 
 same-length-2 : tie.Need-same-length-2
 same-length-2 c = search needs
 
 returns-2 : tie.Need-returns-2
-returns-2 c = as-asked (c .before .before .before .before .before .before .before .before .args .t .now) (c .before .before .before .before .before .before .before .before .args .call) _ _ (c .before .before .before .before .before .call2 .given .1) (c .before .before .drop .ensures)
+returns-2 c = rw (c .before .before .before .before .before .call2 .given .1) (c .before .before .drop .ensures)
 
 same-length-3 : tie.Need-same-length-3
 same-length-3 c = search needs
 
 returns-3 : tie.Need-returns-3
-returns-3 c = as-asked (c .before .before .before .before .before .before .before .before .args .t .now) (c .before .before .before .before .before .before .before .before .args .call) _ _ (c .before .before .before .before .before .call3 .given .1) (c .before .before .swap .ensures)
+returns-3 c = rw (c .before .before .before .before .before .call3 .given .1) (c .before .before .swap .ensures)
 
 same-length-4 : tie.Need-same-length-4
 same-length-4 c = search needs
 
 returns-4 : tie.Need-returns-4
-returns-4 c = as-asked (c .before .before .before .before .before .before .before .before .args .t .now) (c .before .before .before .before .before .before .before .before .args .call) _ _ (c .before .before .before .before .before .call4 .given .1) (c .before .before .retire .ensures)
+returns-4 c = rw (c .before .before .before .before .before .call4 .given .1) (c .before .before .retire .ensures)
 
 same-length-5 : tie.Need-same-length-5
 same-length-5 c = search needs
 
 returns-5 : tie.Need-returns-5
-returns-5 c = as-asked (c .before .before .before .before .before .before .before .before .args .t .now) (c .before .before .before .before .before .before .before .before .args .call) _ _ (c .before .before .before .before .before .call5 .given .1) (c .before .before .collect .ensures)
+returns-5 c = rw (c .before .before .before .before .before .call5 .given .1) (c .before .before .collect .ensures)
 
 pub step-spec : {M : Type 1} → statement M
 step-spec =

@@ -1,32 +1,37 @@
 -- `board::take` meets its contract.
 use native.Mathlib.Omega.{arith}
-use mathlib.Core.Bool.{true}
-use mathlib.Core.Path.{_≡_, refl, sym, _∙_}
+use Prim.Native.Nat.{ℕ}
+use mathlib.Core.List.{List}
+use mathlib.Core.Path.{sym, _∙_}
 use borrow.Author.Needs.{needs}
-use Rattle.rules.specs.Steps.{Take, inRange}
-use Rattle.rules.specs.Table.{hallIn}
+use Rattle.rules.specs.Steps.{Take}
+use Rattle.board.specs.declared.Place.{Place}
 use Rattle.board.proofs.EntryLaws.{Entered, entered, refused}
-use Rattle.board.proofs.SoundLaws.{Reach, reach, is-in, is-out}
-use Rattle.board.proofs.StepLaws.{take-no-screen, take-no-position, take-screen-in-use, take-position-empty, take-accepted, Stands, stands}
+use Rattle.board.proofs.PlaceLaws.{AtPosition, AtScreen, at-position, at-screen}
+use Rattle.board.proofs.SoundLaws.{said-no, said-yes}
+use Rattle.board.proofs.StepLaws.{take-accepted, take-no-position, take-no-screen, take-position-empty, take-screen-in-use}
 use Rattle.board.proofs.take.Statement.{statement}
 use Rattle.board.proofs.take.Tie as tie
 
--- the first questions are answered
-here : (c : tie.After-known-told2) → Entered (c .before .before .before .before .before .before .args .t .now) (c .before .before .before .before .before .before .args .desk) (c .before .entry2 .given .0 .0)
-here c = entered (c .before .before .before .before .before .before .args .t .now) (c .before .before .before .before .before .before .args .desk) (c .before .entry2 .given .0 .0) (sym (c .before .entry2 .given .1) ∙ c .before .before .before .enter .ensures)
+-- the call, the table as it found it, and the place of its desk
+abbrev start : tie.After-known-told2 → tie.Start
+start a = a .before .before .before .before .before .before
 
--- the screen is one of the desk's, and the position one of the hall's
-is-screen : (c : tie.Else1) → inRange (c .before .before .before .before .before .before .before .before .args .screen) (hallIn (c .before .before .before .before .before .before .before .before .args .t .now) .screens) ≡ true
-is-screen c = is-in (c .before .in-range .result) (c .before .before .before .before .before .before .before .before .args .screen) (c .before .before .before .entry2 .given .0 .0 .screens) (hallIn (c .before .before .before .before .before .before .before .before .args .t .now) .screens) (c .before .in-range .ensures) (here (c .before .before) .screens-is) (c .if1 .left)
+abbrev T : tie.After-known-told2 → List ℕ
+T a = start a .args .t .now
 
-is-position : (c : tie.Else2) → inRange (c .before .before .before .before .before .before .before .before .before .before .args .position) (hallIn (c .before .before .before .before .before .before .before .before .before .before .args .t .now) .positions) ≡ true
-is-position c = is-in (c .before .in-range2 .result) (c .before .before .before .before .before .before .before .before .before .before .args .position) (c .before .before .before .before .before .entry2 .given .0 .0 .positions) (hallIn (c .before .before .before .before .before .before .before .before .before .before .args .t .now) .positions) (c .before .in-range2 .ensures) (here (c .before .before .before .before) .positions-is) (c .if2 .left)
+abbrev P : tie.After-known-told2 → Place
+P a = a .before .entry2 .given .0 .0
 
-spot : (c : tie.Else2) → Reach (c .before .before .before .before .before .before .before .before .before .before .args .t .now) (c .before .before .before .before .before .before .before .before .before .before .args .desk) (c .before .before .before .before .before .before .before .before .before .before .args .screen) (c .before .before .before .before .before .entry2 .given .0 .0 .positions) (c .before .before .before .before .before .entry2 .given .0 .0 .screens)
-spot c = let e = here (c .before .before .before .before) in reach (c .before .before .before .before .before .before .before .before .before .before .args .t .now) (e .facts) (c .before .before .before .before .before .before .before .before .before .before .args .desk) (c .before .before .before .before .before .before .before .before .before .before .args .screen) _ _ (e .screens-is) (e .positions-is) (e .range .0) (e .range .1) (is-screen (c .before .before))
+here : (a : tie.After-known-told2) → Entered (T a) (start a .args .desk) (P a)
+here a = entered (sym (a .before .entry2 .given .1) ∙ a .before .before .before .enter .ensures)
 
-place-at : (c : tie.Else2) → Stands (c .before .before .before .before .before .before .before .before .before .before .args .t .now) (c .before .before .before .before .before .entry2 .given .0 .0 .positions) (c .before .before .before .before .before .before .before .before .before .before .args .position) (c .before .before .before .before .before .entry2 .given .0 .0 .start)
-place-at c = stands (c .before .before .before .before .before .before .before .before .before .before .args .t .now) (c .before .before .before .before .before .before .before .before .before .before .args .desk) (c .before .before .before .before .before .before .before .before .before .before .args .position) _ (here (c .before .before .before .before)) (is-position c)
+-- its screen and its position, where they are in range
+screen-at : (c : tie.Else1) → let a = c .before .before in AtScreen (T a) (start a .args .desk) (start a .args .screen) (P a)
+screen-at c = at-screen (here (c .before .before)) (said-yes (c .before .in-range .ensures) (c .if1 .left))
+
+position-at : (c : tie.Else2) → let a = c .before .before .before .before in AtPosition (T a) (start a .args .position)
+position-at c = at-position (here (c .before .before .before .before)) (said-yes (c .before .in-range2 .ensures) (c .if2 .left))
 
 enter-requires : tie.Need-enter-requires
 enter-requires c κs = search needs
@@ -44,7 +49,7 @@ same-length : tie.Need-same-length
 same-length c = search needs
 
 returns : tie.Need-returns
-returns c = let e = here (c .before .before) in take-no-screen (c .before .before .before .before .before .before .before .before .args .t .now) (c .before .before .before .before .before .before .before .before .args .desk) (c .before .before .before .before .before .before .before .before .args .screen) (c .before .before .before .before .before .before .before .before .args .position) _ e (is-out (c .before .in-range .result) (c .before .before .before .before .before .before .before .before .args .screen) (c .before .before .before .entry2 .given .0 .0 .screens) (hallIn (c .before .before .before .before .before .before .before .before .args .t .now) .screens) (c .before .in-range .ensures) (e .screens-is) (c .if1 .taken))
+returns c = take-no-screen (here (c .before .before)) _ _ (said-no (c .before .in-range .ensures) (c .if1 .taken))
 
 in-range-requires-2 : tie.Need-in-range-requires-2
 in-range-requires-2 c κs = search needs
@@ -53,73 +58,81 @@ same-length-2 : tie.Need-same-length-2
 same-length-2 c = search needs
 
 returns-2 : tie.Need-returns-2
-returns-2 c = let e = here (c .before .before .before .before) in take-no-position (c .before .before .before .before .before .before .before .before .before .before .args .t .now) (c .before .before .before .before .before .before .before .before .before .before .args .desk) (c .before .before .before .before .before .before .before .before .before .before .args .screen) (c .before .before .before .before .before .before .before .before .before .before .args .position) _ e (is-screen (c .before .before)) (is-out (c .before .in-range2 .result) (c .before .before .before .before .before .before .before .before .before .before .args .position) (c .before .before .before .before .before .entry2 .given .0 .0 .positions) (hallIn (c .before .before .before .before .before .before .before .before .before .before .args .t .now) .positions) (c .before .in-range2 .ensures) (e .positions-is) (c .if2 .taken))
+returns-2 c =
+    let b = c .before .before in
+    take-no-position (here (b .before .before)) (screen-at b) _ (said-no (c .before .in-range2 .ensures) (c .if2 .taken))
 
 add-at : tie.Need-add-at
-add-at c = let h = spot c in let s = place-at c in omega arith
+add-at c = let s = screen-at (c .before .before) in omega arith
 
 sub-at : tie.Need-sub-at
-sub-at c = let h = spot c in let s = place-at c in omega arith
+sub-at c = let s = screen-at (c .before .before) in omega arith
 
 mul-at : tie.Need-mul-at
-mul-at c = let h = spot c in let s = place-at c in omega arith
+mul-at c = let s = screen-at (c .before .before) in omega arith
 
 sub-at-2 : tie.Need-sub-at-2
-sub-at-2 c = let h = spot c in let s = place-at c in omega arith
+sub-at-2 c = let s = screen-at (c .before .before) in omega arith
 
 add-at-2 : tie.Need-add-at-2
-add-at-2 c = let h = spot c in let s = place-at c in omega arith
+add-at-2 c = let s = screen-at (c .before .before) in omega arith
 
 add-at-3 : tie.Need-add-at-3
-add-at-3 c = let h = spot c in let s = place-at c in omega arith
+add-at-3 c = let s = screen-at (c .before .before) in omega arith
 
 mul-if3 : tie.Need-mul-if3
-mul-if3 c = let h = spot c in let s = place-at c in omega arith
+mul-if3 c = let s = screen-at (c .before .before) in omega arith
 
 slice-read-if3 : tie.Need-slice-read-if3
-slice-read-if3 c = let h = spot (c .before) in let s = place-at (c .before) in omega arith
+slice-read-if3 c = let s = screen-at (c .before .before .before) in omega arith
 
 same-length-3 : tie.Need-same-length-3
 same-length-3 c = search needs
 
 returns-3 : tie.Need-returns-3
-returns-3 c = take-screen-in-use (c .before .before .before .before .before .before .before .before .before .before .before .before .args .t .now) (c .before .before .before .before .before .before .before .before .before .before .before .before .args .desk) (c .before .before .before .before .before .before .before .before .before .before .before .before .args .screen) (c .before .before .before .before .before .before .before .before .before .before .before .before .args .position) _ (here (c .before .before .before .before .before .before)) (is-screen (c .before .before .before .before)) (is-position (c .before .before)) _ (spot (c .before .before) .is) (c .if3 .taken)
+returns-3 c =
+    let b = c .before .before in
+    take-screen-in-use (here (b .before .before .before .before)) (screen-at (b .before .before)) (position-at b) (c .if3 .taken)
 
 sub-held : tie.Need-sub-held
-sub-held c = let h = spot (c .before .before) in let s = place-at (c .before .before) in omega arith
+sub-held c = let h = position-at (c .before .before) in omega arith
 
 add-held : tie.Need-add-held
-add-held c = let h = spot (c .before .before) in let s = place-at (c .before .before) in omega arith
+add-held c = search needs
 
 mul-held : tie.Need-mul-held
-mul-held c = let h = spot (c .before .before) in let s = place-at (c .before .before) in omega arith
+mul-held c = search needs
 
 slice-read-held : tie.Need-slice-read-held
-slice-read-held c = let h = spot (c .before .before .before) in let s = place-at (c .before .before .before) in omega arith
+slice-read-held c = let h = position-at (c .before .before .before) in omega arith
 
 same-length-4 : tie.Need-same-length-4
 same-length-4 c = search needs
 
 returns-4 : tie.Need-returns-4
-returns-4 c = take-position-empty (c .before .before .before .before .before .before .before .before .before .before .before .before .before .before .args .t .now) (c .before .before .before .before .before .before .before .before .before .before .before .before .before .before .args .desk) (c .before .before .before .before .before .before .before .before .before .before .before .before .before .before .args .screen) (c .before .before .before .before .before .before .before .before .before .before .before .before .before .before .args .position) _ (here (c .before .before .before .before .before .before .before .before)) (is-screen (c .before .before .before .before .before .before)) (is-position (c .before .before .before .before)) _ (spot (c .before .before .before .before) .is) (c .before .before .if3 .left) (c .if4 .taken)
+returns-4 c =
+    let b = c .before .before .before .before in
+    take-position-empty (here (b .before .before .before .before)) (screen-at (b .before .before)) (position-at b) (c .before .before .if3 .left) (c .if4 .taken)
 
 mul-t : tie.Need-mul-t
-mul-t c = let h = spot (c .before .before .before .before) in let s = place-at (c .before .before .before .before) in omega arith
+mul-t c = let s = screen-at (c .before .before .before .before .before .before) in omega arith
 
 slice-write-t : tie.Need-slice-write-t
-slice-write-t c = let h = spot (c .before .before .before .before) in let s = place-at (c .before .before .before .before) in omega arith
+slice-write-t c = let s = screen-at (c .before .before .before .before .before .before) in omega arith
 
 same-length-5 : tie.Need-same-length-5
 same-length-5 c = search needs
 
 returns-5 : tie.Need-returns-5
-returns-5 c = refused (c .before .before .before .before .before .before .args .t .now) (c .before .before .before .before .before .before .args .desk) (c .before .entry .given .0 .0) (Take (c .before .before .before .before .before .before .args .desk) (c .before .before .before .before .before .before .args .screen) (c .before .before .before .before .before .before .args .position)) _ refl (sym (c .before .entry .given .1) ∙ c .before .before .before .enter .ensures)
+returns-5 c = refused (Take _ _ _) (sym (c .before .entry .given .1) ∙ c .before .before .before .enter .ensures)
 
 same-length-6 : tie.Need-same-length-6
 same-length-6 c = search needs
 
 returns-6 : tie.Need-returns-6
-returns-6 c = take-accepted (c .before .before .before .before .before .before .before .before .before .before .before .before .before .before .args .t .now) (c .before .before .before .before .before .before .before .before .before .before .before .before .before .before .args .desk) (c .before .before .before .before .before .before .before .before .before .before .before .before .before .before .args .screen) (c .before .before .before .before .before .before .before .before .before .before .before .before .before .before .args .position) _ (here (c .before .before .before .before .before .before .before .before)) (is-screen (c .before .before .before .before .before .before)) (is-position (c .before .before .before .before)) _ (spot (c .before .before .before .before) .is) (c .before .before .if3 .left) (c .if4 .left)
+returns-6 c =
+    let b = c .before .before .before .before in
+    take-accepted (here (b .before .before .before .before)) (screen-at (b .before .before)) (position-at b) (c .before .before .if3 .left) (c .if4 .left)
 
 pub take-spec : {M : Type 1} → statement M
 take-spec =

@@ -1,11 +1,12 @@
-use Prim.Native.Nat.{ℕ, _≤_, _<_, _+_, _-_, _*_}
-use mathlib.Core.Path.{_≡_, refl, subst}
+-- `host::decode` meets its contract.
+use Prim.Native.Nat.{_≤_, _+_, _-_, _*_}
+use mathlib.Core.Path.{_≡_}
 use native.Mathlib.Omega.{arith}
 use borrow.Author.Needs.{needs}
 use lib.ListN.{length, take, length-set}
 use Rattle.rules.specs.Bytes.{wordsOfBytes}
 use Rattle.rules.specs.laws.Bytes.{words-length}
-use Rattle.host.proofs.WordLaws.{word-at2, read-more}
+use Rattle.host.proofs.WordLaws.{read-more, word-at}
 use Rattle.host.proofs.decode.Statement.{statement}
 use Rattle.host.proofs.decode.Tie as tie
 
@@ -17,7 +18,7 @@ abbrev μ-loop : tie.MeasureT-loop
 μ-loop bytes n words₀ i₀ words i = n - i
 
 loop-holds : tie.Need-loop-holds Inv-loop μ-loop
-loop-holds c = (omega arith, refl, refl)
+loop-holds c = search needs
 
 mul-low : tie.Need-mul-low Inv-loop μ-loop
 mul-low c = search needs
@@ -44,9 +45,7 @@ mul-words : tie.Need-mul-words Inv-loop μ-loop
 mul-words c = omega (arith, c .shared-slice-known2 .given (2 * c .before .before .before .loop .i + 1))
 
 add-words : tie.Need-add-words Inv-loop μ-loop
-add-words c =
-    omega
-    (arith, c .shared-slice-known2 .given (2 * c .before .before .before .loop .i + 1), c .shared-slice-known2 .given (2 * c .before .before .before .loop .i))
+add-words c = let i = c .before .before .before .loop .i in omega (arith, c .shared-slice-known2 .given (2 * i + 1), c .shared-slice-known2 .given (2 * i))
 
 mul-words-2 : tie.Need-mul-words-2 Inv-loop μ-loop
 mul-words-2 c = search needs
@@ -63,12 +62,10 @@ loop-less c = search needs
 loop-again : tie.Need-loop-again Inv-loop μ-loop
 loop-again c =
     let l = c .before .before .before .loop in
-    let s = c .before .before .before .before .args in
-    let h : l .i + l .i + 1 < length (s .bytes .now) = omega arith in (
+    let bytes = c .before .before .before .before .args .bytes .now in (
       omega arith,
       simp length-set (l .inv .1),
-      read-more (l .words) (wordsOfBytes (s .bytes .now)) (l .i) _ (omega arith) (omega (arith, words-length (s .bytes .now)))
-          (word-at2 (s .bytes .now) (l .i) h) (l .inv .2),
+      read-more (l .words) (wordsOfBytes bytes) (l .i) _ (omega arith) (omega (arith, words-length bytes)) (word-at bytes (l .i) (omega arith)) (l .inv .2),
     )
 
 same-length : tie.Need-same-length Inv-loop μ-loop
@@ -77,9 +74,8 @@ same-length c = search needs
 returns : tie.Need-returns Inv-loop μ-loop
 returns c =
     let l = c .before .loop in
-    let s = c .before .before .args in
-    let e : l .i ≡ s .n = omega arith in
-    subst (λ (k : ℕ). take k (l .words) ≡ take k (wordsOfBytes (s .bytes .now))) e (l .inv .2)
+    let e : l .i ≡ c .before .before .args .n = omega arith in
+    rw e at (l .inv .2)
 
 pub decode-spec : {M : Type 1} → statement M
 decode-spec =

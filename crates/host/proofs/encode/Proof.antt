@@ -1,9 +1,9 @@
-use Prim.Native.Nat.{ℕ, _≤_, _+_, _-_, _*_, _/_, _%_}
-use mathlib.Core.List.{List}
-use mathlib.Core.Path.{_≡_, refl, _∙_, ap}
+-- `host::encode` meets its contract.
+use Prim.Native.Nat.{_≤_, _-_}
+use mathlib.Core.Path.{_≡_, refl}
 use native.Mathlib.Omega.{arith}
 use borrow.Author.Needs.{needs}
-use lib.ListN.{length, take, getD, set, length-set}
+use lib.ListN.{length, take, length-set}
 use Rattle.rules.specs.Bytes.{laidOver}
 use Rattle.host.proofs.WordLaws.{write-more, nothing-laid}
 use Rattle.host.proofs.encode.Statement.{statement}
@@ -54,13 +54,8 @@ loop-less c = search needs
 loop-again : tie.Need-loop-again Inv-loop μ-loop
 loop-again c =
     let l = c .before .before .loop in
-    let s = c .before .before .before .args in (
-      omega arith,
-      simp length-set (l .inv .1),
-      ap (λ (x : List ℕ). set (set x (2 * l .i) (getD (s .words .now) (l .i) 0 % 256)) (2 * l .i + 1) (getD (s .words .now) (l .i) 0 / 256 % 256))
-          (l .inv .2)
-          ∙ write-more (s .words .now) (s .bytes .now) (l .i) (omega arith) (omega arith),
-    )
+    let o = c .before .before .before .args in
+    (omega arith, simp length-set (l .inv .1), rw (l .inv .2) (write-more (o .words .now) (o .bytes .now) (l .i) (omega arith) (omega arith)))
 
 same-length : tie.Need-same-length Inv-loop μ-loop
 same-length c = search needs
@@ -68,9 +63,8 @@ same-length c = search needs
 returns : tie.Need-returns Inv-loop μ-loop
 returns c =
     let l = c .before .loop in
-    let s = c .before .before .args in
-    let e : l .i ≡ s .n = omega arith in
-    l .inv .2 ∙ ap (λ (k : ℕ). laidOver (take k (s .words .now)) (s .bytes .now)) e
+    let e : l .i ≡ c .before .before .args .n = omega arith in
+    rw e at (l .inv .2)
 
 pub encode-spec : {M : Type 1} → statement M
 encode-spec =

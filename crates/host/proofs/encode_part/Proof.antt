@@ -1,7 +1,6 @@
 -- `host::encode_part` meets its contract.
-use native.Mathlib.Omega.{arith}
 use borrow.Author.Needs.{needs}
-use Rattle.host.proofs.PartLaws.{part-lent, part-there}
+use Rattle.host.proofs.PartLaws.{part-lent}
 use Rattle.host.proofs.encode_part.Statement.{statement}
 use Rattle.host.proofs.encode_part.Tie as tie
 
@@ -36,13 +35,15 @@ part-encode-end-2 : tie.Need-part-encode-end-2
 part-encode-end-2 c = search needs
 
 encode-requires : tie.Need-encode-requires
-encode-requires c κs = part-there (c .before .before .before .before .args .a) (c .before .before .before .before .args .e) (c .before .before .before .before .args .words .now) (c .before .before .before .before .args .bytes .now) (omega arith) (omega arith) (omega arith)
+encode-requires c κs = search needs
 
 same-length : tie.Need-same-length
 same-length c = search needs
 
 returns : tie.Need-returns
-returns c = part-lent (c .before .before .before .before .before .before .before .args .a) (c .before .before .before .before .before .before .before .args .e) (c .before .before .before .before .before .before .before .args .words .now) (c .before .before .before .before .before .before .before .args .bytes .now) _ (omega arith) (omega arith) (omega arith) (c .before .before .encode .ensures)
+returns c =
+    let o = c .before .before .before .before .before .before .before in
+    part-lent (o .args .a) (o .args .e) (o .args .words .now) (o .args .bytes .now) _ (o .pre .0) (o .pre .1) (o .pre .2) (c .before .before .encode .ensures)
 
 pub encode-part-spec : {M : Type 1} → statement M
 encode-part-spec =

@@ -1,8 +1,6 @@
+-- `host::looked_at` meets its contract.
 use native.Mathlib.Omega.{arith}
 use borrow.Author.Needs.{needs}
-use mathlib.Core.Path.{subst}
-use Rattle.rules.specs.Hall.{Hall, hallOf}
-use Rattle.host.specs.Heard.{Front}
 use Rattle.host.proofs.FrontLaws.{no-header}
 use Rattle.host.proofs.looked_at.Statement.{statement}
 use Rattle.host.proofs.looked_at.Tie as tie
@@ -26,9 +24,7 @@ front-requires : tie.Need-front-requires
 front-requires c κs = search needs
 
 returns-2 : tie.Need-returns-2
-returns-2 c =
-    subst (λ (H : Hall). Front H (c .front .result))
-    (λ i. hallOf (c .before .before .before .word .ensures i) (c .before .before .word2 .ensures i) (c .before .word3 .ensures i)) (c .front .ensures)
+returns-2 c = let w = c .before in rw (w .before .before .word .ensures, w .before .word2 .ensures, w .word3 .ensures) at (c .front .ensures)
 
 pub looked-at-spec : {M : Type 1} → statement M
 looked-at-spec =

@@ -1,7 +1,8 @@
+-- `host::word` meets its contract.
 use Prim.Native.Nat.{_+_, _*_}
 use native.Mathlib.Omega.{arith}
 use borrow.Author.Needs.{needs}
-use Rattle.host.proofs.WordLaws.{word-at2}
+use Rattle.host.proofs.WordLaws.{word-at}
 use Rattle.host.proofs.word.Statement.{statement}
 use Rattle.host.proofs.word.Tie as tie
 
@@ -30,11 +31,10 @@ mul-result : tie.Need-mul-result
 mul-result c = omega (arith, c .shared-slice-known2 .given (2 * c .before .before .args .i + 1))
 
 add-result : tie.Need-add-result
-add-result c =
-    omega (arith, c .shared-slice-known2 .given (2 * c .before .before .args .i + 1), c .shared-slice-known2 .given (2 * c .before .before .args .i))
+add-result c = let i = c .before .before .args .i in omega (arith, c .shared-slice-known2 .given (2 * i + 1), c .shared-slice-known2 .given (2 * i))
 
 returns : tie.Need-returns
-returns c = word-at2 (c .before .before .args .bytes .now) (c .before .before .args .i) (omega arith)
+returns c = let o = c .before .before in word-at (o .args .bytes .now) (o .args .i) (o .pre)
 
 pub word-spec : {M : Type 1} → statement M
 word-spec =

@@ -1,5 +1,5 @@
 -- `board::Board::need` meets its contract.
-use Prim.Native.Nat.{ℕ, _*_, _≤_}
+use Prim.Native.Nat.{_*_, _≤_}
 use native.Mathlib.Nat.{mul-le-mul}
 use native.Mathlib.Omega.{arith}
 use mathlib.Core.Path.{refl}
@@ -8,32 +8,38 @@ use Rattle.board.proofs.Board.need.Statement.{statement}
 use Rattle.board.proofs.Board.need.Tie as tie
 
 -- 16-bit numbers: the screens and the records of any hall fit
-screens-fit : (p c : ℕ) → p ≤ 65535 → c ≤ 65535 → p * c ≤ 65535 * 65535
-screens-fit p c hp hc = mul-le-mul hp hc
+screens : (c : tie.Start) → c .args .desks * c .args .screens ≤ 65535 * 65535
+screens c =
+    let p : c .args .desks ≤ 65535 = omega arith in
+    let n : c .args .screens ≤ 65535 = omega arith in
+    mul-le-mul p n
 
-records-fit : (p c : ℕ) → p ≤ 65535 → c ≤ 65535 → p * widthFor (p * c) ≤ 65535 * widthFor (65535 * 65535)
-records-fit p c hp hc = let s = screens-fit p c hp hc in let h : widthFor (p * c) ≤ widthFor (65535 * 65535) = omega arith in mul-le-mul hp h
+records : (c : tie.Start) → c .args .desks * widthFor (c .args .desks * c .args .screens) ≤ 65535 * widthFor (65535 * 65535)
+records c =
+    let p : c .args .desks ≤ 65535 = omega arith in
+    let w : widthFor (c .args .desks * c .args .screens) ≤ widthFor (65535 * 65535) = omega (arith, screens c) in
+    mul-le-mul p w
 
 mul-s : tie.Need-mul-s
-mul-s c = let s = screens-fit (c .args .desks) (c .args .screens) (omega arith) (omega arith) in let r = records-fit (c .args .desks) (c .args .screens) (omega arith) (omega arith) in omega arith
+mul-s c = omega (arith, screens c)
 
 mul-result : tie.Need-mul-result
-mul-result c = let s = screens-fit (c .args .desks) (c .args .screens) (omega arith) (omega arith) in let r = records-fit (c .args .desks) (c .args .screens) (omega arith) (omega arith) in omega arith
+mul-result c = omega (arith, screens c)
 
 add-result : tie.Need-add-result
-add-result c = let s = screens-fit (c .args .desks) (c .args .screens) (omega arith) (omega arith) in let r = records-fit (c .args .desks) (c .args .screens) (omega arith) (omega arith) in omega arith
+add-result c = omega (arith, screens c)
 
 mul-result-2 : tie.Need-mul-result-2
-mul-result-2 c = let s = screens-fit (c .args .desks) (c .args .screens) (omega arith) (omega arith) in let r = records-fit (c .args .desks) (c .args .screens) (omega arith) (omega arith) in omega arith
+mul-result-2 c = omega (arith, records c)
 
 add-result-2 : tie.Need-add-result-2
-add-result-2 c = let s = screens-fit (c .args .desks) (c .args .screens) (omega arith) (omega arith) in let r = records-fit (c .args .desks) (c .args .screens) (omega arith) (omega arith) in omega arith
+add-result-2 c = omega (arith, screens c, records c)
 
 add-result-3 : tie.Need-add-result-3
-add-result-3 c = let s = screens-fit (c .args .desks) (c .args .screens) (omega arith) (omega arith) in let r = records-fit (c .args .desks) (c .args .screens) (omega arith) (omega arith) in omega arith
+add-result-3 c = omega (arith, screens c, records c)
 
 add-result-4 : tie.Need-add-result-4
-add-result-4 c = let s = screens-fit (c .args .desks) (c .args .screens) (omega arith) (omega arith) in let r = records-fit (c .args .desks) (c .args .screens) (omega arith) (omega arith) in omega arith
+add-result-4 c = omega (arith, screens c, records c)
 
 returns : tie.Need-returns
 returns c = refl
