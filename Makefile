@@ -37,14 +37,14 @@ test:
 
 lib:
 	@mkdir -p build
-	@[ -f build/libhost.a ] || echo "Proving and building the archive: minutes, the first time." >&2
+	@echo "Proving and building the archive: minutes, if a crate has changed." >&2
 	@rt staticlib host > build/staticlib.log 2>&1 || { cat build/staticlib.log; exit 1; }
 	@cp target/staticlib/libhost.a include/session_board.h build/
 
 # Always asked for: rt knows what has changed.
 target/bin/day_sheet:
 	@mkdir -p build
-	@[ -x target/bin/day_sheet ] || echo "Proving and building the sheet program: minutes, the first time." >&2
+	@echo "Proving and building the sheet program: minutes, if a crate has changed." >&2
 	@rt check day_sheet > build/day_sheet.log 2>&1 || { cat build/day_sheet.log; exit 1; }
 
 bench: lib target/bin/day_sheet

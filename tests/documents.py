@@ -3,7 +3,8 @@
 
 usage: tests/documents.py [DOCUMENT ...]        README.md and those of docs/, if none is named
 
-The last part of a name (`Table.need`, `board::open`, `laws/Front`) must be a word of some file, or the name of one.
+The last part of a name (`Table.need`, `board::open`, `laws/Front`) must be a word of some file, or the name of one; a path from
+the repository's root (`docs/SHEETS.md`) must be there, unless it is of what is built. CRATE and NAME in a path stand for any.
 """
 import pathlib
 import re
@@ -11,6 +12,7 @@ import sys
 
 ROOT = pathlib.Path(__file__).resolve().parent.parent
 PLACES = ['crates', 'edits', 'tests', 'tools', 'include', 'examples', 'bench', 'docs/gallery', 'Makefile']
+BUILT = ('build', 'target')
 WORD = re.compile(r"[\w'′-]+")
 
 
@@ -39,6 +41,14 @@ def names_in(text):
                 yield mark, last
 
 
+def is_there(mark, last, words):
+    """Whether a name, with its last part, can be found."""
+    first = mark.split('/')[0]
+    if '/' in mark and first not in BUILT and (ROOT / first).is_dir():
+        return any(ROOT.glob(re.sub('CRATE|NAME', '*', mark.rstrip('/'))))
+    return last in words or mark.split('/')[-1] in words
+
+
 def main():
     documents = [pathlib.Path(name) for name in sys.argv[1:]] or [ROOT / 'README.md', *sorted(ROOT.glob('docs/*.md'))]
     for document in documents:
@@ -50,7 +60,7 @@ def main():
     for document in documents:
         for mark, last in names_in(document.read_text()):
             count += 1
-            if last not in words and mark.split('/')[-1] not in words:
+            if not is_there(mark, last, words):
                 missing.append(f'{document.name}: `{mark}` is not found')
     for line in missing:
         print(line)

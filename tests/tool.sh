@@ -86,7 +86,7 @@ cat >d.meaning <<'END'
 2 1 0 300   desk 1 takes position 1 onto screen 1: it shows 300
 3 3 0 300   desk 1 swaps position 1 to session 7: was 300, now owed
 4 4 0 300   desk 1 retires: 300 now waits on its list
-5 5 0 0     desk 1 collects: nothing is handed back yet
+5 5 0 0     desk 1 collects: nothing is handed back
 6 2 0 300   desk 1 drops screen 1: it showed 300
 7 5 0 300   desk 1 collects: 300 is handed back for closing
 8 4 13 0    desk 1 retires: refused, the desk owes no session

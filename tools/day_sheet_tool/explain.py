@@ -61,7 +61,7 @@ def result_in_words(record, session):
         return f"was {session}, now owed" if session else "was empty, nothing is owed"
     if name == "retire":
         return f"{session} now waits on its list"
-    return f"{session} is handed back for closing" if session else "nothing is handed back yet"
+    return f"{session} is handed back for closing" if session else "nothing is handed back"
 
 
 def end_in_words(end):

@@ -14,7 +14,7 @@ use Rattle.rules.specs.laws.Tables.{hall-opens}
 use Rattle.rules.specs.laws.TableSteps.{accepted-open, refused-open}
 use Rattle.rules.specs.laws.Words16.{by-open}
 use Rattle.reply.specs.declared.Reply.{Reply}
-use Rattle.reply.specs.declared.Reply.the-variants.{Accepted, BadDesks, BadPositions, BadScreens, TooShort}
+use Rattle.reply.specs.declared.Reply.the-variants.{Accepted, BadDesks, BadPositions, BadScreens, TableShort}
 use Rattle.reply.specs.Answer.{answerOf, told}
 
 -- its questions, in order, about a table
@@ -34,8 +34,8 @@ module _ (H : Hall) (t : List ℕ) where
       bad-positions out = refusal 2 (rw (d, c, out))
 
       module _ (l : inRange (H .positions) mostPositions ≡ true) where
-        pub too-short : length t < need H → answerOf TooShort ≡ openTable hallLimits H t .answer
-        too-short h = refusal 3 (rw (d, c, l, lt-leb (need H) (length t) h))
+        pub table-short : length t < need H → answerOf TableShort ≡ openTable hallLimits H t .answer
+        table-short h = refusal 3 (rw (d, c, l, lt-leb (need H) (length t) h))
 
         pub opens : need H ≤ length t → answerOf (Accepted 0) ≡ openTable hallLimits H t .answer
         opens h = rw (accepted-open hallLimits H t (rw (d, c, l, le-leb (need H) (length t) h)))

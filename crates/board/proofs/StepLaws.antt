@@ -17,7 +17,7 @@ use Rattle.rules.specs.Table.{decode, decodeDesk, encodeDesk, hallIn, headerWor
 use Rattle.rules.specs.laws.Tables.{some-screens}
 use Rattle.rules.specs.laws.TableSteps.{accepted-step, asked, collect-seeing, owed-word, refused-step, shown-at}
 use Rattle.reply.specs.declared.Reply.{Reply}
-use Rattle.reply.specs.declared.Reply.the-variants.{Accepted, DeskOwes, NoPosition, NoScreen, PositionEmpty, ScreenEmpty, ScreenInUse}
+use Rattle.reply.specs.declared.Reply.the-variants.{Accepted, Owing, NoPosition, NoScreen, PositionEmpty, ScreenEmpty, ScreenFull}
 use Rattle.reply.specs.Answer.{answerOf, told}
 use Rattle.marks.proofs.Scan.{ended, rest}
 use Rattle.desk.specs.Record.{Retired}
@@ -58,8 +58,8 @@ module _ {t : List ℕ} {d : ℕ} {p : Place} (e : Entered t d p) where
     take-no-position q out = refuse 7 (Take d i q) (rw (e .yes-desk, s .yes-screen, ← e .positions-is, out))
 
     module _ {q : ℕ} (h : AtPosition t q) where
-      pub take-screen-in-use : (getD t (screenAt p d i) 0 ≡ 0 → ⊥) → told ScreenInUse t ≡ stepTable hallLimits t (Take d i q)
-      take-screen-in-use some =
+      pub take-screen-full : (getD t (screenAt p d i) 0 ≡ 0 → ⊥) → told ScreenFull t ≡ stepTable hallLimits t (Take d i q)
+      take-screen-full some =
           refuse 8 (Take d i q) (rw (e .yes-desk, s .yes-screen, h .yes-position, s .shows, ne-eqb (getD t (screenAt p d i) 0) 0 some))
 
       pub take-position-empty : getD t (screenAt p d i) 0 ≡ 0 → getD t (positionWord q) 0 ≡ 0 → told PositionEmpty t ≡ stepTable hallLimits t (Take d i q)
@@ -80,8 +80,8 @@ module _ {t : List ℕ} {d : ℕ} {p : Place} (e : Entered t d p) where
     swap-no-position out = refuse 7 (Swap d q v) (rw (e .yes-desk, ← e .positions-is, out))
 
     module _ (h : AtPosition t q) where
-      pub swap-desk-owes : (getD t (p .start) 0 ≡ 0 → ⊥) → told DeskOwes t ≡ stepTable hallLimits t (Swap d q v)
-      swap-desk-owes some = refuse 11 (Swap d q v) (rw (e .yes-desk, h .yes-position, owes, ne-eqb (getD t (p .start) 0) 0 some))
+      pub swap-owing : (getD t (p .start) 0 ≡ 0 → ⊥) → told Owing t ≡ stepTable hallLimits t (Swap d q v)
+      swap-owing some = refuse 11 (Swap d q v) (rw (e .yes-desk, h .yes-position, owes, ne-eqb (getD t (p .start) 0) 0 some))
 
       pub swap-accepted : getD t (p .start) 0 ≡ 0
           → let old = getD t (positionWord q) 0 in told (Accepted old) (set (set t (positionWord q) v) (p .start) old) ≡ stepTable hallLimits t (Swap d q v)

@@ -177,7 +177,7 @@ pub fn opening(desks: u16, screens: u16, positions: u16, words: usize) -> Reply
         return Reply::BadPositions;
     }
     if words < Board::need(desks, screens, positions) {
-        return Reply::TooShort;
+        return Reply::TableShort;
     }
     Reply::Accepted(0)
 }
@@ -219,7 +219,7 @@ pub fn take(t: &mut [u16], desk: u16, screen: u16, position: u16) -> Reply
             let q = position as usize;
             let at = HEADER + l + ((d - 1) * c + (i - 1));
             if t[at] != 0 {
-                return Reply::ScreenInUse;
+                return Reply::ScreenFull;
             }
             let held = t[HEADER + (q - 1)];
             if held == 0 {
@@ -271,7 +271,7 @@ pub fn swap(t: &mut [u16], desk: u16, position: u16, session: u16) -> Reply
                 return Reply::NoPosition;
             }
             if t[a] != 0 {
-                return Reply::DeskOwes;
+                return Reply::Owing;
             }
             let q = position as usize;
             let at = HEADER + (q - 1);

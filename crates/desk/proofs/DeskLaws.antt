@@ -15,7 +15,7 @@ use Rattle.rules.specs.laws.Parts.{set-append-add}
 use Rattle.marks.specs.Marks.{marks, onesIn, findPlace, markPlace, pick}
 use Rattle.marks.proofs.MarkLaws.{marks-length, mark-small}
 use Rattle.marks.proofs.PlaceLaws.{found-unmarked, marked-count, pick-all}
-use Rattle.desk.proofs.WordDesk.{WordDesk, wordDesk, listed, recordWords, testing, seeing, settled, handed, retired, Fit, Formed}
+use Rattle.desk.proofs.WordDesk.{WordDesk, wordDesk, listed, markWordsIn, recordWords, testing, seeing, settled, handed, retired, Fit, Formed}
 
 -- ---- a record's words: five, the mark words and the places
 abbrev raw : ℕ → ℕ → ℕ → ℕ → ℕ → List ℕ → List ℕ → List ℕ
@@ -34,7 +34,7 @@ record-length s d f =
     let b = f .eight in
     omega (arith, length-append (d .words) (listed d ++ z), length-append (listed d) z, length-replicate {A = ℕ} (2 * s - length (listed d)) 0)
 
-pub round : (s : ℕ) (d : WordDesk) → length (d .words) ≡ markWords → wordDesk (recordWords s d) ≡ d
+round : (s : ℕ) (d : WordDesk) → length (d .words) ≡ markWords → wordDesk (recordWords s d) ≡ d
 unfolding recordWords wordDesk
 round s d e =
     let z : List ℕ = replicate (2 * s - length (listed d)) 0 in
@@ -48,7 +48,7 @@ round s d e =
     let b = ap (take (length (d .tested))) q ∙ take-append-seam (d .tested) (d .waiting ++ z) in
     let c = ap (λ (t : List ℕ). take (length (d .waiting)) (drop (length (d .tested)) t)) q
     ∙ ap (take (length (d .waiting))) (drop-append-seam (d .tested) (d .waiting ++ z)) ∙ take-append-seam (d .waiting) z in
-    (λ i. record { owed = d .owed; read = d .read; ready = a i; tested = b i; waiting = c i; words = w i })
+    (λ i. record { owed = d .owed; scanned = d .scanned; ready = a i; tested = b i; waiting = c i; words = w i })
 
 pub formed : (s : ℕ) (d : WordDesk) → s ≤ mostAllScreens → Fit s d → Formed s (recordWords s d)
 formed s d h f =
@@ -94,11 +94,11 @@ pub owed-of : (r : List ℕ) → wordDesk r .owed ≡ getD r 0 0
 unfolding wordDesk
 owed-of r = refl
 
-read-of : (r : List ℕ) → getD r 1 0 ≡ wordDesk r .read
+scanned-of : (r : List ℕ) → getD r 1 0 ≡ wordDesk r .scanned
 unfolding wordDesk
-read-of r = refl
+scanned-of r = refl
 
-pub words-of : (r : List ℕ) → take markWords (drop marksPlace r) ≡ wordDesk r .words
+pub words-of : (r : List ℕ) → markWordsIn r ≡ wordDesk r .words
 unfolding wordDesk
 words-of r = refl
 
@@ -132,7 +132,7 @@ start-words s d e =
     let l : listed d ≡ d .ready ++ (d .waiting ++ [])
     = ap (λ (x : List ℕ). d .ready ++ (x ++ d .waiting)) t ∙ ap (λ (x : List ℕ). d .ready ++ x) (sym (append-nil (d .waiting))) in
     simp (eq-eqb (length (d .tested)) 0 e)
-    (λ i. d .owed ∷ d .read ∷ length (d .ready) ∷ length (d .waiting) ∷ 0 ∷ (d .words ++ (l i ++ replicate (2 * s - length (l i)) 0)))
+    (λ i. d .owed ∷ d .scanned ∷ length (d .ready) ∷ length (d .waiting) ∷ 0 ∷ (d .words ++ (l i ++ replicate (2 * s - length (l i)) 0)))
 
 pub start-stores : (s : ℕ) (r : List ℕ) → Formed s r → getD r 3 0 ≡ 0 → set (set r 3 (getD r 4 0)) 4 0 ≡ recordWords s (testing (wordDesk r))
 start-stores s r f h =
@@ -148,16 +148,16 @@ start-none s r f h =
 -- ---- (b)
 abbrev withWords : WordDesk → List ℕ → WordDesk
 withWords d ws =
-    record { owed = d .owed; read = d .read + 1; ready = d .ready; tested = d .tested; waiting = d .waiting; words = ws }
+    record { owed = d .owed; scanned = d .scanned + 1; ready = d .ready; tested = d .tested; waiting = d .waiting; words = ws }
 
-see-marked : (s : ℕ) (d : WordDesk) (ys : List ℕ) → length (d .words) ≡ markWords → set (putMid marksPlace markWords (recordWords s d) ys) 1 (d .read + 1) ≡ recordWords s (withWords d ys)
+see-marked : (s : ℕ) (d : WordDesk) (ys : List ℕ) → length (d .words) ≡ markWords → set (putMid marksPlace markWords (recordWords s d) ys) 1 (d .scanned + 1) ≡ recordWords s (withWords d ys)
 unfolding recordWords
 see-marked s d ys e =
-    ap (λ (x : List ℕ). set x 1 (d .read + 1))
-    (put-marks (d .owed) (d .read) (length (d .ready)) (length (d .tested)) (length (d .waiting)) (d .words) (listed d ++ replicate (2 * s - length (listed d)) 0) ys e)
+    ap (λ (x : List ℕ). set x 1 (d .scanned + 1))
+    (put-marks (d .owed) (d .scanned) (length (d .ready)) (length (d .tested)) (length (d .waiting)) (d .words) (listed d ++ replicate (2 * s - length (listed d)) 0) ys e)
 
 -- the part of a record that the code takes for the tested places, with a ready and b tested
-abbrev pub testedIn : List ℕ → ℕ → ℕ → List ℕ
+abbrev testedIn : List ℕ → ℕ → ℕ → List ℕ
 testedIn r a b = take (listPlace + a + b - (listPlace + a)) (drop (listPlace + a) r)
 
 pub tested-part : (r : List ℕ) (a b : ℕ) → a ≡ getD r 2 0 → b ≡ getD r 3 0 → testedIn r a b ≡ wordDesk r .tested
@@ -167,12 +167,12 @@ tested-part r a b ea eb =
     ap₂ (λ (k : ℕ) (l : List ℕ). take k l) n (sym (drop-drop a listPlace r)) ∙ ap₂ (λ (x y : ℕ). take x (drop y (drop listPlace r))) eb ea
 
 pub see-stores : (s : ℕ) (r : List ℕ) (x j : ℕ) → Formed s r → j ≡ findPlace x (wordDesk r .tested) (marks (wordDesk r .words)) → j < length (wordDesk r .tested)
-    → set (putMid marksPlace markWords r (markPlace (take markWords (drop marksPlace r)) j)) 1 (getD r 1 0 + 1) ≡ recordWords s (seeing x (wordDesk r))
+    → set (putMid marksPlace markWords r (markPlace (markWordsIn r) j)) 1 (getD r 1 0 + 1) ≡ recordWords s (seeing x (wordDesk r))
 see-stores s r x j f e h =
     let d = wordDesk r in
     let l = lt-ltb (findPlace x (d .tested) (marks (d .words))) (length (d .tested)) (omega arith) in
-    ap₂ (λ (y : List ℕ) (k : ℕ). set (putMid marksPlace markWords y (markPlace (take markWords (drop marksPlace r)) j)) 1 (k + 1)) (f .is) (read-of r)
-    ∙ ap₂ (λ (ws : List ℕ) (i : ℕ). set (putMid marksPlace markWords (recordWords s d) (markPlace ws i)) 1 (d .read + 1)) (words-of r) e
+    ap₂ (λ (y : List ℕ) (k : ℕ). set (putMid marksPlace markWords y (markPlace (markWordsIn r) j)) 1 (k + 1)) (f .is) (scanned-of r)
+    ∙ ap₂ (λ (ws : List ℕ) (i : ℕ). set (putMid marksPlace markWords (recordWords s d) (markPlace ws i)) 1 (d .scanned + 1)) (words-of r) e
     ∙ see-marked s d (markPlace (d .words) (findPlace x (d .tested) (marks (d .words)))) (f .fit .eight)
     ∙ sym (rw l)
 
@@ -182,15 +182,15 @@ unfolding recordWords
 see-none s r x j f e h =
     let d = wordDesk r in
     let l = le-ltb (findPlace x (d .tested) (marks (d .words))) (length (d .tested)) (omega arith) in
-    ap₂ (λ (y : List ℕ) (k : ℕ). set y 1 (k + 1)) (f .is) (read-of r) ∙ sym (rw l)
+    ap₂ (λ (y : List ℕ) (k : ℕ). set y 1 (k + 1)) (f .is) (scanned-of r) ∙ sym (rw l)
 
 -- what the code finds, and what holds of it
 pub record Found (r : List ℕ) (x j : ℕ) : Type 0 where
   pub is : j ≡ findPlace x (wordDesk r .tested) (marks (wordDesk r .words))
-  pub free : j < length (wordDesk r .tested) → getD (marks (take markWords (drop marksPlace r))) j 0 ≡ 0
+  pub free : j < length (wordDesk r .tested) → getD (marks (markWordsIn r)) j 0 ≡ 0
 
 pub found : (s : ℕ) (r : List ℕ) (x a b j : ℕ) → Formed s r → a ≡ getD r 2 0 → b ≡ getD r 3 0
-    → j ≡ findPlace x (testedIn r a b) (marks (take markWords (drop marksPlace r))) → Found r x j
+    → j ≡ findPlace x (testedIn r a b) (marks (markWordsIn r)) → Found r x j
 found s r x a b j f ea eb p =
     let d = wordDesk r in
     let q : j ≡ findPlace x (d .tested) (marks (d .words)) = p ∙ ap₂ (λ (l ws : List ℕ). findPlace x l (marks ws)) (tested-part r a b ea eb) (words-of r) in
@@ -210,13 +210,13 @@ pub eight-is : (m : List ℕ) → length m ≡ markWords → m ≡ getD m 0 0 �
 eight-is m e = drop-cons m 0 0 (omega arith) ∙ ap (λ (t : List ℕ). getD m 0 0 ∷ t) (drop-cons m 1 0 (omega arith) ∙ ap (λ (t : List ℕ). getD m 1 0 ∷ t) (drop-cons m 2 0 (omega arith) ∙ ap (λ (t : List ℕ). getD m 2 0 ∷ t) (drop-cons m 3 0 (omega arith) ∙ ap (λ (t : List ℕ). getD m 3 0 ∷ t) (drop-cons m 4 0 (omega arith) ∙ ap (λ (t : List ℕ). getD m 4 0 ∷ t) (drop-cons m 5 0 (omega arith) ∙ ap (λ (t : List ℕ). getD m 5 0 ∷ t) (drop-cons m 6 0 (omega arith) ∙ ap (λ (t : List ℕ). getD m 6 0 ∷ t) (drop-cons m 7 0 (omega arith) ∙ ap (λ (t : List ℕ). getD m 7 0 ∷ t) (drop-of-length-le m {i = markWords} (omega arith)))))))))
 
 -- what the code makes of a record x: ys in the place of the tested, zs in that of the mark words, and the counts
-abbrev pub settling : List ℕ → ℕ → ℕ → List ℕ → List ℕ → ℕ → ℕ → List ℕ
+abbrev settling : List ℕ → ℕ → ℕ → List ℕ → List ℕ → ℕ → ℕ → List ℕ
 settling x i n ys zs a w = set (set (set (set (putMid marksPlace markWords (putMid i n x ys) zs) 1 0) 2 a) 3 0) 4 w
 
 settle-words : (s : ℕ) (d : WordDesk) (i n a w : ℕ) (p q : List ℕ) → length (d .words) ≡ markWords → i ≡ listPlace + length (d .ready) → n ≡ length (d .tested)
     → length p + length q ≡ length (d .tested) → a ≡ length (d .ready ++ p) → w ≡ length (q ++ d .waiting)
     → settling (recordWords s d) i n (p ++ q) (replicate markWords 0) a w
-    ≡ recordWords s (record { owed = d .owed; read = 0; ready = d .ready ++ p; tested = []; waiting = q ++ d .waiting; words = replicate markWords 0 })
+    ≡ recordWords s (record { owed = d .owed; scanned = 0; ready = d .ready ++ p; tested = []; waiting = q ++ d .waiting; words = replicate markWords 0 })
 unfolding recordWords
 settle-words s d i n a w p q e ei en h ea ew =
     let z : List ℕ = replicate (2 * s - length (listed d)) 0 in
@@ -234,12 +234,12 @@ settle-words s d i n a w p q e ei en h ea ew =
       length-append (d .ready) p,
       length-append q (d .waiting),
     ) in
-    let o1 : putMid i n (raw (d .owed) (d .read) nr nt nw (d .words) (listed d ++ z)) (p ++ q) ≡ raw (d .owed) (d .read) nr nt nw (d .words) (d .ready ++ ((p ++ q) ++ (d .waiting ++ z)))
-    = ap (λ (x : List ℕ). putMid i n (raw (d .owed) (d .read) nr nt nw (d .words) x) (p ++ q)) l
-    ∙ put-places (d .owed) (d .read) nr nt nw (d .words) (d .ready) (d .tested) (d .waiting ++ z) (p ++ q) i nr n e ei refl (sym en) in
+    let o1 : putMid i n (raw (d .owed) (d .scanned) nr nt nw (d .words) (listed d ++ z)) (p ++ q) ≡ raw (d .owed) (d .scanned) nr nt nw (d .words) (d .ready ++ ((p ++ q) ++ (d .waiting ++ z)))
+    = ap (λ (x : List ℕ). putMid i n (raw (d .owed) (d .scanned) nr nt nw (d .words) x) (p ++ q)) l
+    ∙ put-places (d .owed) (d .scanned) nr nt nw (d .words) (d .ready) (d .tested) (d .waiting ++ z) (p ++ q) i nr n e ei refl (sym en) in
     ap (λ (x : List ℕ). set (set (set (set (putMid marksPlace markWords x (replicate markWords 0)) 1 0) 2 a) 3 0) 4 w) o1
     ∙ ap (λ (x : List ℕ). set (set (set (set x 1 0) 2 a) 3 0) 4 w)
-    (put-marks (d .owed) (d .read) nr nt nw (d .words) (d .ready ++ ((p ++ q) ++ (d .waiting ++ z))) (replicate markWords 0) e)
+    (put-marks (d .owed) (d .scanned) nr nt nw (d .words) (d .ready ++ ((p ++ q) ++ (d .waiting ++ z))) (replicate markWords 0) e)
     ∙ (λ j. d .owed ∷ 0 ∷ ea j ∷ 0 ∷ ew j ∷ (replicate markWords 0 ++ (g j)))
     ∙ ap (λ (k : ℕ). d .owed ∷ 0 ∷ length (d .ready ++ p) ∷ 0 ∷ length (q ++ d .waiting) ∷ (replicate markWords 0 ++ (((d .ready ++ p) ++ (q ++ d .waiting)) ++ replicate (2 * s - k) 0))) c
 
@@ -256,7 +256,7 @@ pub record Counted (s : ℕ) (r : List ℕ) (a b w k : ℕ) (m : List ℕ) : Typ
   pub room : a + b + w ≤ 2 * s
 
 pub counted : (s : ℕ) (r : List ℕ) → Formed s r → ((i : ℕ) → getD r i 0 < 2 ^ 16) → (a b w k : ℕ) (m : List ℕ)
-    → a ≡ getD r 2 0 → b ≡ getD r 3 0 → w ≡ getD r 4 0 → m ≡ take markWords (drop marksPlace r) → k ≡ onesIn m → Counted s r a b w k m
+    → a ≡ getD r 2 0 → b ≡ getD r 3 0 → w ≡ getD r 4 0 → m ≡ markWordsIn r → k ≡ onesIn m → Counted s r a b w k m
 counted s r f h a b w k m ea eb ew em ek =
     let d = wordDesk r in
     let c = facts s r f in
@@ -325,8 +325,8 @@ hand-words s d f h =
     ∙ hand-list (2 * s) (d .ready) (d .tested ++ d .waiting) h (f .room) in
     let t : length (d .ready) - 1 ≡ length (drop 1 (d .ready)) = sym (length-drop 1 (d .ready)) in
     ap (λ (x : List ℕ). set x 2 (length (d .ready) - 1))
-    (put-all (d .owed) (d .read) (length (d .ready)) (length (d .tested)) (length (d .waiting)) (d .words) l (drop 1 (take n (drop markWords (d .words ++ l))) ++ (0 ∷ [])) n e j)
-    ∙ (λ i. d .owed ∷ d .read ∷ t i ∷ length (d .tested) ∷ length (d .waiting) ∷ (d .words ++ q i))
+    (put-all (d .owed) (d .scanned) (length (d .ready)) (length (d .tested)) (length (d .waiting)) (d .words) l (drop 1 (take n (drop markWords (d .words ++ l))) ++ (0 ∷ [])) n e j)
+    ∙ (λ i. d .owed ∷ d .scanned ∷ t i ∷ length (d .tested) ∷ length (d .waiting) ∷ (d .words ++ q i))
 
 pub hand-stores : (s : ℕ) (r : List ℕ) → Formed s r → 0 < getD r 2 0 → handing s r ≡ recordWords s (handed (wordDesk r))
 hand-stores s r f h =
@@ -338,7 +338,7 @@ pub hand-none : (s : ℕ) (r : List ℕ) → Formed s r → getD r 2 0 ≡ 0 →
 hand-none s r f h =
     let d = wordDesk r in
     let e : d .ready ≡ [] = nil-of (d .ready) (sym (facts s r f .ready) ∙ h) in
-    f .is ∙ ap (λ (x : List ℕ). recordWords s (record { owed = d .owed; read = d .read; ready = x; tested = d .tested; waiting = d .waiting; words = d .words }))
+    f .is ∙ ap (λ (x : List ℕ). recordWords s (record { owed = d .owed; scanned = d .scanned; ready = x; tested = d .tested; waiting = d .waiting; words = d .words }))
     (e ∙ sym (ap (drop 1) e))
 
 pub first-ready : (r : List ℕ) → 0 < getD r 2 0 → getD r listPlace 0 ≡ getD (wordDesk r .ready) 0 0
@@ -380,5 +380,5 @@ retire-words s d e h =
     let p : set (listed d ++ z) n v ≡ listed (retired d) ++ replicate (2 * s - length (listed (retired d))) 0
     = set-end (listed d) (2 * s) n v refl h ∙ ap₂ (λ (x : List ℕ) (k : ℕ). x ++ replicate (2 * s - k) 0) (sym g) q in
     ap (λ (x : List ℕ). set (set x 4 (length (d .waiting) + 1)) 0 0)
-    (set-place v (d .read) (length (d .ready)) (length (d .tested)) (length (d .waiting)) (d .words) (listed d ++ z) n v e)
-    ∙ (λ i. 0 ∷ d .read ∷ length (d .ready) ∷ length (d .tested) ∷ w i ∷ (d .words ++ p i))
+    (set-place v (d .scanned) (length (d .ready)) (length (d .tested)) (length (d .waiting)) (d .words) (listed d ++ z) n v e)
+    ∙ (λ i. 0 ∷ d .scanned ∷ length (d .ready) ∷ length (d .tested) ∷ w i ∷ (d .words ++ p i))

@@ -10,7 +10,7 @@ use borrow.Author.Tests.{eqb-true, ltb-true}
 use Rattle.rules.specs.Hall.{TestedPlace, marked, unmarked, usedPlaces, Desk, mostAllScreens}
 use Rattle.rules.specs.Steps.{begin, beginAt, handBack, mark, markEach, markedOf, readScreens, retire, scanAt, settle, settleIf, unmarkedOf}
 use Rattle.rules.specs.Table.{bitValue, decodeDesk, encodeDesk, listOf, marksOf, recordSound, scanSound, sessionsOf, wordsOfBits}
-use Rattle.rules.specs.Table.{allMarks, listPlace, markWords, widthFor}
+use Rattle.rules.specs.Table.{allMarks, listPlace, markWords, usedIn, widthFor}
 use Rattle.rules.specs.laws.Bools.{and-right}
 use Rattle.rules.specs.laws.Decoding.{passed, record-again}
 use Rattle.rules.specs.laws.Encoding.{desk-read-back, length-sessions}
@@ -24,10 +24,10 @@ use Rattle.desk.proofs.DeskLaws.{Left, facts, left, lengths, owed-of, r
 use Rattle.desk.proofs.MarkTie.{markBits, mark-bits, pick-unmarked, pick-marked, marking-is}
 
 -- a desk of the rules, in words
-abbrev pub inWords : Desk → WordDesk
-inWords D = record { owed = D .owed; read = D .scanned; ready = D .ready; tested = sessionsOf (D .tested); waiting = D .waiting; words = wordsOfBits markWords (markBits (D .tested)) }
+abbrev inWords : Desk → WordDesk
+inWords D = record { owed = D .owed; scanned = D .scanned; ready = D .ready; tested = sessionsOf (D .tested); waiting = D .waiting; words = wordsOfBits markWords (markBits (D .tested)) }
 
-pub encoded-words : (s : ℕ) (D : Desk) → encodeDesk s D ≡ recordWords s (inWords D)
+encoded-words : (s : ℕ) (D : Desk) → encodeDesk s D ≡ recordWords s (inWords D)
 unfolding encodeDesk recordWords
 encoded-words s D = λ i. D .owed ∷ D .scanned ∷ length (D .ready) ∷ sym (length-sessions (D .tested)) i ∷ length (D .waiting) ∷ (wordsOfBits markWords (markBits (D .tested)) ++ (listOf D ++ replicate (2 * s - length (listOf D)) 0))
 
@@ -37,10 +37,10 @@ zero-pad [] (suc m) = zero-pad [] m
 zero-pad (unmarked x ∷ T) m = zero-pad T m
 zero-pad (marked x ∷ T) m = zero-pad T m
 
-pub room-is : (D : Desk) → length (listed (inWords D)) ≡ usedPlaces D
+room-is : (D : Desk) → length (listed (inWords D)) ≡ usedPlaces D
 room-is D = omega (arith, lengths (inWords D), length-sessions (D .tested))
 
-pub fit-is : (s : ℕ) (D : Desk) → s ≤ mostAllScreens → usedPlaces D ≤ 2 * s → Fit s (inWords D)
+fit-is : (s : ℕ) (D : Desk) → s ≤ mostAllScreens → usedPlaces D ≤ 2 * s → Fit s (inWords D)
 fit-is s D h u =
     record {
       room = omega (arith, room-is D);
@@ -49,7 +49,7 @@ fit-is s D h u =
     }
 
 -- a record that codes the desk it is read as: what its words say
-pub encoded-left : (s : ℕ) (r : List ℕ) → Encoded s r → Left s (inWords (decodeDesk r)) r
+encoded-left : (s : ℕ) (r : List ℕ) → Encoded s r → Left s (inWords (decodeDesk r)) r
 encoded-left s r c = left s (inWords (decodeDesk r)) r (c .most) (fit-is s (decodeDesk r) (c .most) (c .room)) (c .is ∙ encoded-words s (decodeDesk r))
 
 -- ---- (a)
@@ -66,19 +66,19 @@ no-marks W h =
     let n : length W + (allMarks - length W) ≡ allMarks = omega arith in
     sym (ap₂ {C = List Bool} (λ x y. x ++ y) (marks-begin W) (ap (λ (m : ℕ). replicate {A = Bool} (allMarks - m) false) (length-map W unmarked)) ∙ replicate-append-replicate (length W) (allMarks - length W) false ∙ ap (λ (m : ℕ). replicate {A = Bool} m false) n)
 
-pub testing-is : (D : Desk) → length (D .waiting) ≤ allMarks → testing (inWords D) ≡ inWords (begin D)
+testing-is : (D : Desk) → length (D .waiting) ≤ allMarks → testing (inWords D) ≡ inWords (begin D)
 testing-is D h = go (D .tested)
   where
     with-tested : List TestedPlace → Desk
     with-tested T = record { owed = D .owed; scanned = D .scanned; ready = D .ready; tested = T; waiting = D .waiting }
 
     go : (T : List TestedPlace) → testing (inWords (with-tested T)) ≡ inWords (beginAt T (with-tested T))
-    go [] = λ i. record { owed = D .owed; read = D .scanned; ready = D .ready; tested = sessions-begin (D .waiting) i; waiting = []; words = wordsOfBits markWords (no-marks (D .waiting) h i) }
+    go [] = λ i. record { owed = D .owed; scanned = D .scanned; ready = D .ready; tested = sessions-begin (D .waiting) i; waiting = []; words = wordsOfBits markWords (no-marks (D .waiting) h i) }
     go (p ∷ T) = rw (length-sessions (p ∷ T), eqb·suc-zero (length T))
 
 -- ---- (b)
-pub seeing-is : (x : ℕ) (D : Desk) → length (D .tested) ≤ allMarks → seeing x (inWords D) ≡ inWords (readScreens (x ∷ []) D)
-seeing-is x D h = λ i. record { owed = D .owed; read = D .scanned + 1; ready = D .ready; tested = same (D .tested) i; waiting = D .waiting; words = marking-is x (D .tested) h i }
+seeing-is : (x : ℕ) (D : Desk) → length (D .tested) ≤ allMarks → seeing x (inWords D) ≡ inWords (readScreens (x ∷ []) D)
+seeing-is x D h = λ i. record { owed = D .owed; scanned = D .scanned + 1; ready = D .ready; tested = same (D .tested) i; waiting = D .waiting; words = marking-is x (D .tested) h i }
   where
     same : (T : List TestedPlace) → sessionsOf T ≡ sessionsOf (mark x T)
     same [] = refl
@@ -90,13 +90,13 @@ seeing-is x D h = λ i. record { owed = D .owed; read = D .scanned + 1; ready = 
         go false ih = ap {B = List ℕ} (λ l. y ∷ l) ih
 
 -- ---- (c)
-pub settled-is : (D : Desk) → length (D .tested) ≤ allMarks → settled (inWords D) ≡ inWords (settleIf true D)
+settled-is : (D : Desk) → length (D .tested) ≤ allMarks → settled (inWords D) ≡ inWords (settleIf true D)
 settled-is D h =
     let pad : List Bool = replicate (allMarks - length (D .tested)) false in
     let m = mark-bits (D .tested) h in
     let a = ap (λ (l : List ℕ). pick 0 l (sessionsOf (D .tested))) m ∙ pick-unmarked (D .tested) pad in
     let b = ap (λ (l : List ℕ). pick 1 l (sessionsOf (D .tested))) m ∙ pick-marked (D .tested) pad in
-    (λ i. record { owed = D .owed; read = 0; ready = D .ready ++ a i; tested = []; waiting = b i ++ D .waiting; words = replicate markWords 0 })
+    (λ i. record { owed = D .owed; scanned = 0; ready = D .ready ++ a i; tested = []; waiting = b i ++ D .waiting; words = replicate markWords 0 })
 
 -- ---- soundness
 pub sound-encoded : (s : ℕ) (r : List ℕ) → s ≤ mostAllScreens → length r ≡ widthFor s → ((i : ℕ) → getD r i 0 < 2 ^ 16) → recordSound s r ≡ true → Encoded s r
@@ -112,7 +112,7 @@ scanned-below s r h e = go (getD r 3 0) (getD r 1 0) (passed s r e .scan)
 -- ---- retire: what the code finds in the words, and its three stores
 pub record Finds (s : ℕ) (r : List ℕ) : Type 0 where
   pub owed : getD r 0 0 ≡ decodeDesk r .owed
-  pub count : getD r 2 0 + getD r 3 0 + getD r 4 0 ≡ usedPlaces (decodeDesk r)
+  pub count : usedIn r ≡ usedPlaces (decodeDesk r)
   pub stores : (n : ℕ) → n ≡ usedPlaces (decodeDesk r) → n < 2 * s → set (set (set r (listPlace + n) (getD r 0 0)) 4 (getD r 4 0 + 1)) 0 0 ≡ encodeDesk s (retire (decodeDesk r))
 
 pub finds : (s : ℕ) (r : List ℕ) → Encoded s r → Finds s r

@@ -31,7 +31,7 @@ digits-bits : (n w : ℕ) → digits n w ≡ map bitValue (bitsOfWord n w)
 digits-bits zero w = refl
 digits-bits (suc n) w = λ i. digit-bit w i ∷ digits-bits n (w / 2) i
 
-pub marks-bits : (ws : List ℕ) → marks ws ≡ map bitValue (bitsOfWords ws)
+marks-bits : (ws : List ℕ) → marks ws ≡ map bitValue (bitsOfWords ws)
 marks-bits [] = refl
 marks-bits (w ∷ ws) = ap₂ {C = List ℕ} (λ x y. x ++ y) (digits-bits 16 w) (marks-bits ws) ∙ sym (map-append bitValue (bitsOfWord 16 w) (bitsOfWords ws))
 
@@ -58,11 +58,11 @@ abbrev at : ℕ → List TestedPlace → List Bool → ℕ
 at x T bs = findPlace x (sessionsOf T) (map bitValue (marksOf T ++ bs))
 
 -- found: its bit is false, and marking it sets that bit
-pub record Found (x : ℕ) (T : List TestedPlace) (bs : List Bool) : Type 0 where
+record Found (x : ℕ) (T : List TestedPlace) (bs : List Bool) : Type 0 where
   pub free-at : getD (marksOf T ++ bs) (at x T bs) false ≡ false
   pub set-at : marksOf (mark x T) ++ bs ≡ set (marksOf T ++ bs) (at x T bs) true
 
-pub found : (x : ℕ) (T : List TestedPlace) (bs : List Bool) → at x T bs < length T → Found x T bs
+found : (x : ℕ) (T : List TestedPlace) (bs : List Bool) → at x T bs < length T → Found x T bs
 found x [] bs h = absurd (not-suc-le-zero h)
 found x (marked y ∷ T) bs h = go (found x T bs)
   where
@@ -81,7 +81,7 @@ found x (unmarked y ∷ T) bs h = go (found x T bs) (eqb y x) refl
         record { free-at = rw e (f .free-at); set-at = rw (e, q) (ap {B = List Bool} (λ l. false ∷ l) (f .set-at)) }
 
 -- not found: nothing is marked
-pub none : (x : ℕ) (T : List TestedPlace) (bs : List Bool) → length T ≤ at x T bs → mark x T ≡ T
+none : (x : ℕ) (T : List TestedPlace) (bs : List Bool) → length T ≤ at x T bs → mark x T ≡ T
 none x [] bs h = refl
 none x (marked y ∷ T) bs h = go (none x T bs)
   where

@@ -17,7 +17,7 @@ markWordsIn r = take markWords (drop marksPlace r)
 -- What a record says: the owed session, k, the three groups of the list, and the mark words.
 pub record WordDesk : Type 0 where
   pub owed : ℕ
-  pub read : ℕ
+  pub scanned : ℕ
   pub ready : List ℕ
   pub tested : List ℕ
   pub waiting : List ℕ
@@ -27,7 +27,7 @@ unfoldable pub wordDesk : List ℕ → WordDesk
 wordDesk r =
     record {
       owed = getD r 0 0;
-      read = getD r 1 0;
+      scanned = getD r 1 0;
       ready = take (getD r 2 0) (listIn r);
       tested = take (getD r 3 0) (drop (getD r 2 0) (listIn r));
       waiting = take (getD r 4 0) (drop (getD r 3 0) (drop (getD r 2 0) (listIn r)));
@@ -41,14 +41,14 @@ listed d = d .ready ++ (d .tested ++ d .waiting)
 -- the record's words: owed, k, the three counts, the mark words, the list, then zeros up to 2s places
 unfoldable pub recordWords : ℕ → WordDesk → List ℕ
 recordWords s d =
-    d .owed ∷ d .read ∷ length (d .ready) ∷ length (d .tested) ∷ length (d .waiting)
+    d .owed ∷ d .scanned ∷ length (d .ready) ∷ length (d .tested) ∷ length (d .waiting)
     ∷ (d .words ++ (listed d ++ replicate (2 * s - length (listed d)) 0))
 
 -- (a) nothing tested: all waiting become tested
 abbrev pub testing : WordDesk → WordDesk
 testing d =
     cond (eqb (length (d .tested)) 0)
-    (record { owed = d .owed; read = d .read; ready = d .ready; tested = d .waiting; waiting = []; words = d .words })
+    (record { owed = d .owed; scanned = d .scanned; ready = d .ready; tested = d .waiting; waiting = []; words = d .words })
     d
 
 -- the mark words after a session was read: the first unmarked tested place with it is marked, if there is one
@@ -61,7 +61,7 @@ abbrev pub seeing : ℕ → WordDesk → WordDesk
 seeing x d =
     record {
       owed = d .owed;
-      read = d .read + 1;
+      scanned = d .scanned + 1;
       ready = d .ready;
       tested = d .tested;
       waiting = d .waiting;
@@ -73,7 +73,7 @@ abbrev pub settled : WordDesk → WordDesk
 settled d =
     record {
       owed = d .owed;
-      read = 0;
+      scanned = 0;
       ready = d .ready ++ pick 0 (marks (d .words)) (d .tested);
       tested = [];
       waiting = pick 1 (marks (d .words)) (d .tested) ++ d .waiting;
@@ -83,7 +83,19 @@ settled d =
 -- (d) the first ready session leaves
 abbrev pub handed : WordDesk → WordDesk
 handed d =
-    record { owed = d .owed; read = d .read; ready = drop 1 (d .ready); tested = d .tested; waiting = d .waiting; words = d .words }
+    record { owed = d .owed; scanned = d .scanned; ready = drop 1 (d .ready); tested = d .tested; waiting = d .waiting; words = d .words }
+
+-- retire: the owed session goes to the end of the list as waiting, and nothing is owed
+abbrev pub retired : WordDesk → WordDesk
+retired d =
+    record {
+      owed = 0;
+      scanned = d .scanned;
+      ready = d .ready;
+      tested = d .tested;
+      waiting = d .waiting ++ (d .owed ∷ []);
+      words = d .words;
+    }
 
 -- What every part of a collect keeps: the list fits, there are eight mark words, and no place beyond the tested is marked.
 pub record Fit (s : ℕ) (d : WordDesk) : Type 0 where
@@ -96,15 +108,3 @@ pub record Formed (s : ℕ) (r : List ℕ) : Type 0 where
   pub most : s ≤ mostAllScreens
   pub is : r ≡ recordWords s (wordDesk r)
   pub fit : Fit s (wordDesk r)
-
--- the owed session goes to the end of the list as waiting, and nothing is owed
-abbrev pub retired : WordDesk → WordDesk
-retired d =
-    record {
-      owed = 0;
-      read = d .read;
-      ready = d .ready;
-      tested = d .tested;
-      waiting = d .waiting ++ (d .owed ∷ []);
-      words = d .words;
-    }

@@ -8,8 +8,6 @@ use mathlib.Core.List.{List, [], _∷_, _++_}
 use lib.Dec.{ltb}
 use borrow.Author.Tests.{lt-ltb, le-ltb}
 use Rattle.sheet_rules.specs.Lines.{digits, decimal}
-use Rattle.lines.specs.Put.{Fits, Put}
-use Rattle.lines.specs.laws.Put.{put-on, fits-first, fits-rest}
 
 -- how many digits there may be does not matter, once they are enough
 digits-enough : (most value : ℕ) → value < 10 ^ suc most → digits (suc most) value ≡ digits (suc (suc most)) value
@@ -27,22 +25,8 @@ pub decimal-one : (value : ℕ) → value < 10 → decimal value ≡ (48 + value
 unfolding decimal
 decimal-one value small = simp (lt-ltb value 10 small)
 
-decimal-more : (value : ℕ) → 10 ≤ value → value < 2 ^ 64 → decimal value ≡ decimal (value / 10) ++ ((48 + value % 10) ∷ [])
+pub decimal-more : (value : ℕ) → 10 ≤ value → value < 2 ^ 64 → decimal value ≡ decimal (value / 10) ++ ((48 + value % 10) ∷ [])
 unfolding decimal
 decimal-more value large fits =
     ap (λ (small : Bool). cond {A = List ℕ} small ((48 + value) ∷ []) (digits 19 (value / 10) ++ ((48 + value % 10) ∷ []))) (le-ltb value 10 large)
     ∙ ap (λ (front : List ℕ). front ++ ((48 + value % 10) ∷ [])) (digits-enough 18 (value / 10) (omega arith))
-
--- ---- What `put_digits` needs of a number of two digits or more: that the digits before the last fit, that the last fits after
--- them, and that all are put then.
-pub tenth-fits : (out : List ℕ) (at value : ℕ) → 10 ≤ value → value < 2 ^ 64 → Fits out at (decimal value) → Fits out at (decimal (value / 10))
-tenth-fits out at value large small fits =
-    fits-first out at (decimal (value / 10)) ((48 + value % 10) ∷ []) (rw (decimal-more value large small) at fits)
-
-module _ {before middle : List ℕ} {at value last : ℕ} (tenth : Put before middle at (decimal (value / 10)) last) where
-  pub last-fits : 10 ≤ value → value < 2 ^ 64 → Fits before at (decimal value) → Fits middle last ((48 + value % 10) ∷ [])
-  last-fits large small fits = fits-rest tenth ((48 + value % 10) ∷ []) (rw (decimal-more value large small) at fits)
-
-  pub last-put : {after : List ℕ} {next : ℕ} → Put middle after last ((48 + value % 10) ∷ []) next → 10 ≤ value → value < 2 ^ 64
-      → Fits before at (decimal value) → Put before after at (decimal value) next
-  last-put end large small fits = rw (decimal-more value large small) (put-on tenth end (omega arith))

@@ -1,4 +1,4 @@
--- A partition of a list by its marks, in two passes.
+-- A partition of a list by its marks, in two passes; words copied and words moved up.
 use Prim.Native.Nat.{ℕ, _+_, _-_, _≤_, _<_}
 use native.Mathlib.Numerals.{add-one}
 use native.Mathlib.Omega.{arith}

@@ -5,9 +5,8 @@ ghost use mathlib.Core.Path.{_≡_};
 ghost use mathlib.Core.Bool.{true};
 ghost use Prim.Native.Nat.{_≤_};
 ghost use lib.ListN.{length};
-ghost use Rattle.rules.specs.Table.{endTable};
-ghost use Rattle.sheet_rules.specs.Sheet.{lentTable, reading};
-ghost use Rattle.sheet.specs.Turn.{callsOf, recordRoom, startTable};
+ghost use Rattle.sheet_rules.specs.Sheet.{lentTable};
+ghost use Rattle.sheet.specs.Turn.{recordRoom, sheetTable};
 
 // Standard output.
 const OUTPUT: i32 = 1;
@@ -17,7 +16,7 @@ const OUTPUT: i32 = 1;
 // It requires what `start` and `fill` do: its callers lend the table as the rules have it and a buffer with room.
 pub fn print(sheet: &[u8], table: &mut [u16], out: &mut [u8]) -> bool
     requires { ⌜ (now table ≡ lentTable) × (recordRoom ≤ length (now out)) ⌝ }
-    ensures { λ r. ⌜ (r ≡ true → now (table .exit) ≡ endTable (startTable (reading (now (sheet .entry)))) (callsOf (reading (now (sheet .entry))))) ⌝ }
+    ensures { λ r. ⌜ (r ≡ true → now (table .exit) ≡ sheetTable (now (sheet .entry))) ⌝ }
 {
     let first = start(sheet, table, out);
     let put = first.put;

@@ -29,6 +29,10 @@ module _ (most : ℕ) {sheet : List ℕ} {at byte : ℕ} (here : Byte sheet at b
       → groupsIn (suc most) (drop at sheet) ≡ before (byte % 128) (groupsIn most (drop next sheet))
   groups-more next is-next more = ap (groupsIn (suc most)) from-here ∙ simp (le-ltb byte 128 more, is-next)
 
+-- the last group is the highest
+last-group : (group : ℕ) → group + 128 * 0 ≡ group
+last-group group = omega arith
+
 -- ---- No byte stands there.
 pub none-there : (limit : ℕ) (sheet : List ℕ) (at : ℕ) → length sheet ≤ at → number limit sheet at ≡ refusal 0 15
 unfolding number
@@ -38,9 +42,7 @@ none-there limit sheet at past = simp (groups-stop 2 sheet at past)
 module _ (limit : ℕ) {sheet : List ℕ} {at first : ℕ} (one : Byte sheet at first) where
   pub one-ends : first < 128 → number limit sheet at ≡ withinLimit limit first (at + 1)
   unfolding number
-  one-ends last =
-      let alone : first + 128 * 0 ≡ first = omega arith in
-      simp (groups-last 2 one last, alone)
+  one-ends last = simp (groups-last 2 one last, last-group)
 
   pub one-only : 128 ≤ first → length sheet ≤ at + 1 → number limit sheet at ≡ refusal 0 15
   unfolding number
@@ -50,9 +52,7 @@ module _ (limit : ℕ) {sheet : List ℕ} {at first : ℕ} (one : Byte sheet at 
   module _ (more : 128 ≤ first) {second : ℕ} (two : Byte sheet (at + 1) second) where
     pub two-end : second < 128 → number limit sheet at ≡ withinLimit limit (first % 128 + 128 * second) (at + 2)
     unfolding number
-    two-end last =
-        let alone : second + 128 * 0 ≡ second = omega arith in
-        simp (groups-more 2 one (at + 1) refl more, groups-last 1 two last, alone)
+    two-end last = simp (groups-more 2 one (at + 1) refl more, groups-last 1 two last, last-group)
 
     pub two-only : 128 ≤ second → length sheet ≤ at + 2 → number limit sheet at ≡ refusal 0 15
     unfolding number
@@ -65,8 +65,7 @@ module _ (limit : ℕ) {sheet : List ℕ} {at first : ℕ} (one : Byte sheet at 
           → number limit sheet at ≡ withinLimit limit (first % 128 + 128 * (second % 128 + 128 * third)) (at + 3)
       unfolding number
       three-end last =
-          let alone : third + 128 * 0 ≡ third = omega arith in
-          simp (groups-more 2 one (at + 1) refl more, groups-more 1 two (at + 2) (omega arith) more₂, groups-last 0 three last, alone)
+          simp (groups-more 2 one (at + 1) refl more, groups-more 1 two (at + 2) (omega arith) more₂, groups-last 0 three last, last-group)
 
       pub three-go-on : 128 ≤ third → number limit sheet at ≡ refusal 0 16
       unfolding number

@@ -5,23 +5,22 @@ use mathlib.Core.Bool.{Bool, true, false, cond, _&&_}
 use mathlib.Core.List.{List, [], _∷_}
 use lib.ListN.{length, getD, take}
 use lib.Dec.{ltb, eqb}
-use Rattle.rules.specs.Bytes.{stepBytes, wordsOfBytes}
+use Rattle.rules.specs.Bytes.{openBytes, stepBytes, wordsOfBytes}
 use Rattle.rules.specs.Hall.{Hall, Limits, allScreens}
 use Rattle.rules.specs.History.{Deed, Disciplined, DroppedBefore, Linked, Unshown, collectsOf, copies, deedAt, handBacks, handBacksOf, handsBack}
 use Rattle.rules.specs.History.{lacksRoom, retirements, retirementsOf, retires}
 use Rattle.rules.specs.Steps.{Call, Collect, Drop, Event, Retire, Swap, Take, inRange, isSession}
 use Rattle.rules.specs.Table.{hallIn, listIn, listPlace, need, openTable, positionWord, recordOf, recordStart, recordWidth, screenWord, sound, stepTable}
 use Rattle.rules.specs.Table.{usedIn, waitingPlace}
-use Rattle.rules.specs.laws.Links.{link}
 
 -- ---- Demand 1. "an accepted call writes only the words its step names"
 
--- The words that a step names: take and drop, the one screen; swap, the position, and the owed word only "if the old is not 0";
--- retire, the owed word, the count of waiting and the first unused place of the list; collect, k, the counts, the marks and the list.
 abbrev pub or : Bool → Bool → Bool
 or true b = true
 or false b = b
 
+-- The words that a step names: take and drop, the one screen; swap, the position, and the owed word only "if the old is not 0";
+-- retire, the owed word, the count of waiting and the first unused place of the list; collect, k, the counts, the marks and the list.
 abbrev pub names : List ℕ → Call → ℕ → Bool
 names table (Take d c p) i = eqb i (screenWord (hallIn table) d c)
 names table (Drop d c) i = eqb i (screenWord (hallIn table) d c)
@@ -70,6 +69,15 @@ pub record BytesDemand1 (limits : Limits) (bytes : List ℕ) (call : Call) : Typ
   -- "an odd last byte is not part of the table"
   pub lastByte : (j : ℕ) → 2 * length (wordsOfBytes bytes) ≤ j → getD (stepBytes limits bytes call .after) j 0 ≡ getD bytes j 0
   pub sameLength : length (stepBytes limits bytes call .after) ≡ length bytes
+
+-- What an opening may do to it.
+pub record BytesOpeningDemand1 (limits : Limits) (hall : Hall) (bytes : List ℕ) : Type 0 where
+  pub refused : (n : ℕ) → openBytes limits hall bytes .reply / 65536 ≡ suc n
+      → (1 ≤ copies (suc n) (1 ∷ 2 ∷ 3 ∷ 4 ∷ [])) × (openBytes limits hall bytes .reply ≡ suc n * 65536) × (openBytes limits hall bytes .after ≡ bytes)
+  pub accepted : openBytes limits hall bytes .reply / 65536 ≡ 0 → (j : ℕ) → need hall ≤ j / 2
+      → getD (openBytes limits hall bytes .after) j 0 ≡ getD bytes j 0
+  pub lastByte : (j : ℕ) → 2 * length (wordsOfBytes bytes) ≤ j → getD (openBytes limits hall bytes .after) j 0 ≡ getD bytes j 0
+  pub sameLength : length (openBytes limits hall bytes .after) ≡ length bytes
 
 -- ---- Demands 2 and 3 speak of a history, a list of calls with their answers, and of the words of the table after its first i calls.
 
@@ -123,5 +131,5 @@ pub record Demand3 (hall : Hall) (history : List Event) (tableAfter : ℕ → Li
 abbrev pub readings : ℕ → ℕ
 readings S = (S + 1) / 2
 
-abbrev pub exactBound : ℕ → ℕ
-exactBound S = 2 * S + 2 * readings S - 2
+abbrev pub sharperBound : ℕ → ℕ
+sharperBound S = 2 * S + 2 * readings S - 2

@@ -3,17 +3,18 @@ use Prim.Native.Nat.{ℕ, suc, _+_, _≤_}
 use native.Mathlib.Omega.{arith}
 use mathlib.Core.Path.{_≡_, refl, sym, ap, _∙_, subst}
 use mathlib.Core.List.{List, [], _∷_, _++_}
-use lib.ListN.{take, replicate}
+use lib.ListN.{replicate}
 use borrow.Author.Tests.{eq-eqb}
 use Rattle.rules.specs.Hall.{Hall, Limits, hallLimits, hallOf, mostPositions}
 use Rattle.rules.specs.Steps.{Answer, Call, Collect, Drop, Event, Retire, Swap, Take}
 use Rattle.rules.specs.Table.{decodeDesk, encodeDesk, openTable, recordSound, runTable, sound, stepTable}
 use Rattle.rules.specs.History.{Deed, Disciplined, DroppedBefore, Linked, deedAt, handBacks, handBacksOf, handsBack, isRetirementOf, retirements, retires}
 use Rattle.rules.specs.History.{swaps, takes}
-use Rattle.rules.specs.Demands.{BackWithin, Guarantee, exactBound}
+use Rattle.rules.specs.Demands.{BackWithin, Guarantee, sharperBound}
 use Rattle.rules.specs.Theorems.{back-sooner, demand-2, demand-3}
 use Rattle.rules.specs.Cases.{_⇒_, ok, refused}
-use Rattle.rules.specs.laws.Checks.{disciplined, isDrop, never-shown, nowhere, one-of-two, only-at, placesWhere}
+use Rattle.rules.specs.laws.Checks.{disciplined, never-shown, nowhere, one-of-two, only-at, placesWhere}
+use Rattle.rules.specs.laws.OwnDeeds.{isDrop}
 
 -- a history of a hall that is opened in a table of 9s
 abbrev historyOf : Hall → ℕ → List Call → List Event
@@ -54,7 +55,7 @@ slowest =
     shown 1 11 ++ (shown 2 12 ++ (shown 3 13 ++ (Collect 1 ∷ retiring 21 ++ (retiring 22 ++ (retiring 5
     ++ (Collect 1 ∷ Drop 1 1 ∷ Drop 2 1 ∷ Drop 3 1 ∷ Collect 1 ∷ Collect 1 ∷ Collect 1 ∷ Collect 1 ∷ Collect 1 ∷ Collect 1 ∷ Collect 1 ∷ []))))))
 
-pub exact-for-three : exactBound 3 ≡ 8
+pub exact-for-three : sharperBound 3 ≡ 8
 exact-for-three = refl
 
 pub seven-are-too-few : BackWithin 7 (historyOf (hallOf 3 1 1) 70 slowest) → ⊥
@@ -121,17 +122,22 @@ module _ (es : List Event) (h d s : ℕ) (none : placesWhere isDrop 0 es ≡ [])
       let k = linked (g .pair h) (g .same h d s back) in
       never-dropped (k .0) (g .dropped h d s (k .0) back (k .1))
 
+  -- and so where there is only one, at the second place after a take, and its swap between them
+  refuses-one : (i x c p : ℕ) → placesWhere (isRetirementOf s) 0 es ≡ suc (suc i) ∷ [] → deedAt es i ≡ takes x c p s → deedAt es (suc i) ≡ swaps d p
+      → deedAt es (suc (suc i)) ≡ retires d s → Guarantee (deedAt es) → ⊥
+  refuses-one i x c p only take swap retire = refuses linked
+    where
+      linked : (r : ℕ) → deedAt es r ≡ retires d s → (i : ℕ) × Linked (deedAt es) i r
+      linked r e =
+          let there : r ≡ suc (suc i) = only-at (isRetirementOf s) refl es (suc (suc i)) only r (ap (isRetirementOf s) e ∙ eq-eqb s s refl) in
+          (i, subst (Linked (deedAt es) i) (sym there) (linked-at-once (deedAt es) i x c p s d s take swap retire))
+
 -- error 4, the desk's own screen not read
 abbrev ownSkipped : List Event
 ownSkipped = (Swap 1 1 5 ⇒ ok 0) ∷ (Take 1 1 1 ⇒ ok 5) ∷ (Swap 1 1 0 ⇒ ok 5) ∷ (Retire 1 ⇒ ok 5) ∷ (Collect 1 ⇒ ok 5) ∷ []
 
 pub refuses-own-skipped : Guarantee (deedAt ownSkipped) → ⊥
-refuses-own-skipped = refuses ownSkipped 4 1 5 refl refl linked
-  where
-    linked : (r : ℕ) → deedAt ownSkipped r ≡ retires 1 5 → (i : ℕ) × Linked (deedAt ownSkipped) i r
-    linked r e =
-        let there : r ≡ 3 = only-at (isRetirementOf 5) refl ownSkipped 3 refl r (ap (isRetirementOf 5) e) in
-        (1, subst (Linked (deedAt ownSkipped) 1) (sym there) (linked-at-once (deedAt ownSkipped) 1 1 1 1 5 1 5 refl refl refl))
+refuses-own-skipped = refuses-one ownSkipped 4 1 5 refl refl 1 1 1 1 refl refl refl refl
 
 -- error 2, a session retired in mid-reading joins the tested ones, and a screen that was read before shows it
 abbrev joinedLate : List Event
@@ -140,18 +146,12 @@ joinedLate =
     ∷ (Collect 1 ⇒ ok 7) ∷ (Collect 1 ⇒ ok 5) ∷ []
 
 pub refuses-joined-late : Guarantee (deedAt joinedLate) → ⊥
-refuses-joined-late = refuses joinedLate 8 1 5 refl refl linked
-  where
-    linked : (r : ℕ) → deedAt joinedLate r ≡ retires 1 5 → (i : ℕ) × Linked (deedAt joinedLate) i r
-    linked r e =
-        let there : r ≡ 6 = only-at (isRetirementOf 5) refl joinedLate 6 refl r (ap (isRetirementOf 5) e) in
-        (4, subst (Linked (deedAt joinedLate) 4) (sym there) (linked-at-once (deedAt joinedLate) 4 1 1 1 5 1 5 refl refl refl))
+refuses-joined-late = refuses-one joinedLate 8 1 5 refl refl 4 1 1 1 refl refl refl refl
 
 -- error 3, one place marked for two screens that show 5, each linked to a retirement of its own
 abbrev markedTwice : List Event
 markedTwice =
-    (Swap 1 1 5 ⇒ ok 0) ∷ (Swap 1 2 5 ⇒ ok 0) ∷ (Take 1 1 1 ⇒ ok 5) ∷ (Swap 1 1 0 ⇒ ok 5) ∷ (Retire 1 ⇒ ok 5) ∷ (Take 2 1 2 ⇒ ok 5) ∷
-    (Swap 1 2 0 ⇒ ok 5)
+    (Swap 1 1 5 ⇒ ok 0) ∷ (Swap 1 2 5 ⇒ ok 0) ∷ (Take 1 1 1 ⇒ ok 5) ∷ (Swap 1 1 0 ⇒ ok 5) ∷ (Retire 1 ⇒ ok 5) ∷ (Take 2 1 2 ⇒ ok 5) ∷ (Swap 1 2 0 ⇒ ok 5)
     ∷ (Retire 1 ⇒ ok 5) ∷ (Collect 1 ⇒ ok 5) ∷ []
 
 pub refuses-marked-twice : Guarantee (deedAt markedTwice) → ⊥
@@ -169,10 +169,19 @@ outOfOrder = Swap 1 1 5 ∷ Take 2 1 1 ∷ Swap 1 1 0 ∷ Retire 1 ∷ Swap 1 1 
 pub pairs-the-second : (g : Guarantee (deedAt (historyOf (hallOf 2 1 1) 50 outOfOrder))) → g .pair 7 ≡ 6
 unfolding openTable stepTable sound recordSound encodeDesk decodeDesk
 pairs-the-second g =
-    one-of-two (λ (m : ℕ). g .pair 7 ≡ m → m ≡ 6) (isRetirementOf 5) refl (historyOf (hallOf 2 1 1) 50 outOfOrder) 3 6 refl
-    (λ q. absurd (never-dropped (historyOf (hallOf 2 1 1) 50 outOfOrder) 7 1 5 refl refl 1
-    (g .dropped 7 1 5 1 refl (subst (Linked (deedAt (historyOf (hallOf 2 1 1) 50 outOfOrder)) 1) (sym q) (linked-at-once (deedAt (historyOf (hallOf 2 1 1) 50 outOfOrder)) 1 2 1 1 5 1 5 refl refl refl)))))
-    (λ q. refl) (g .pair 7) (ap (isRetirementOf 5) (g .same 7 1 5 refl)) refl
+    one-of-two (λ (m : ℕ). g .pair 7 ≡ m → m ≡ 6) (isRetirementOf 5) refl history 3 6 refl (λ q. absurd (not-the-first q)) (λ q. refl) (g .pair 7)
+    (ap (isRetirementOf 5) (g .same 7 1 5 refl)) refl
+  where
+    history : List Event
+    history = historyOf (hallOf 2 1 1) 50 outOfOrder
+
+    first-linked : Linked (deedAt history) 1 3
+    first-linked = linked-at-once (deedAt history) 1 2 1 1 5 1 5 refl refl refl
+
+    not-the-first : g .pair 7 ≡ 3 → ⊥
+    not-the-first q =
+        never-dropped history 7 1 5 refl refl 1
+        (g .dropped 7 1 5 1 refl (subst (Linked (deedAt history) 1) (sym q) first-linked))
 
 -- ---- A board may be told smaller limits than the hall's: at most 4 desks, with one screen each.
 abbrev fourDesks : Limits

@@ -102,13 +102,13 @@ handBack desk = record {
   after = record { owed = desk .owed; scanned = desk .scanned; ready = drop 1 (desk .ready); tested = desk .tested; waiting = desk .waiting };
 }
 
--- A collect of a desk, in a hall of S screens, where the screens that it reads show `sessions`.
+-- "Collect (desk), in this order: (a) .. (b) .. (c) .. (d)": of a desk, in a hall of S screens that show `shown`.
+abbrev pub collect : ℕ → List ℕ → Desk → Collected
+collect S shown desk = handBack (settle S (scan shown (begin desk)))
+
+-- The same, told what the screens that it reads show, as the code is (`collect-seeing` in laws/TableSteps ties the two).
 abbrev pub collectSeeing : ℕ → List ℕ → Desk → Collected
 collectSeeing S sessions desk = handBack (settle S (scanAt (begin desk .tested) sessions (begin desk)))
-
--- The whole collect of a desk, in a hall of S screens that show `shown`.
-abbrev pub collect : ℕ → List ℕ → Desk → Collected
-collect S shown desk = collectSeeing S (nextScreens shown (begin desk)) desk
 
 -- ---- Retire, and what a swap makes its desk owe.
 

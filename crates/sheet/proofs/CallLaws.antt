@@ -1,7 +1,6 @@
--- The step that each code asks for.
+-- The step that each code asks for. (The collect is `asks-collect` of the rules.)
 use mathlib.Core.Path.{_≡_}
-use borrow.Author.Tests.{ne-eqb}
-use Rattle.rules.specs.Steps.{Take, Drop, Swap, Retire, Collect}
+use Rattle.rules.specs.Steps.{Take, Drop, Swap, Retire}
 use Rattle.sheet_rules.specs.Sheet.{Record, callOf}
 
 module _ (entry : Record) where
@@ -16,7 +15,3 @@ module _ (entry : Record) where
 
   pub is-retire : entry .code ≡ 4 → callOf entry ≡ Retire (entry .desk)
   is-retire e = simp e
-
-  pub is-collect : (entry .code ≡ 1 → ⊥) → (entry .code ≡ 2 → ⊥) → (entry .code ≡ 3 → ⊥) → (entry .code ≡ 4 → ⊥)
-      → callOf entry ≡ Collect (entry .desk)
-  is-collect take drop swap retire = simp (ne-eqb _ _ take, ne-eqb _ _ drop, ne-eqb _ _ swap, ne-eqb _ _ retire)

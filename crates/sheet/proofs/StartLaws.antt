@@ -1,111 +1,104 @@
--- The ways that a sheet starts: too long, a header that is cut, an opening that is refused, or a hall that is open.
-use Prim.Native.Nat.{ℕ, zero, suc, _≤_, _<_}
+-- The ways that a sheet starts: its reading ends before a record, an opening is refused, or a hall is open.
+use Prim.Native.Nat.{ℕ, zero, suc, _≤_}
 use native.Mathlib.Omega.{arith}
 use mathlib.Core.Path.{_≡_, refl, sym, ap, _∙_}
 use mathlib.Core.Bool.{false}
 use mathlib.Core.List.{List, _++_, append-nil}
 use lib.ListN.{length}
-use borrow.Author.Tests.{le-leb, lt-leb}
-use Rattle.rules.specs.Hall.{Hall}
+use Rattle.rules.specs.Hall.{Hall, hallLimits}
 use Rattle.rules.specs.Steps.{Answer}
 use Rattle.rules.specs.Table.{TableDone, openIf, openTable}
-use Rattle.rules.specs.Numbers.{refusalOf, got, refused}
+use Rattle.rules.specs.Numbers.{got, refusalOf}
 use Rattle.reply.specs.Answer.{answerOf, told}
 use Rattle.reply.specs.declared.Reply.{Reply}
-use Rattle.sheet_rules.specs.Sheet.{recordsAt, headerAt, lentTable, openingNumber, unopened, opened, openedIf, mostBytes, reading}
+use Rattle.sheet_rules.specs.Sheet.{headerAt, lentTable, mostBytes, opened, openedIf, openingNumber, reading, recordsAt, unopened}
 use Rattle.sheet_rules.specs.Tally.{zeros}
-use Rattle.sheet_rules.specs.Lines.{line, answerLine, endLine, linesFrom, linesOf, printed}
-use Rattle.sheet_rules.specs.laws.Sheet.{header-got, opening-answer}
+use Rattle.sheet_rules.specs.Lines.{answerLine, endLine, line, linesFrom, linesOf, printed}
+use Rattle.sheet_rules.specs.laws.Sheet.{header-got, opening-answer, short-enough}
 use Rattle.lines.specs.Put.{Put}
 use Rattle.tally.specs.declared.Tally.{Tally}
 use Rattle.sheet.specs.declared.State.{State}
-use Rattle.sheet.specs.Turn.{finishedAt, startTable, callsOf, Started}
-use Rattle.sheet.proofs.TurnLaws.{put-within, put-first, put-rest}
+use Rattle.sheet.specs.Turn.{Started, callsOf, finishedAt, startTable}
+use Rattle.sheet.proofs.TurnLaws.{put-first, put-rest, put-within}
 
 -- before anything is read, and at the first record
 abbrev noTally : Tally
 noTally = record { accepted = 0; refused = 0; «handed_back» = 0 }
 
-abbrev pub atHeader : State
+abbrev atHeader : State
 atHeader = record { place = 0; index = 0; tally = noTally; finished = false }
 
-abbrev pub atFirst : ℕ → State
+abbrev atFirst : ℕ → State
 atFirst next = record { place = next; index = 1; tally = noTally; finished = false }
 
--- ---- What the reading is.
-module _ (sheet : List ℕ) where
-  pub too-long : mostBytes < length sheet → reading sheet ≡ unopened (refusalOf 0 18)
-  unfolding reading
-  too-long long = simp (lt-leb (length sheet) mostBytes long)
+-- the reading of a sheet whose header was read, by the number that the board replied to the opening
+opening-number : (hall : Hall) (reply : Reply) (after : List ℕ) {number : ℕ} → told reply after ≡ openTable hallLimits hall lentTable
+    → number ≡ answerOf reply .number
+    → openingNumber hall ≡ number
+opening-number hall reply after tells is-number =
+    sym (ap (λ (answer : Answer). answer .number) (opening-answer hall)) ∙ sym (ap (λ (done : TableDone). done .answer .number) tells) ∙ sym is-number
 
-  module _ (short : length sheet ≤ mostBytes) where
-    pub header-cut : (number : ℕ) → headerAt sheet 0 ≡ refused (refusalOf 0 number) → reading sheet ≡ unopened (refusalOf 0 number)
-    unfolding reading
-    header-cut number read = simp (le-leb (length sheet) mostBytes short, read)
+reads-by : (sheet : List ℕ) {hall : Hall} {next number : ℕ} → length sheet ≤ mostBytes → headerAt sheet 0 ≡ got hall next
+    → openingNumber hall ≡ number
+    → reading sheet ≡ openedIf number hall (recordsAt (length sheet) sheet next)
+reads-by sheet {hall} {next} short read opening =
+    short-enough sheet short read ∙ ap (λ (n : ℕ). openedIf n hall (recordsAt (length sheet) sheet next)) opening
 
-    opening-read : (hall : Hall) (next : ℕ) → headerAt sheet 0 ≡ got hall next
-        → reading sheet ≡ openedIf (openingNumber hall) hall (recordsAt (length sheet) sheet next)
-    unfolding reading
-    opening-read hall next read = simp (le-leb (length sheet) mostBytes short, read)
-
-    -- the board's reply to the opening, with the table that it leaves
-    module _ (hall : Hall) (next : ℕ) (read : headerAt sheet 0 ≡ got hall next) (reply : Reply) (after : List ℕ) (number : ℕ)
-        (tells : told reply after ≡ openTable hall lentTable) (is-number : number ≡ answerOf reply .number) where
-      pub opening-number : openingNumber hall ≡ number
-      opening-number =
-          sym (ap (λ (answer : Answer). answer .number) (opening-answer hall)) ∙ sym (ap (λ (done : TableDone). done .answer .number) tells) ∙ sym is-number
-
-      pub opening-refused : (number ≡ 0 → ⊥) → reading sheet ≡ unopened (refusalOf 0 number)
-      opening-refused some = opening-read hall next read ∙ ap (λ (n : ℕ). openedIf n hall (recordsAt (length sheet) sheet next)) opening-number ∙ by-number number some
-        where
-          by-number : (n : ℕ) → (n ≡ 0 → ⊥) → openedIf n hall (recordsAt (length sheet) sheet next) ≡ unopened (refusalOf 0 n)
-          by-number zero some = absurd (some refl)
-          by-number (suc n) some = refl
-
-      pub table-refused : (number ≡ 0 → ⊥) → after ≡ lentTable
-      unfolding openTable openingNumber
-      table-refused some = ap (λ (done : TableDone). done .after) tells ∙ ap (λ (n : ℕ). openIf n hall lentTable .after) opening-number ∙ by-number number some
-        where
-          by-number : (n : ℕ) → (n ≡ 0 → ⊥) → openIf n hall lentTable .after ≡ lentTable
-          by-number zero some = absurd (some refl)
-          by-number (suc n) some = refl
-
-      pub opening-accepted : number ≡ 0 → reading sheet ≡ opened hall (recordsAt (length sheet) sheet next)
-      opening-accepted none = opening-read hall next read ∙ ap (λ (n : ℕ). openedIf n hall (recordsAt (length sheet) sheet next)) (opening-number ∙ none)
-
--- ---- What the start leaves.
-module _ (sheet out outAfter : List ℕ) (end : ℕ) where
-  pub started-stopped : (number : ℕ) → reading sheet ≡ unopened (refusalOf 0 number)
-      → (after : List ℕ) → after ≡ lentTable
-      → Put out outAfter 0 (line 0 0 number 0 ++ endLine zeros) end
-      → (is : State) → is ≡ finishedAt atHeader
+module _ {sheet out outAfter : List ℕ} {end : ℕ} where
+  -- The reading ended before a record: the header's line and the last line are all there is.
+  pub started-stopped : {number : ℕ} {after : List ℕ} {is : State} → reading sheet ≡ unopened (refusalOf 0 number) → after ≡ lentTable
+      → Put out outAfter 0 (line 0 0 number 0 ++ endLine zeros) end → is ≡ finishedAt atHeader
       → Started sheet out is after outAfter end
   unfolding printed
-  started-stopped number reads after same put is finished = rw finished (record {
-    within = put-within out outAfter _ end put;
-    lines = append-nil _ ∙ put-first out outAfter _ end put ∙ sym (ap linesOf reads);
+  started-stopped reads same put finished = rw finished (record {
+    within = put-within put;
+    lines = append-nil _ ∙ put-first put ∙ sym (ap linesOf reads);
     run = sym (ap callsOf reads);
     table = same ∙ sym (ap startTable reads);
-    rest = put-rest out outAfter _ end put;
+    rest = put-rest put;
     numbered = omega arith;
   })
 
-  pub started-opened : (hall : Hall) (next : ℕ) → headerAt sheet 0 ≡ got hall next
-      → reading sheet ≡ opened hall (recordsAt (length sheet) sheet next)
-      → (after : List ℕ) → after ≡ openTable hall lentTable .after
-      → openingNumber hall ≡ 0
-      → Put out outAfter 0 (line 0 0 0 0) end
-      → Started sheet out (atFirst next) after outAfter end
-  unfolding printed
-  started-opened hall next read reads after same accepted put = record {
-    within = put-within out outAfter _ end put;
-    lines =
-        (λ i. put-first out outAfter (line 0 0 0 0) end put i ++ linesFrom (same i) 1 zeros (recordsAt (length sheet) sheet next))
-        ∙ ap (λ (n : ℕ). line 0 0 n 0 ++ linesFrom (openTable hall lentTable .after) 1 zeros (recordsAt (length sheet) sheet next)) (sym accepted)
-        ∙ ap (λ (answer : Answer). answerLine 0 0 answer ++ linesFrom (openTable hall lentTable .after) 1 zeros (recordsAt (length sheet) sheet next)) (sym (opening-answer hall))
-        ∙ sym (ap linesOf reads);
-    run = sym (ap callsOf reads);
-    table = same ∙ sym (ap startTable reads);
-    rest = put-rest out outAfter _ end put;
-    numbered = omega (arith, header-got sheet 0 hall next read .past);
-  }
+  -- The header was read, and the board replied to the opening.
+  module _ (reply : Reply) {hall : Hall} {next : ℕ} {after : List ℕ} {number : ℕ} (short : length sheet ≤ mostBytes)
+      (read : headerAt sheet 0 ≡ got hall next) (tells : told reply after ≡ openTable hallLimits hall lentTable) (is-number : number ≡ answerOf reply .number) where
+    pub started-refused : {is : State} → (number ≡ 0 → ⊥) → Put out outAfter 0 (line 0 0 number 0 ++ endLine zeros) end → is ≡ finishedAt atHeader
+        → Started sheet out is after outAfter end
+    unfolding openTable openingNumber
+    started-refused some =
+        started-stopped (reads-by sheet short read opening ∙ by-number number some .0)
+        (ap (λ (done : TableDone). done .after) tells ∙ ap (λ (n : ℕ). openIf n hall lentTable .after) opening ∙ by-number number some .1)
+      where
+        opening : openingNumber hall ≡ number
+        opening = opening-number hall reply after tells is-number
+
+        by-number : (n : ℕ) → (n ≡ 0 → ⊥)
+            → (openedIf n hall (recordsAt (length sheet) sheet next) ≡ unopened (refusalOf 0 n)) × (openIf n hall lentTable .after ≡ lentTable)
+        by-number zero some = absurd (some refl)
+        by-number (suc n) some = (refl, refl)
+
+    pub started-opened : number ≡ 0 → Put out outAfter 0 (line 0 0 0 0) end → Started sheet out (atFirst next) after outAfter end
+    unfolding printed
+    started-opened none put = record {
+      within = put-within put;
+      lines =
+          (λ i. put-first put i ++ linesFrom (leaves i) 1 zeros (recordsAt (length sheet) sheet next))
+          ∙ ap (λ (answer : Answer). answerLine 0 0 answer ++ linesFrom (openTable hallLimits hall lentTable .after) 1 zeros (recordsAt (length sheet) sheet next)) (sym answers)
+          ∙ sym (ap linesOf reads);
+      run = sym (ap callsOf reads);
+      table = leaves ∙ sym (ap startTable reads);
+      rest = put-rest put;
+      numbered = omega (arith, header-got sheet 0 hall next read .past);
+    }
+      where
+        opening : openingNumber hall ≡ 0
+        opening = opening-number hall reply after tells is-number ∙ none
+
+        reads : reading sheet ≡ opened hall (recordsAt (length sheet) sheet next)
+        reads = reads-by sheet short read opening
+
+        leaves : after ≡ openTable hallLimits hall lentTable .after
+        leaves = ap (λ (done : TableDone). done .after) tells
+
+        answers : openTable hallLimits hall lentTable .answer ≡ record { number = 0; session = 0 }
+        answers = opening-answer hall ∙ ap (λ (n : ℕ). record { number = n; session = 0 }) opening

@@ -1,13 +1,14 @@
 -- The program's work on a sheet goes in turns, since what it prints may be longer than its buffer: what is still to come at a
 -- state, and what a turn leaves. Document 01, "The day sheet".
-use Prim.Native.Nat.{ℕ, suc, _-_, _≤_}
+use Prim.Native.Nat.{ℕ, suc, _+_, _-_, _≤_}
 use mathlib.Core.Path.{_≡_}
 use mathlib.Core.Bool.{true, false, cond}
 use mathlib.Core.List.{List, [], _∷_, _++_}
 use lib.ListN.{length, take, drop}
+use Rattle.rules.specs.Hall.{hallLimits}
 use Rattle.rules.specs.Steps.{Call}
 use Rattle.rules.specs.Table.{endTable, openTable}
-use Rattle.sheet_rules.specs.Sheet.{recordsAt, callsIn, lentTable, Reading, unopened, opened, reading}
+use Rattle.sheet_rules.specs.Sheet.{Reading, callsIn, lentTable, opened, reading, recordsAt, unopened}
 use Rattle.sheet_rules.specs.Lines.{linesFrom, printed}
 use Rattle.lines.specs.Put.{Put}
 use Rattle.tally.specs.Count.{tallyIs}
@@ -18,7 +19,7 @@ abbrev pub endRoom : ℕ
 endRoom = 67
 
 abbrev pub recordRoom : ℕ
-recordRoom = 151
+recordRoom = 84 + endRoom
 
 -- What is still to be printed of a sheet: nothing once the last line is, else the lines from the next record on.
 abbrev pub toCome : List ℕ → State → List ℕ → List ℕ
@@ -42,7 +43,7 @@ pub record Piece (sheet : List ℕ) (was : State) (before bytes : List ℕ) (is 
   pub lines : bytes ++ toCome sheet is after ≡ toCome sheet was before
   pub calls : List Call
   pub run : calls ++ callsToCome sheet is ≡ callsToCome sheet was
-  pub table : after ≡ endTable before calls
+  pub table : after ≡ endTable hallLimits before calls
 
 -- There are fewer turns left, unless there were none. A record's number is at most its place, so that numbers do not run over.
 pub record Onward (sheet : List ℕ) (was is : State) : Type 0 where
@@ -67,11 +68,15 @@ pub record Turn (sheet : List ℕ) (was : State) (before out : List ℕ) (is : S
 -- the table once the header was read, and the steps to run
 abbrev pub startTable : Reading → List ℕ
 startTable (unopened reason) = lentTable
-startTable (opened hall records) = openTable hall lentTable .after
+startTable (opened hall records) = openTable hallLimits hall lentTable .after
 
 abbrev pub callsOf : Reading → List Call
 callsOf (unopened reason) = []
 callsOf (opened hall records) = callsIn records
+
+-- the table once all steps of a sheet are run
+abbrev pub sheetTable : List ℕ → List ℕ
+sheetTable sheet = endTable hallLimits (startTable (reading sheet)) (callsOf (reading sheet))
 
 -- The first bytes to be printed: the header's line, or all there is where the reading ends before a record.
 pub record Started (sheet out : List ℕ) (is : State) (after outAfter : List ℕ) (put : ℕ) : Type 0 where

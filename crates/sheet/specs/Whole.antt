@@ -1,31 +1,28 @@
 -- The theorems about a whole sheet: `start`, and then `fill` again and again, each finding the state and the table as the last left them.
 use Prim.Native.Nat.{ℕ, suc, _≤_}
-use mathlib.Core.Path.{_≡_, ap, _∙_}
+use mathlib.Core.Path.{_≡_, sym, ap, _∙_}
 use mathlib.Core.Bool.{true}
 use mathlib.Core.List.{List, _++_}
 use lib.ListN.{length, take}
 use native.Mathlib.Omega.{arith}
-use Rattle.rules.specs.Table.{endTable}
-use Rattle.sheet_rules.specs.Sheet.{reading}
 use Rattle.sheet_rules.specs.Lines.{printed}
 use Rattle.sheet.specs.declared.State.{State}
-use Rattle.sheet.specs.Turn.{Started, Left, lastState, lastTable, bytesOf, Turns, startTable, callsOf}
-use Rattle.sheet.specs.laws.Turns.{turns-piece, turns-few, left-at-most, all-printed, all-run}
+use Rattle.sheet.specs.Turn.{Started, Left, lastState, lastTable, bytesOf, Turns, sheetTable}
+use Rattle.sheet.specs.laws.Turns.{turns-piece, turns-few, left-at-most, all-printed, table-at-start, table-kept, table-at-end}
 
 module _ (sheet out : List ℕ) (first : State) (table outAfter : List ℕ) (put : ℕ) (started : Started sheet out first table outAfter put)
     (turns : List Left) (each : Turns sheet first table turns) where
   -- Once they are finished, they have printed exactly what the rules print of the sheet.
   pub whole-sheet : lastState first turns .finished ≡ true → take put outAfter ++ bytesOf turns ≡ printed sheet
   whole-sheet finished =
-      ap (λ (rest : List ℕ). take put outAfter ++ rest)
-      (all-printed sheet first table (bytesOf turns) (lastState first turns) (lastTable table turns) (turns-piece sheet first table turns each) finished)
-      ∙ started .lines
+      ap (λ (rest : List ℕ). take put outAfter ++ rest) (all-printed (turns-piece sheet first table turns each) finished) ∙ started .lines
 
   -- And the table is as the sheet's steps leave it.
-  pub whole-table : lastState first turns .finished ≡ true → lastTable table turns ≡ endTable (startTable (reading sheet)) (callsOf (reading sheet))
+  pub whole-table : lastState first turns .finished ≡ true → lastTable table turns ≡ sheetTable sheet
   whole-table finished =
-      all-run sheet first table (bytesOf turns) (lastState first turns) (lastTable table turns) (turns-piece sheet first table turns each) finished
-      ∙ (λ i. endTable (started .table i) (started .run i))
+      sym (table-at-end sheet (lastState first turns) (lastTable table turns) finished)
+      ∙ table-kept (turns-piece sheet first table turns each)
+      ∙ table-at-start started
 
   -- There are at most as many turns as the sheet has bytes, and one.
   pub turns-end : length turns ≤ suc (length sheet)

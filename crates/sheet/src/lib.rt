@@ -22,6 +22,7 @@ ghost use mathlib.Core.Bool.{false};
 ghost use mathlib.Core.List.{_++_};
 ghost use Prim.Native.Nat.{_+_, _≤_};
 ghost use lib.ListN.{length};
+ghost use Rattle.rules.specs.Hall.{hallLimits};
 ghost use Rattle.rules.specs.Table.{stepTable};
 ghost use Rattle.reply.specs.Answer.{told};
 ghost use Rattle.sheet_rules.specs.Sheet.{callOf, lentTable};
@@ -41,7 +42,7 @@ const TOO_LONG: u16 = 18;
 const NO_CODE: u16 = 17;
 
 // The bytes that a turn may need for one record: the longest line, and then the longest last line.
-const ROOM: usize = 151;
+const ROOM: usize = 84 + 67;
 
 // Where the program stands in a sheet: the place and the number of the next record, the tally so far, and whether the last
 // line is printed.
@@ -60,7 +61,7 @@ pub struct Filled {
 
 // The step that a record asks for. (Its code is 1 to 5: the reader keeps the others out.)
 pub fn run_record(table: &mut [u16], entry: Record) -> Reply
-    ensures { λ r. ⌜ told r (now (table .exit)) ≡ stepTable (now (table .entry)) (callOf (recordOf entry)) ⌝ }
+    ensures { λ r. ⌜ told r (now (table .exit)) ≡ stepTable hallLimits (now (table .entry)) (callOf (recordOf entry)) ⌝ }
 {
     let code = entry.code;
     match code {

@@ -1,4 +1,4 @@
-// Prints the lines of one sheet after another: the cases that `tests/sheet_cases.py` lists. Standard input has each sheet after its
+// Prints the lines of one sheet after another: the cases of `tests/sheet_cases.txt`. Standard input has each sheet after its
 // length, three bytes, low byte first.
 use board::Board;
 use printing::print;

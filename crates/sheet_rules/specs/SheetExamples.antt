@@ -3,14 +3,14 @@ use Prim.Native.Nat.{ℕ, _≤_, _<_}
 use mathlib.Core.Path.{_≡_, refl}
 use mathlib.Core.List.{List, [], _∷_}
 use Rattle.rules.specs.Hall.{hallOf}
-use Rattle.rules.specs.Table.{encodeDesk, decodeDesk, recordSound, sound, stepTable, openTable}
+use Rattle.rules.specs.Table.{decodeDesk, encodeDesk, openTable, recordSound, sound, stepTable}
 use Rattle.rules.specs.History.{handBacksOf}
-use Rattle.rules.specs.Numbers.{refusalOf, number}
+use Rattle.rules.specs.Numbers.{number, refusalOf}
 use Rattle.rules.specs.laws.Checks.{never-shown}
-use Rattle.sheet_rules.specs.Sheet.{recordFor, recordAt, Records, more, complete, stop, headerAt, lentTable, openingNumber, opened, reading}
-use Rattle.sheet_rules.specs.Lines.{decimal, line, eventLines, endingLine}
-use Rattle.sheet_rules.specs.SheetTheorems.{eventsOf, demand-2-of-sheets, demand-3-of-sheets}
-use Rattle.sheet_rules.specs.SheetCases.{text, sheetD}
+use Rattle.sheet_rules.specs.Sheet.{Records, complete, headerAt, lentTable, more, opened, openingNumber, reading, recordAt, recordFor, stop}
+use Rattle.sheet_rules.specs.Lines.{decimal, endingLine, eventLines, line}
+use Rattle.sheet_rules.specs.SheetTheorems.{demand-2-of-sheets, demand-3-of-sheets, eventsOf}
+use Rattle.sheet_rules.specs.SheetCases.{sheetD, text}
 
 -- ---- Case D is a sheet that opens, and its reading is not ended.
 abbrev recordsD : Records

@@ -5,7 +5,7 @@ use mathlib.Core.Path.{_≡_}
 use borrow.Author.Needs.{needs}
 use Rattle.rules.specs.Hall.{Hall, hallOf, mostDesks, mostPositions, mostScreens}
 use Rattle.rules.specs.Steps.{inRange}
-use Rattle.board.proofs.OpenLaws.{bad-desks, bad-positions, bad-screens, opens, too-short}
+use Rattle.board.proofs.OpenLaws.{bad-desks, bad-positions, bad-screens, opens, table-short}
 use Rattle.board.proofs.SoundLaws.{said-no, said-yes}
 use Rattle.board.proofs.opening.Statement.{statement}
 use Rattle.board.proofs.opening.Tie as tie
@@ -55,7 +55,7 @@ returns-4 c = λ t long.
     let d = c .before .before in
     let b = d .before .before in
     let a = b .before .before in
-    too-short (H (a .before .before)) t (desks-in a) (screens-in b) (positions-in d) (omega arith)
+    table-short (H (a .before .before)) t (desks-in a) (screens-in b) (positions-in d) (omega arith)
 
 returns-5 : tie.Need-returns-5
 returns-5 c = λ t long.

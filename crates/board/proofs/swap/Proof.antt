@@ -10,7 +10,7 @@ use Rattle.board.specs.declared.Place.{Place}
 use Rattle.board.proofs.EntryLaws.{Entered, entered, refused}
 use Rattle.board.proofs.PlaceLaws.{AtPosition, at-position}
 use Rattle.board.proofs.SoundLaws.{said-no, said-yes}
-use Rattle.board.proofs.StepLaws.{swap-accepted, swap-desk-owes, swap-no-position}
+use Rattle.board.proofs.StepLaws.{swap-accepted, swap-owing, swap-no-position}
 use Rattle.board.proofs.swap.Statement.{statement}
 use Rattle.board.proofs.swap.Tie as tie
 
@@ -59,7 +59,7 @@ same-length-2 : tie.Need-same-length-2
 same-length-2 c = search needs
 
 returns-2 : tie.Need-returns-2
-returns-2 c = let b = c .before .before in swap-desk-owes (here (b .before .before)) _ _ (position-at b) (c .if2 .taken)
+returns-2 c = let b = c .before .before in swap-owing (here (b .before .before)) _ _ (position-at b) (c .if2 .taken)
 
 sub-at : tie.Need-sub-at
 sub-at c = let h = position-at (c .before .before) in omega arith

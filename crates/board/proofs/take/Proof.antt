@@ -9,7 +9,7 @@ use Rattle.board.specs.declared.Place.{Place}
 use Rattle.board.proofs.EntryLaws.{Entered, entered, refused}
 use Rattle.board.proofs.PlaceLaws.{AtPosition, AtScreen, at-position, at-screen}
 use Rattle.board.proofs.SoundLaws.{said-no, said-yes}
-use Rattle.board.proofs.StepLaws.{take-accepted, take-no-position, take-no-screen, take-position-empty, take-screen-in-use}
+use Rattle.board.proofs.StepLaws.{take-accepted, take-no-position, take-no-screen, take-position-empty, take-screen-full}
 use Rattle.board.proofs.take.Statement.{statement}
 use Rattle.board.proofs.take.Tie as tie
 
@@ -92,7 +92,7 @@ same-length-3 c = search needs
 returns-3 : tie.Need-returns-3
 returns-3 c =
     let b = c .before .before in
-    take-screen-in-use (here (b .before .before .before .before)) (screen-at (b .before .before)) (position-at b) (c .if3 .taken)
+    take-screen-full (here (b .before .before .before .before)) (screen-at (b .before .before)) (position-at b) (c .if3 .taken)
 
 sub-held : tie.Need-sub-held
 sub-held c = let h = position-at (c .before .before) in omega arith

@@ -1,10 +1,12 @@
 -- `lines::put_digits`, which calls itself with the tenth of its number, meets its contract.
 use Prim.Native.Nat.{ℕ, _<_}
 use native.Mathlib.Omega.{arith}
+use lib.ListN.{length-append}
 use borrow.Author.Needs.{needs}
 use borrow.Fn.Kinds.{In}
 use borrow.Fn.PlainCycle.{Measures, is, falls, and}
-use Rattle.lines.proofs.DigitLaws.{decimal-one, tenth-fits, last-fits, last-put}
+use Rattle.lines.specs.laws.Put.{put-on}
+use Rattle.lines.proofs.DigitLaws.{decimal-one, decimal-more}
 use Rattle.lines.proofs.put_digits.Reads as put-digits
 use Rattle.lines.proofs.put_digits.Kinds as put-digits-kinds
 use Rattle.lines.proofs.+put_digits.Lts-put_digits as put-digits-lts
@@ -38,7 +40,9 @@ returns : (t : ℕ) → put-digits-lts.Need-returns (put-byte-reads.Asked, put-b
 returns t c = rw (decimal-one (c .before .before .before .before .before .before .args .value) (c .before .before .before .before .if1 .taken)) (c .before .before .put-byte .ensures)
 
 put-digits-requires : (t : ℕ) → put-digits-lts.Need-put-digits-requires (put-byte-reads.Asked, put-byte-reads.Learnt, put-digits-below t, put-digits.Post) (put-digits-at t) put-digits.Post
-put-digits-requires t c κs = (omega arith, tenth-fits (c .before .before .before .args .out .now) (c .before .before .before .args .at) (c .before .before .before .args .value) (c .before .if1 .left) (omega arith) (c .before .before .before .pre .1))
+put-digits-requires t c κs =
+    let start = c .before .before .before in
+    (omega arith, omega (arith, simp length-append at (rw (decimal-more (start .args .value) (c .before .if1 .left) (omega arith)) at (start .pre .1))))
 
 cast-put-byte-2 : (t : ℕ) → put-digits-lts.Need-cast-put-byte-2 (put-byte-reads.Asked, put-byte-reads.Learnt, put-digits-below t, put-digits.Post) (put-digits-at t) put-digits.Post
 cast-put-byte-2 t c = search needs
@@ -47,13 +51,16 @@ add-put-byte-2 : (t : ℕ) → put-digits-lts.Need-add-put-byte-2 (put-byte-read
 add-put-byte-2 t c = search needs
 
 put-byte-requires-2 : (t : ℕ) → put-digits-lts.Need-put-byte-requires-2 (put-byte-reads.Asked, put-byte-reads.Learnt, put-digits-below t, put-digits.Post) (put-digits-at t) put-digits.Post
-put-byte-requires-2 t c κs = last-fits (c .before .before .before .put-digits .ensures) (c .before .before .before .before .before .if1 .left) (omega arith) (c .before .before .before .before .before .before .before .pre .1)
+put-byte-requires-2 t c κs =
+    let start = c .before .before .before .before .before .before .before in
+    omega (arith, simp length-append at (rw (decimal-more (start .args .value) (c .before .before .before .before .before .if1 .left) (omega arith)) at (start .pre .1)), c .before .before .before .put-digits .ensures .place)
 
 same-length-2 : (t : ℕ) → put-digits-lts.Need-same-length-2 (put-byte-reads.Asked, put-byte-reads.Learnt, put-digits-below t, put-digits.Post) (put-digits-at t) put-digits.Post
 same-length-2 t c = search needs
 
 returns-2 : (t : ℕ) → put-digits-lts.Need-returns-2 (put-byte-reads.Asked, put-byte-reads.Learnt, put-digits-below t, put-digits.Post) (put-digits-at t) put-digits.Post
-returns-2 t c = last-put (c .before .before .before .before .before .before .put-digits .ensures) (c .before .before .put-byte2 .ensures) (c .before .before .before .before .before .before .before .before .if1 .left) (omega arith) (c .before .before .before .before .before .before .before .before .before .before .pre .1)
+returns-2 t c =
+    rw (decimal-more (c .before .before .before .before .before .before .before .before .before .before .args .value) (c .before .before .before .before .before .before .before .before .if1 .left) (omega arith)) (put-on (c .before .before .before .before .before .before .put-digits .ensures) (c .before .before .put-byte2 .ensures))
 
 pub +put-digits-spec : {M : Type 1} → statement M
 +put-digits-spec =

@@ -1,64 +1,69 @@
 -- Laws of bytes put one after another.
 use Prim.Native.Nat.{ℕ, _+_, _≤_, _<_}
 use native.Mathlib.Omega.{arith}
+use native.Mathlib.Decide.{decLe}
 use native.Mathlib.Numerals.{add-one}
 use mathlib.Core.Path.{_≡_, refl, sym, ap, _∙_}
-use mathlib.Core.List.{List, [], _∷_, _++_, append-assoc}
-use lib.ListN.{length, take, drop, set, length-append, length-drop, take-append-drop}
-use lib.Seq.{length-take-le, take-at, drop-at, drop-drop, set-split}
-use Rattle.lines.specs.Put.{Fits, laid, Put}
+use mathlib.Core.List.{List, [], _∷_, _++_, append-assoc, append-nil}
+use lib.ListN.{length, take, drop, set, length-append, take-append-drop, drop-of-length-le}
+use lib.Seq.{length-take-le, take-all, take-at, drop-at, drop-drop, set-split}
+use Rattle.lines.specs.Put.{laid, Put}
 
--- ---- The buffer with bytes laid in it.
+-- ---- The buffer with bytes laid in it, at any place: so that whoever puts bytes after bytes need not show again that they fit.
+
+-- past its end they are joined to it
+laid-past : (out : List ℕ) (at : ℕ) (bytes : List ℕ) → length out ≤ at → laid out at bytes ≡ out ++ bytes
+unfolding laid
+laid-past out at bytes past =
+    let past-bytes : length out ≤ at + length bytes = omega arith in
+    simp (take-all at out past, drop-of-length-le out past-bytes, append-nil)
+
 module _ (out : List ℕ) (at : ℕ) (bytes : List ℕ) where
-  laid-length : Fits out at bytes → length (laid out at bytes) ≡ length out
+  in-two : laid out at bytes ≡ (take at out ++ bytes) ++ drop (at + length bytes) out
   unfolding laid
-  laid-length fits =
-      omega (
-        arith,
-        length-append (take at out) (bytes ++ drop (at + length bytes) out),
-        length-append bytes (drop (at + length bytes) out),
-        length-take-le at out (omega arith),
-        length-drop (at + length bytes) out,
-      )
+  in-two = sym (append-assoc (take at out) bytes (drop (at + length bytes) out))
 
-  front-length : at ≤ length out → length (take at out ++ bytes) ≡ at + length bytes
-  front-length inside = omega (arith, length-append (take at out) bytes, length-take-le at out inside)
+  module _ (inside : at ≤ length out) where
+    front-length : length (take at out ++ bytes) ≡ at + length bytes
+    front-length = omega (arith, length-append (take at out) bytes, length-take-le at out inside)
 
-  take-laid : at ≤ length out → take (at + length bytes) (laid out at bytes) ≡ take at out ++ bytes
+    take-laid : take (at + length bytes) (laid out at bytes) ≡ take at out ++ bytes
+    take-laid = ap (take (at + length bytes)) in-two ∙ take-at (take at out ++ bytes) (drop (at + length bytes) out) (at + length bytes) front-length
+
+    drop-laid : drop (at + length bytes) (laid out at bytes) ≡ drop (at + length bytes) out
+    drop-laid = ap (drop (at + length bytes)) in-two ∙ drop-at (take at out ++ bytes) (drop (at + length bytes) out) (at + length bytes) front-length
+
+  laid-on : (more : List ℕ) → laid (laid out at bytes) (at + length bytes) more ≡ laid out at (bytes ++ more)
   unfolding laid
-  take-laid inside =
-      ap (take (at + length bytes)) (sym (append-assoc (take at out) bytes (drop (at + length bytes) out)))
-      ∙ take-at (take at out ++ bytes) (drop (at + length bytes) out) (at + length bytes) (front-length inside)
-
-  drop-laid : at ≤ length out → drop (at + length bytes) (laid out at bytes) ≡ drop (at + length bytes) out
-  unfolding laid
-  drop-laid inside =
-      ap (drop (at + length bytes)) (sym (append-assoc (take at out) bytes (drop (at + length bytes) out)))
-      ∙ drop-at (take at out ++ bytes) (drop (at + length bytes) out) (at + length bytes) (front-length inside)
-
-  laid-on : (more : List ℕ) → at ≤ length out → laid (laid out at bytes) (at + length bytes) more ≡ laid out at (bytes ++ more)
-  unfolding laid
-  laid-on more inside =
-      (λ i. take-laid inside i ++ (more ++ same-end i))
-      ∙ append-assoc (take at out) bytes (more ++ drop (at + length (bytes ++ more)) out)
-      ∙ ap (λ (rest : List ℕ). take at out ++ rest) (sym (append-assoc bytes more (drop (at + length (bytes ++ more)) out)))
+  laid-on more = by-place (decLe at (length out))
     where
       same-place : at + length bytes + length more ≡ at + length (bytes ++ more)
       same-place = omega (arith, length-append bytes more)
 
-      same-end : drop (at + length bytes + length more) (laid out at bytes) ≡ drop (at + length (bytes ++ more)) out
-      same-end =
-          sym (drop-drop (length more) (at + length bytes) (laid out at bytes))
-          ∙ ap (drop (length more)) (drop-laid inside)
-          ∙ drop-drop (length more) (at + length bytes) out
-          ∙ ap (λ (n : ℕ). drop n out) same-place
+      by-place : Dec (at ≤ length out) → laid (laid out at bytes) (at + length bytes) more ≡ laid out at (bytes ++ more)
+      by-place (yes inside) =
+          (λ i. take-laid inside i ++ (more ++ same-end i))
+          ∙ append-assoc (take at out) bytes (more ++ drop (at + length (bytes ++ more)) out)
+          ∙ ap (λ (rest : List ℕ). take at out ++ rest) (sym (append-assoc bytes more (drop (at + length (bytes ++ more)) out)))
+        where
+          same-end : drop (at + length bytes + length more) (laid out at bytes) ≡ drop (at + length (bytes ++ more)) out
+          same-end =
+              sym (drop-drop (length more) (at + length bytes) (laid out at bytes))
+              ∙ ap (drop (length more)) (drop-laid inside)
+              ∙ drop-drop (length more) (at + length bytes) out
+              ∙ ap (λ (n : ℕ). drop n out) same-place
+      by-place (no past) =
+          ap (λ (words : List ℕ). laid words (at + length bytes) more) (laid-past out at bytes (omega arith))
+          ∙ laid-past (out ++ bytes) (at + length bytes) more (omega (arith, length-append out bytes))
+          ∙ append-assoc out bytes more
+          ∙ sym (laid-past out at (bytes ++ more) (omega arith))
 
 -- ---- What callers use.
 
 -- nothing put
-pub put-none : (out : List ℕ) (at : ℕ) → at ≤ length out → Put out out at [] at
+pub put-none : (out : List ℕ) (at : ℕ) → Put out out at [] at
 unfolding laid
-put-none out at inside =
+put-none out at =
     let same : at + 0 ≡ at = omega arith in
     record {
       written = sym (ap (λ (n : ℕ). take at out ++ drop n out) same ∙ take-append-drop at out);
@@ -74,26 +79,12 @@ put-one out at byte inside =
       place = refl;
     }
 
--- a buffer keeps its length
-pub put-length : {before after : List ℕ} {at next : ℕ} {bytes : List ℕ} → Put before after at bytes next → Fits before at bytes
-    → length after ≡ length before
-put-length {before} {after} {at} {next} {bytes} put fits = ap length (put .written) ∙ laid-length before at bytes fits
-
 -- bytes put, and more after them
 pub put-on : {before middle after : List ℕ} {at between next : ℕ} {bytes more : List ℕ}
-    → Put before middle at bytes between → Put middle after between more next → at ≤ length before
+    → Put before middle at bytes between → Put middle after between more next
     → Put before after at (bytes ++ more) next
-put-on {before} {middle} {after} {at} {between} {next} {bytes} {more} first second inside =
+put-on {before} {middle} {after} {at} {between} {next} {bytes} {more} first second =
     record {
-      written = second .written ∙ (λ i. laid (first .written i) (first .place i) more) ∙ laid-on before at bytes more inside;
+      written = second .written ∙ (λ i. laid (first .written i) (first .place i) more) ∙ laid-on before at bytes more;
       place = omega (arith, second .place, first .place, length-append bytes more);
     }
-
--- where bytes fit with more after them, they fit by themselves, and the rest fits once they are put
-pub fits-first : (out : List ℕ) (at : ℕ) (bytes more : List ℕ) → Fits out at (bytes ++ more) → Fits out at bytes
-fits-first out at bytes more fits = omega (arith, length-append bytes more)
-
-pub fits-rest : {before after : List ℕ} {at next : ℕ} {bytes : List ℕ} → Put before after at bytes next → (more : List ℕ)
-    → Fits before at (bytes ++ more) → Fits after next more
-fits-rest {before} {after} {at} {next} {bytes} put more fits =
-    omega (arith, put .place, put-length put (fits-first before at bytes more fits), length-append bytes more)

@@ -6,6 +6,7 @@ use mathlib.Core.Path.{_≡_, sym, _∙_}
 use lib.ListN.{length, drop, getD}
 use borrow.Author.Needs.{needs}
 use borrow.Author.Tests.{eqb-true}
+use Rattle.marks.proofs.BoolLaws.{not-true, not-false}
 use Rattle.marks.proofs.PlaceLaws.{find-other, find-marked, find-found, find-end}
 use Rattle.marks.proofs.MarkLaws.{marks-length, is-unmarked}
 use Rattle.marks.specs.Marks.{marks, findPlace}
@@ -37,7 +38,7 @@ returns c =
     let x = c .before .before .before .before .before .before .before .before .args .x in
     let j = c .before .before .before .before .before .loop .j in
     find-found x (findPlace x l (marks m)) l (marks m) j (omega arith) (omega (arith, marks-length m)) (c .before .before .before .before .before .loop .inv .1) (c .before .before .if1 .taken)
-    (is-unmarked m j (sym (c .before .marked .ensures) ∙ c .if2 .left))
+    (is-unmarked m j (sym (c .before .marked .ensures) ∙ not-true (c .if2 .taken)))
 
 add-j : tie.Need-add-j Inv-loop μ-loop
 add-j c = search needs
@@ -55,7 +56,7 @@ loop-again c =
     let g = marks-length m in (
       omega arith,
       ⊎-elim (λ w.
-          let e = eqb-true (getD (marks m) j 0) 1 (sym (w .1 .ensures) ∙ w .2 .taken) in
+          let e = eqb-true (getD (marks m) j 0) 1 (sym (w .1 .ensures) ∙ not-false (w .2 .left)) in
           find-marked x n l (marks m) j (omega arith) (omega arith) (c .before .before .before .loop .inv .1) (λ z. omega arith))
           (λ w. find-other x n l (marks m) j (omega arith) (omega arith) (c .before .before .before .loop .inv .1) (w .left))
           (c .if1 .came),

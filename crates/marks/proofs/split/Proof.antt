@@ -1,6 +1,7 @@
 -- `marks::split` meets its contract.
 use Prim.Native.Nat.{_-_}
 use native.Mathlib.Omega.{arith}
+use mathlib.Core.Logic.{⊎-elim}
 use mathlib.Core.Path.{sym, _∙_}
 use lib.ListN.{getD, length}
 use borrow.Author.Needs.{needs}
@@ -38,6 +39,15 @@ mul-kept c = search needs
 slice-write-kept : tie.Need-slice-write-kept Inv-loop μ-loop
 slice-write-kept c = search needs
 
+mul-l : tie.Need-mul-l Inv-loop μ-loop
+mul-l c = search needs
+
+slice-write-l : tie.Need-slice-write-l Inv-loop μ-loop
+slice-write-l c = search needs
+
+add-u : tie.Need-add-u Inv-loop μ-loop
+add-u c = search needs
+
 add-j : tie.Need-add-j Inv-loop μ-loop
 add-j c = search needs
 
@@ -49,35 +59,12 @@ loop-again c =
     let a = c .before .before .before .before in
     let o = a .before .before .before .before in
     let m = o .args .m .now in
+    let j = a .loop .j in
     let i = a .loop .inv in
     let g = marks-length m in
-    going-marked (o .args .l .now) (marks m) (o .args .kept .now) (a .loop .l) (a .loop .kept) (a .loop .j) (a .loop .u) i (omega arith) (omega arith) (omega arith)
-    (eqb-true (getD (marks m) (a .loop .j) 0) 1 (sym (c .before .marked .ensures) ∙ c .if1 .taken))
-
-mul-l : tie.Need-mul-l Inv-loop μ-loop
-mul-l c = search needs
-
-slice-write-l : tie.Need-slice-write-l Inv-loop μ-loop
-slice-write-l c = search needs
-
-add-u : tie.Need-add-u Inv-loop μ-loop
-add-u c = search needs
-
-add-j-2 : tie.Need-add-j-2 Inv-loop μ-loop
-add-j-2 c = search needs
-
-loop-less-2 : tie.Need-loop-less-2 Inv-loop μ-loop
-loop-less-2 c = search needs
-
-loop-again-2 : tie.Need-loop-again-2 Inv-loop μ-loop
-loop-again-2 c =
-    let a = c .before .before .before .before in
-    let o = a .before .before .before .before in
-    let m = o .args .m .now in
-    let i = a .loop .inv in
-    let g = marks-length m in
-    going-unmarked (o .args .l .now) (marks m) (o .args .kept .now) (a .loop .l) (a .loop .kept) (a .loop .j) (a .loop .u) i (omega arith) (omega arith) (omega arith)
-    (is-unmarked m (a .loop .j) (sym (c .before .marked .ensures) ∙ c .if1 .left))
+    ⊎-elim (λ w. rw (w .1, w .2, w .3) (going-marked (o .args .l .now) (marks m) (o .args .kept .now) (a .loop .l) (a .loop .kept) j (a .loop .u) i (omega arith) (omega arith) (omega arith) (eqb-true (getD (marks m) j 0) 1 (sym (c .before .marked .ensures) ∙ w .0 .taken))))
+    (λ w. rw (w .1, w .2, w .3) (going-unmarked (o .args .l .now) (marks m) (o .args .kept .now) (a .loop .l) (a .loop .kept) j (a .loop .u) i (omega arith) (omega arith) (omega arith) (is-unmarked m j (sym (c .before .marked .ensures) ∙ w .0 .left))))
+    (c .if1 .came)
 
 same-length : tie.Need-same-length Inv-loop μ-loop
 same-length c = search needs
@@ -94,26 +81,4 @@ returns c =
 
 pub split-spec : {M : Type 1} → statement M
 split-spec =
-    tie.close
-    (tie.spec
-    Inv-loop
-    μ-loop
-    loop-holds
-    mul-x
-    slice-read-x
-    marked-requires
-    sub-kept
-    mul-kept
-    slice-write-kept
-    add-j
-    loop-less
-    loop-again
-    mul-l
-    slice-write-l
-    add-u
-    add-j-2
-    loop-less-2
-    loop-again-2
-    same-length
-    same-length-2
-    returns)
+    tie.close (tie.spec Inv-loop μ-loop loop-holds mul-x slice-read-x marked-requires sub-kept mul-kept slice-write-kept mul-l slice-write-l add-u add-j loop-less loop-again same-length same-length-2 returns)

@@ -1,14 +1,13 @@
--- `printing::print` meets its contract: it is safe, and it ends.
+-- `printing::print` meets its contract: no turn changes the table that the steps still to be run will leave.
 use native.Mathlib.Omega.{arith}
 use Prim.Native.Nat.{_≤_}
-use mathlib.Core.Path.{_≡_, sym, _∙_}
+use mathlib.Core.Path.{_≡_, refl, sym, _∙_}
 use mathlib.Core.Bool.{true, false}
 use lib.ListN.{length}
 use lib.Seq.{length-take-le}
 use borrow.Author.Needs.{needs}
-use Rattle.sheet.specs.Turn.{recordRoom, turnsLeft}
-use Rattle.sheet.specs.laws.Turns.{some-left}
-use Rattle.printing.proofs.RunLaws.{tableToCome, sheetTable, at-start, at-turn, at-end}
+use Rattle.sheet.specs.Turn.{recordRoom, turnsLeft, sheetTable}
+use Rattle.sheet.specs.laws.Turns.{tableToCome, table-at-start, table-kept, table-at-end, turns-fall}
 use Rattle.printing.proofs.print.Statement.{statement}
 use Rattle.printing.proofs.print.Tie as tie
 
@@ -27,13 +26,15 @@ slice-reshare-prefix-write-all : tie.Need-slice-reshare-prefix-write-all Inv-loo
 slice-reshare-prefix-write-all c = c .before .before .before .before .before .start .ensures .within
 
 slice-aggregate-write-all : tie.Need-slice-aggregate-write-all Inv-loop μ-loop
-slice-aggregate-write-all c = sym (length-take-le (c .before .before .before .before .before .before .start .result .put) (c .before .before .before .before .before .before .start .last .1 .1 .0) (c .before .before .before .before .before .before .start .ensures .within))
+slice-aggregate-write-all c = let start = c .before .before .before .before .before .before .start in sym (length-take-le (start .result .put) (start .last .1 .1 .0) (start .ensures .within))
 
 write-all-requires : tie.Need-write-all-requires Inv-loop μ-loop
 write-all-requires c κs = search needs
 
 loop-holds : tie.Need-loop-holds Inv-loop μ-loop
-loop-holds c = (c .before .before .before .before .before .before .before .start .ensures .numbered, omega (arith, c .before .before .before .before .before .before .before .before .before .before .before .before .before .pre .1, c .before .before .before .before .before .before .before .start .kept .1 .1 .0), omega (arith, c .before .before .before .before .before .before .before .start .kept .1 .0), omega (arith, c .before .before .before .before .before .before .before .start .kept .1 .1 .0), at-start (c .before .before .before .before .before .before .before .start .ensures))
+loop-holds c =
+    let start = c .before .before .before .before .before .before .before .start in
+    (start .ensures .numbered, omega (arith, c .before .before .before .before .before .before .before .before .before .before .before .before .before .pre .1, start .kept .1 .1 .0), refl, refl, table-at-start (start .ensures))
 
 same-length : tie.Need-same-length Inv-loop μ-loop
 same-length c = omega (arith, c .before .before .loop .inv .2)
@@ -42,25 +43,30 @@ same-length-2 : tie.Need-same-length-2 Inv-loop μ-loop
 same-length-2 c = omega (arith, c .before .before .loop .inv .3)
 
 returns : tie.Need-returns Inv-loop μ-loop
-returns c = λ all. sym (at-end (c .before .before .before .before .before .before .before .before .before .before .before .before .before .before .before .before .args .sheet .now) (c .before .before .loop .state) (c .before .before .loop .table) (c .if1 .taken)) ∙ c .before .before .loop .inv .4
+returns c =
+    let loop = c .before .before .loop in
+    λ all. sym (table-at-end (c .before .before .before .before .before .before .before .before .before .before .before .before .before .before .before .before .args .sheet .now) (loop .state) (loop .table) (c .if1 .taken)) ∙ loop .inv .4
 
 fill-requires : tie.Need-fill-requires Inv-loop μ-loop
-fill-requires c κs = (c .before .before .before .before .loop .inv .0, c .before .before .before .before .loop .inv .1)
+fill-requires c κs = let inv = c .before .before .before .before .loop .inv in (inv .0, inv .1)
 
 slice-reshare-prefix-write-all-2 : tie.Need-slice-reshare-prefix-write-all-2 Inv-loop μ-loop
 slice-reshare-prefix-write-all-2 c = c .before .before .before .before .before .fill .ensures .within
 
 slice-aggregate-write-all-2 : tie.Need-slice-aggregate-write-all-2 Inv-loop μ-loop
-slice-aggregate-write-all-2 c = sym (length-take-le (c .before .before .before .before .before .before .fill .result .put) (c .before .before .before .before .before .before .fill .last .1 .1 .1 .0) (c .before .before .before .before .before .before .fill .ensures .within))
+slice-aggregate-write-all-2 c = let fill = c .before .before .before .before .before .before .fill in sym (length-take-le (fill .result .put) (fill .last .1 .1 .1 .0) (fill .ensures .within))
 
 write-all-requires-2 : tie.Need-write-all-requires-2 Inv-loop μ-loop
 write-all-requires-2 c κs = search needs
 
 loop-less : tie.Need-loop-less Inv-loop μ-loop
-loop-less c = omega (arith, c .before .before .before .before .before .before .before .fill .ensures .onward .fewer, some-left (c .before .before .before .before .before .before .before .before .before .before .before .before .before .before .before .before .before .before .before .before .before .before .before .before .before .before .args .sheet .now) (c .before .before .before .before .before .before .before .before .before .before .before .before .loop .state) (c .before .before .before .before .before .before .before .before .before .before .if1 .left))
+loop-less c = turns-fall (c .before .before .before .before .before .before .before .before .before .before .if1 .left) (c .before .before .before .before .before .before .before .fill .ensures .onward)
 
 loop-again : tie.Need-loop-again Inv-loop μ-loop
-loop-again c = (c .before .before .before .before .before .before .before .fill .ensures .onward .numbered, omega (arith, c .before .before .before .before .before .before .before .before .before .before .before .before .loop .inv .1, c .before .before .before .before .before .before .before .fill .kept .1 .1 .1 .0), omega (arith, c .before .before .before .before .before .before .before .before .before .before .before .before .loop .inv .2, c .before .before .before .before .before .before .before .fill .kept .1 .1 .0), omega (arith, c .before .before .before .before .before .before .before .before .before .before .before .before .loop .inv .3, c .before .before .before .before .before .before .before .fill .kept .1 .1 .1 .0), at-turn (c .before .before .before .before .before .before .before .fill .ensures .piece) ∙ c .before .before .before .before .before .before .before .before .before .before .before .before .loop .inv .4)
+loop-again c =
+    let inv = c .before .before .before .before .before .before .before .before .before .before .before .before .loop .inv in
+    let fill = c .before .before .before .before .before .before .before .fill in
+    (fill .ensures .onward .numbered, omega (arith, inv .1, fill .kept .1 .1 .1 .0), fill .kept .1 .1 .0 ∙ inv .2, fill .kept .1 .1 .1 .0 ∙ inv .3, table-kept (fill .ensures .piece) ∙ inv .4)
 
 same-length-3 : tie.Need-same-length-3 Inv-loop μ-loop
 same-length-3 c = omega (arith, c .before .loop .inv .2)

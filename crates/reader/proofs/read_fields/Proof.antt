@@ -2,7 +2,7 @@
 use mathlib.Core.Path.{sym, ap, _∙_}
 use borrow.Author.Needs.{needs}
 use Rattle.sheet_rules.specs.Sheet.{withCode}
-use Rattle.reader.proofs.Answers.{found, goes-on, stops}
+use Rattle.reader.proofs.Answers.{found, reads-on}
 use Rattle.reader.proofs.read_fields.Statement.{statement}
 use Rattle.reader.proofs.read_fields.Tie as tie
 
@@ -43,20 +43,20 @@ enum-known-session : tie.Need-enum-known-session
 enum-known-session c = search needs
 
 returns : tie.Need-returns
-returns c = sym (ap (withCode (c .before .before .before .before .before .args .code)) (stops (found (c .before .before .before .read-field .ensures) (c .before .fault .given .1)) _))
+returns c = sym (ap (withCode _) (reads-on (found (c .before .before .before .read-field .ensures) (c .before .fault .given .1)) _))
 
 returns-2 : tie.Need-returns-2
 returns-2 c =
     let desk = found (c .before .before .before .before .before .before .before .read-field .ensures) (c .before .before .before .before .before .desk .given .1) in
     let fault = found (c .before .before .before .read-field2 .ensures) (c .before .fault2 .given .1) in
-    sym (ap (withCode (c .before .before .before .before .before .before .before .before .before .args .code)) (goes-on desk _ ∙ stops fault _))
+    sym (ap (withCode _) (reads-on desk _ ∙ reads-on fault _))
 
 returns-3 : tie.Need-returns-3
 returns-3 c =
     let desk = found (c .before .before .before .before .before .before .before .before .before .before .before .read-field .ensures) (c .before .before .before .before .before .before .before .before .before .desk .given .1) in
     let screen = found (c .before .before .before .before .before .before .before .read-field2 .ensures) (c .before .before .before .before .before .screen .given .1) in
     let fault = found (c .before .before .before .read-field3 .ensures) (c .before .fault3 .given .1) in
-    sym (ap (withCode (c .before .before .before .before .before .before .before .before .before .before .before .before .before .args .code)) (goes-on desk _ ∙ goes-on screen _ ∙ stops fault _))
+    sym (ap (withCode _) (reads-on desk _ ∙ reads-on screen _ ∙ reads-on fault _))
 
 returns-4 : tie.Need-returns-4
 returns-4 c =
@@ -64,7 +64,7 @@ returns-4 c =
     let screen = found (c .before .before .before .before .before .before .before .before .before .before .before .read-field2 .ensures) (c .before .before .before .before .before .before .before .before .before .screen .given .1) in
     let position = found (c .before .before .before .before .before .before .before .read-field3 .ensures) (c .before .before .before .before .before .position .given .1) in
     let fault = found (c .before .before .before .read-field4 .ensures) (c .before .fault4 .given .1) in
-    sym (ap (withCode (c .before .before .before .before .before .before .before .before .before .before .before .before .before .before .before .before .before .args .code)) (goes-on desk _ ∙ goes-on screen _ ∙ goes-on position _ ∙ stops fault _))
+    sym (ap (withCode _) (reads-on desk _ ∙ reads-on screen _ ∙ reads-on position _ ∙ reads-on fault _))
 
 returns-5 : tie.Need-returns-5
 returns-5 c =
@@ -72,7 +72,7 @@ returns-5 c =
     let screen = found (c .before .before .before .before .before .before .before .before .before .before .before .read-field2 .ensures) (c .before .before .before .before .before .before .before .before .before .screen .given .1) in
     let position = found (c .before .before .before .before .before .before .before .read-field3 .ensures) (c .before .before .before .before .before .position .given .1) in
     let session = found (c .before .before .before .read-field4 .ensures) (c .before .session .given .1) in
-    sym (ap (withCode (c .before .before .before .before .before .before .before .before .before .before .before .before .before .before .before .before .before .args .code)) (goes-on desk _ ∙ goes-on screen _ ∙ goes-on position _ ∙ goes-on session _))
+    sym (ap (withCode _) (reads-on desk _ ∙ reads-on screen _ ∙ reads-on position _ ∙ reads-on session _))
 
 pub read-fields-spec : {M : Type 1} → statement M
 read-fields-spec =

@@ -2,7 +2,7 @@
 use mathlib.Core.Path.{sym, _∙_}
 use borrow.Author.Needs.{needs}
 use Rattle.sheet_rules.specs.Sheet.{headerAt}
-use Rattle.reader.proofs.Answers.{found, goes-on, stops}
+use Rattle.reader.proofs.Answers.{found, reads-on}
 use Rattle.reader.proofs.read_header.Statement.{statement}
 use Rattle.reader.proofs.read_header.Tie as tie
 
@@ -35,14 +35,14 @@ enum-known-positions c = search needs
 
 returns : tie.Need-returns
 unfolding headerAt
-returns c = sym (stops (found (c .before .before .before .read-number .ensures) (c .before .fault .given .1)) _)
+returns c = sym (reads-on (found (c .before .before .before .read-number .ensures) (c .before .fault .given .1)) _)
 
 returns-2 : tie.Need-returns-2
 unfolding headerAt
 returns-2 c =
     let desks = found (c .before .before .before .before .before .before .before .read-number .ensures) (c .before .before .before .before .before .desks .given .1) in
     let fault = found (c .before .before .before .read-number2 .ensures) (c .before .fault2 .given .1) in
-    sym (goes-on desks _ ∙ stops fault _)
+    sym (reads-on desks _ ∙ reads-on fault _)
 
 returns-3 : tie.Need-returns-3
 unfolding headerAt
@@ -50,7 +50,7 @@ returns-3 c =
     let desks = found (c .before .before .before .before .before .before .before .before .before .before .before .read-number .ensures) (c .before .before .before .before .before .before .before .before .before .desks .given .1) in
     let screens = found (c .before .before .before .before .before .before .before .read-number2 .ensures) (c .before .before .before .before .before .screens .given .1) in
     let fault = found (c .before .before .before .read-number3 .ensures) (c .before .fault3 .given .1) in
-    sym (goes-on desks _ ∙ goes-on screens _ ∙ stops fault _)
+    sym (reads-on desks _ ∙ reads-on screens _ ∙ reads-on fault _)
 
 returns-4 : tie.Need-returns-4
 unfolding headerAt
@@ -58,7 +58,7 @@ returns-4 c =
     let desks = found (c .before .before .before .before .before .before .before .before .before .before .before .read-number .ensures) (c .before .before .before .before .before .before .before .before .before .desks .given .1) in
     let screens = found (c .before .before .before .before .before .before .before .read-number2 .ensures) (c .before .before .before .before .before .screens .given .1) in
     let positions = found (c .before .before .before .read-number3 .ensures) (c .before .positions .given .1) in
-    sym (goes-on desks _ ∙ goes-on screens _ ∙ goes-on positions _)
+    sym (reads-on desks _ ∙ reads-on screens _ ∙ reads-on positions _)
 
 pub read-header-spec : {M : Type 1} → statement M
 read-header-spec =

@@ -8,17 +8,23 @@ use Rattle.reader.proofs.read_number.Statement.{statement}
 use Rattle.reader.proofs.read_number.Tie as tie
 
 -- the bytes that were read
-one : (c : tie.After-wide) → Byte (c .before .before .before .before .args .sheet .now) (c .before .before .before .before .args .at) (c .wide .result)
+one : (c : tie.After-wide) →
+    let a = c .before .before .before .before .args in
+    Byte (a .sheet .now) (a .at) (c .wide .result)
 one c = record { inside = omega arith; is = c .wide .ensures }
 
-two : (c : tie.After-wide2) → Byte (c .before .before .before .before .before .before .before .before .args .sheet .now) (c .before .before .before .before .before .before .before .before .args .at + 1) (c .wide2 .result)
+two : (c : tie.After-wide2) →
+    let a = c .before .before .before .before .before .before .before .before .args in
+    Byte (a .sheet .now) (a .at + 1) (c .wide2 .result)
 two c = record { inside = omega arith; is = c .wide2 .ensures }
 
-three : (c : tie.After-wide3) → Byte (c .before .before .before .before .before .before .before .before .before .before .before .before .args .sheet .now) (c .before .before .before .before .before .before .before .before .before .before .before .before .args .at + 2) (c .wide3 .result)
+three : (c : tie.After-wide3) →
+    let a = c .before .before .before .before .before .before .before .before .before .before .before .before .args in
+    Byte (a .sheet .now) (a .at + 2) (c .wide3 .result)
 three c = record { inside = omega arith; is = c .wide3 .ensures }
 
 returns : tie.Need-returns
-returns c = sym (none-there (c .before .before .args .limit) (c .before .before .args .sheet .now) (c .before .before .args .at) (c .if1 .taken))
+returns c = sym (none-there _ _ _ (c .if1 .taken))
 
 shared-slice-read-wide : tie.Need-shared-slice-read-wide
 shared-slice-read-wide c = search needs
@@ -33,13 +39,13 @@ within-limit-requires : tie.Need-within-limit-requires
 within-limit-requires c κs = search needs
 
 returns-2 : tie.Need-returns-2
-returns-2 c = c .within-limit .ensures ∙ sym (one-ends (c .before .before .before .before .before .before .args .limit) (one (c .before .before)) (c .before .if2 .taken))
+returns-2 c = c .within-limit .ensures ∙ sym (one-ends _ (one (c .before .before)) (c .before .if2 .taken))
 
 add-if3 : tie.Need-add-if3
 add-if3 c = search needs
 
 returns-3 : tie.Need-returns-3
-returns-3 c = sym (one-only (c .before .before .before .before .before .before .args .limit) (one (c .before .before)) (c .before .if2 .left) (c .if3 .taken))
+returns-3 c = sym (one-only _ (one (c .before .before)) (c .before .if2 .left) (c .if3 .taken))
 
 add-wide : tie.Need-add-wide
 add-wide c = search needs
@@ -63,13 +69,13 @@ within-limit-requires-2 : tie.Need-within-limit-requires-2
 within-limit-requires-2 c κs = search needs
 
 returns-4 : tie.Need-returns-4
-returns-4 c = c .within-limit2 .ensures ∙ sym (two-end (c .before .before .before .before .before .before .before .before .before .before .args .limit) (one (c .before .before .before .before .before .before)) (c .before .before .before .before .before .if2 .left) (two (c .before .before)) (c .before .if4 .taken))
+returns-4 c = c .within-limit2 .ensures ∙ sym (two-end _ (one (c .before .before .before .before .before .before)) (c .before .before .before .before .before .if2 .left) (two (c .before .before)) (c .before .if4 .taken))
 
 add-if5 : tie.Need-add-if5
 add-if5 c = search needs
 
 returns-5 : tie.Need-returns-5
-returns-5 c = sym (two-only (c .before .before .before .before .before .before .before .before .before .before .args .limit) (one (c .before .before .before .before .before .before)) (c .before .before .before .before .before .if2 .left) (two (c .before .before)) (c .before .if4 .left) (c .if5 .taken))
+returns-5 c = sym (two-only _ (one (c .before .before .before .before .before .before)) (c .before .before .before .before .before .if2 .left) (two (c .before .before)) (c .before .if4 .left) (c .if5 .taken))
 
 add-wide-2 : tie.Need-add-wide-2
 add-wide-2 c = search needs
@@ -99,10 +105,10 @@ within-limit-requires-3 : tie.Need-within-limit-requires-3
 within-limit-requires-3 c κs = search needs
 
 returns-6 : tie.Need-returns-6
-returns-6 c = c .within-limit3 .ensures ∙ sym (three-end (c .before .before .before .before .before .before .before .before .before .before .before .before .before .before .args .limit) (one (c .before .before .before .before .before .before .before .before .before .before)) (c .before .before .before .before .before .before .before .before .before .if2 .left) (two (c .before .before .before .before .before .before)) (c .before .before .before .before .before .if4 .left) (three (c .before .before)) (c .before .if6 .taken))
+returns-6 c = c .within-limit3 .ensures ∙ sym (three-end _ (one (c .before .before .before .before .before .before .before .before .before .before)) (c .before .before .before .before .before .before .before .before .before .if2 .left) (two (c .before .before .before .before .before .before)) (c .before .before .before .before .before .if4 .left) (three (c .before .before)) (c .before .if6 .taken))
 
 returns-7 : tie.Need-returns-7
-returns-7 c = sym (three-go-on (c .before .before .before .before .before .before .before .before .before .before .before .before .before .args .limit) (one (c .before .before .before .before .before .before .before .before .before)) (c .before .before .before .before .before .before .before .before .if2 .left) (two (c .before .before .before .before .before)) (c .before .before .before .before .if4 .left) (three (c .before)) (c .if6 .left))
+returns-7 c = sym (three-go-on _ (one (c .before .before .before .before .before .before .before .before .before)) (c .before .before .before .before .before .before .before .before .if2 .left) (two (c .before .before .before .before .before)) (c .before .before .before .before .if4 .left) (three (c .before)) (c .if6 .left))
 
 pub read-number-spec : {M : Type 1} → statement M
 read-number-spec =

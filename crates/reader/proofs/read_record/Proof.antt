@@ -3,7 +3,7 @@ use mathlib.Core.Path.{sym, _∙_}
 use borrow.Author.Needs.{needs}
 use borrow.Author.Tests.{lt-leb, le-leb}
 use Rattle.sheet_rules.specs.Sheet.{recordAt}
-use Rattle.reader.proofs.Answers.{found, goes-on, stops}
+use Rattle.reader.proofs.Answers.{found, reads-on}
 use Rattle.reader.proofs.read_record.Statement.{statement}
 use Rattle.reader.proofs.read_record.Tie as tie
 
@@ -20,26 +20,26 @@ returns : tie.Need-returns
 unfolding recordAt
 returns c =
     let code = found (c .before .before .before .before .read-number .ensures) (c .before .before .code .given .1) in
-    sym (goes-on code _ ∙ simp (lt-leb _ _ (c .if1 .taken)))
+    sym (reads-on code _ ∙ simp (lt-leb _ _ (c .if1 .taken)))
 
 returns-2 : tie.Need-returns-2
 unfolding recordAt
 returns-2 c =
     let code = found (c .before .before .before .before .before .read-number .ensures) (c .before .before .before .code .given .1) in
-    sym (goes-on code _ ∙ simp (le-leb _ _ (c .before .if1 .left), lt-leb _ _ (c .if2 .taken)))
+    sym (reads-on code _ ∙ simp (le-leb _ _ (c .before .if1 .left), lt-leb _ _ (c .if2 .taken)))
 
 read-fields-requires : tie.Need-read-fields-requires
 read-fields-requires c κs = search needs
 
 returns-3 : tie.Need-returns-3
 unfolding recordAt
-returns-3 c = sym (stops (found (c .before .before .before .read-number .ensures) (c .before .fault .given .1)) _)
+returns-3 c = sym (reads-on (found (c .before .before .before .read-number .ensures) (c .before .fault .given .1)) _)
 
 returns-4 : tie.Need-returns-4
 unfolding recordAt
 returns-4 c =
     let code = found (c .before .before .before .before .before .before .read-number .ensures) (c .before .before .before .before .code .given .1) in
-    c .read-fields .ensures ∙ sym (goes-on code _ ∙ simp (le-leb _ _ (c .before .before .if1 .left), le-leb _ _ (c .before .if2 .left)))
+    c .read-fields .ensures ∙ sym (reads-on code _ ∙ simp (le-leb _ _ (c .before .before .if1 .left), le-leb _ _ (c .before .if2 .left)))
 
 pub read-record-spec : {M : Type 1} → statement M
 read-record-spec =

@@ -17,9 +17,10 @@ use Rattle.rules.specs.Steps.{Call, Collect, Done, Drop, Retire, Swap, T
 use Rattle.rules.specs.Table.{TableDone, allMarks, decode, decodeDesk, encodeDesk, endTable, hallIn, headerWords, listOf, listPlace, markWords, marksOf}
 use Rattle.rules.specs.Table.{need, openQuestions, openedTable, positionWord, putRecord, recordOf, recordSound, recordStart, recordWidth, runTable}
 use Rattle.rules.specs.Table.{screenWord, sessionsOf, sound, stepTable, usedIn, waitingPlace, wordsOfBits, written}
+use Rattle.rules.specs.laws.Collect.{owed-collect}
 use Rattle.rules.specs.laws.Decoding.{record-again, small-drop, small-take}
+use Rattle.rules.specs.laws.Effect.{desk-fact, retire-facts, retire-room-fact, swap-facts}
 use Rattle.rules.specs.laws.Fresh.{get-same}
-use Rattle.rules.specs.laws.Links.{desk-fact, owed-collect, retire-facts, retire-room-fact, swap-facts}
 use Rattle.rules.specs.laws.Parts.{get-past, put-is}
 use Rattle.rules.specs.laws.Sound.{Sound, collect-sound, length-list, retire-sound}
 use Rattle.rules.specs.laws.SoundTables.{desk-sound, encoded, valid}
@@ -124,7 +125,7 @@ module _ (limits : Limits) (t : List ℕ) (small : Words16 t) (s : sound limits 
   written-keeps (Swap d p new) e i q = by-cases (eqb i (recordStart (hallIn t) d)) refl
     where
       facts : (1 ≤ d) × (d ≤ hallIn t .desks) × (1 ≤ p) × (deskOf (decode (hallIn t) t) d .owed ≡ 0)
-      facts = swap-facts (hallIn t) (decode (hallIn t) t) (v .formed) d p new e
+      facts = swap-facts (hallIn t) (decode (hallIn t) t) d p new e
 
       parts : (eqb i (positionWord p) ≡ false) × (eqb i (recordStart (hallIn t) d) && isSession (getD t (positionWord p) 0) ≡ false)
       parts = or-no (eqb i (positionWord p)) (eqb i (recordStart (hallIn t) d) && isSession (getD t (positionWord p) 0)) q
@@ -152,11 +153,11 @@ module _ (limits : Limits) (t : List ℕ) (small : Words16 t) (s : sound limits 
           (λ y. eqb-false i (recordStart (hallIn t) d) z y)
           ∙ elsewhere
   written-keeps (Retire d) e i q =
-      let f = retire-facts (hallIn t) (decode (hallIn t) t) (v .formed) d e in
+      let f = retire-facts (hallIn t) (decode (hallIn t) t) d e in
       let r : (1 ≤ d) × (d ≤ hallIn t .desks) = (f .0, f .1) in
       let same = desk-word t d (f .0) (f .1) in
       let room : usedPlaces (decodeDesk (recordOf (hallIn t) t d)) < 2 * allScreens (hallIn t) =
-      subst (λ (X : Desk). usedPlaces X < 2 * allScreens (hallIn t)) same (retire-room-fact (hallIn t) (decode (hallIn t) t) (v .formed) d e) in
+      subst (λ (X : Desk). usedPlaces X < 2 * allScreens (hallIn t)) same (retire-room-fact (hallIn t) (decode (hallIn t) t) d e) in
       let owes : decodeDesk (recordOf (hallIn t) t d) .owed ≡ 0 → ⊥ = (λ z. f .2 (ap (λ (X : Desk). X .owed) same ∙ z)) in
       let n1 =
       or-no (eqb i (recordStart (hallIn t) d))
@@ -173,7 +174,7 @@ module _ (limits : Limits) (t : List ℕ) (small : Words16 t) (s : sound limits 
       (retire-sound (allScreens (hallIn t)) (decodeDesk (recordOf (hallIn t) t d)) owes room (desk-is-sound d r)) i
       (λ j l a. retire-keeps (allScreens (hallIn t)) (decodeDesk (recordOf (hallIn t) t d)) j (λ z. x0 (omega arith)) (λ z. x4 (omega arith)) (λ z. xl (omega arith)))
   written-keeps (Collect d) e i q =
-      let r = desk-fact (hallIn t) (decode (hallIn t) t) (v .formed) d _ e in
+      let r = desk-fact (hallIn t) (decode (hallIn t) t) d _ e in
       let shown = decode (hallIn t) t .shown in
       record-kept d r (collect (allScreens (hallIn t)) shown (decodeDesk (recordOf (hallIn t) t d)) .after)
       (collect-sound (allScreens (hallIn t)) shown (decodeDesk (recordOf (hallIn t) t d)) (some-screens (hallIn t) (k .fits)) (v .formed .screens) (desk-is-sound d r)) i

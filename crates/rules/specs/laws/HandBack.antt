@@ -1,16 +1,15 @@
--- The hand-back at one desk: how many collects a retired session still takes.
+-- The hand-back at one desk (the second half of demand 3): how many collects a retired session still takes, while no screen shows it.
 use Prim.Native.Nat.{_%_, ℕ, suc, _+_, _*_, _≤_, _<_}
 use native.Mathlib.Omega.{arith}
 use mathlib.Core.Path.{_≡_, refl, sym, ap, _∙_}
 use mathlib.Core.Bool.{true}
 use mathlib.Core.List.{List, [], _∷_, _++_, map}
 use lib.ListN.{length, drop, length-append, length-map}
-use Rattle.rules.specs.Demands.{exactBound, readings}
+use Rattle.rules.specs.Demands.{sharperBound, readings}
 use Rattle.rules.specs.Hall.{Desk, TestedPlace, unmarked, usedPlaces}
 use Rattle.rules.specs.History.{copies}
-use Rattle.rules.specs.Steps.{begin, beginAt, collect, handBack, markEach, markedOf, nextScreens, readScreens, retire, scan, settle, settleIf}
-use Rattle.rules.specs.Steps.{unmarkedOf}
-use Rattle.rules.specs.laws.Collect.{Orderly, Scanning, begin-keeps, by-scan, copiesOn}
+use Rattle.rules.specs.Steps.{begin, beginAt, collect, handBack, markEach, markedOf, nextScreens, owe, retire, scan, settle, settleIf, unmarkedOf}
+use Rattle.rules.specs.laws.Collect.{Orderly, Scanning, begin-keeps, by-scan, copiesOn, readOn, scanned-within}
 use Rattle.rules.specs.laws.Lists.{copies-append, copies-drop-append, copies-past-end, drop-after-first, matches}
 use Rattle.rules.specs.laws.Marks.{copies-next-screens, length-mark-each, marked-copies-begin, marked-copies-mark-each, tested-copies-begin}
 use Rattle.rules.specs.laws.Marks.{tested-copies-mark-each, testedCopies, unmarked-and-marked}
@@ -29,25 +28,21 @@ pub data Due (S s B m : ℕ) (D : Desk) : Type 0 where
   isReady : copies s (drop B (D .ready)) + testedCopies s (D .tested) + copies s (D .waiting) ≤ m → Due S s B m D
 
 -- At the retire, with enough collects ahead.
-pub due-start : (S s B m : ℕ) (D : Desk) → 1 ≤ S → exactBound S ≤ B → ScanFits S (D .scanned) (D .tested) → Due S s B m D
-due-start S s B m D hS hB fits = by-cases (D .tested) refl fits
+pub due-start : (S s B m : ℕ) (D : Desk) → sharperBound S ≤ B → ScanFits S (D .scanned) (D .tested) → Due S s B m D
+due-start S s B m D hB fits = by-cases (D .tested) refl fits
   where
     by-cases : (t : List TestedPlace) → D .tested ≡ t → ScanFits S (D .scanned) t → Due S s B m D
     by-cases [] e f = noReading e (omega arith)
     by-cases (p ∷ ps) e f = thisReading (omega (arith, ap length e)) (f .0) (omega arith)
 
--- With none ahead.
+-- With none ahead: a reading cannot take more collects than are left.
 pub due-end : (S s m : ℕ) (D : Desk) → 1 ≤ S → Orderly S D → Due S s 0 m D → copiesOn s D ≤ m
-due-end S s m D hS ok d = at (D .tested) refl (ok .going) d
-  where
-    at : (t : List TestedPlace) → D .tested ≡ t → Scanning S (D .scanned) t → Due S s 0 m D → copiesOn s D ≤ m
-    at t e g (isReady h) = h
-    at [] e g (thisReading h1 he h2) = absurd (omega (arith, ap length e))
-    at (p ∷ ps) e g (thisReading h1 he h2) = absurd (omega arith)
-    at t e g (noReading h1 h2) = absurd (omega arith)
-    at [] e g (nextReading h1 he h2 h3 h4) = absurd (omega (arith, ap length e))
-    at (p ∷ ps) e g (nextReading h1 he h2 h3 h4) = absurd (omega arith)
+due-end S s m D hS ok (isReady h) = h
+due-end S s m D hS ok (thisReading h1 he h2) = absurd (omega (arith, scanned-within S (D .scanned) (D .tested) hS (ok .going)))
+due-end S s m D hS ok (noReading h1 h2) = absurd (omega arith)
+due-end S s m D hS ok (nextReading h1 he h2 h3 h4) = absurd (omega (arith, scanned-within S (D .scanned) (D .tested) hS (ok .going)))
 
+-- A retire of v: the copy that it adds is among those that may stay.
 pub due-retire : (S s v B m : ℕ) (D : Desk) → D .owed ≡ v → Due S s B m D → Due S s B (matches s v + m) (retire D)
 due-retire S s v B m D q (thisReading h1 he h2) = thisReading h1 he h2
 due-retire S s v B m D q (noReading h1 h2) = noReading h1 h2
@@ -56,8 +51,8 @@ due-retire S s v B m D q (nextReading h1 he h2 h3 h4) =
 due-retire S s v B m D q (isReady h) = isReady (omega (arith, copies-append s (D .waiting) (D .owed ∷ []), ap (matches s) q))
 
 -- (a): what was waiting is tested, unmarked.
-due-begin : (S s B m : ℕ) (D : Desk) → 1 ≤ S → Orderly S D → Due S s (suc B) m D → Due S s (suc B) m (begin D)
-due-begin S s B m D hS ok d = at (D .tested) refl (ok .going) d
+due-begin : (S s B m : ℕ) (D : Desk) → Orderly S D → Due S s (suc B) m D → Due S s (suc B) m (begin D)
+due-begin S s B m D ok d = at (D .tested) refl (ok .going) d
   where
     start : (w : List ℕ) → D .waiting ≡ w → D .scanned ≡ 0 → 2 * S + readings S ≤ suc B + 1 → Due S s (suc B) m (beginAt [] D)
     start [] q k0 h = noReading (ap (map unmarked) q) h
@@ -72,6 +67,7 @@ due-begin S s B m D hS ok d = at (D .tested) refl (ok .going) d
     at [] e g (isReady h) = isReady (omega (arith, ap (testedCopies s) e, tested-copies-begin s (D .waiting)))
     at (p ∷ ps) e g h = h
 
+-- with nothing tested after (a), nothing waits either
 none-left : (D : Desk) → begin D .tested ≡ [] → begin D .waiting ≡ []
 none-left D = at (D .tested) refl
   where
@@ -79,6 +75,7 @@ none-left D = at (D .tested) refl
     at [] e h = refl
     at (p ∷ ps) e h = let z : _≡_ {A = ℕ} (suc (length ps)) 0 = sym (ap length e) ∙ ap length h in absurd (omega arith)
 
+-- (b) to (d)
 due-scan : (S s B m : ℕ) (shown : List ℕ) (A : Desk) → 1 ≤ S → length shown ≡ S → copies s shown ≡ 0 → usedPlaces A ≤ 2 * S
     → Scanning S (A .scanned) (A .tested) → (A .tested ≡ [] → A .waiting ≡ []) → Due S s (suc B) m A
     → Due S s B m (handBack (settle S (scan shown A)) .after)
@@ -93,7 +90,7 @@ due-scan S s B m shown A hS hl hid tot g nil d = by-scan (λ (X : Desk). Due S s
     rest (isReady a) e = isReady (rw drop-after-first a)
 
     on : Due S s (suc B) m A → 1 ≤ length (A .tested) → length (nextScreens shown A) ≡ 2 → A .scanned + 2 < S
-        → Due S s B m (handBack (readScreens (nextScreens shown A) A) .after)
+        → Due S s B m (handBack (readOn shown A) .after)
     on (thisReading a1 ae a2) h1 h2 h3 = thisReading (omega (arith, length-mark-each (nextScreens shown A) (A .tested))) (omega arith) (omega arith)
     on (noReading a1 a2) h1 h2 h3 = absurd (omega (arith, ap length a1))
     on (nextReading a1 ae a2 a3 a4) h1 h2 h3 =
@@ -102,7 +99,7 @@ due-scan S s B m shown A hS hl hid tot g nil d = by-scan (λ (X : Desk). Due S s
     on (isReady a) h1 h2 h3 = isReady (rw drop-after-first (omega (arith, tested-copies-mark-each s (nextScreens shown A) (A .tested))))
 
     over : Due S s (suc B) m A → 1 ≤ length (A .tested) → A .scanned < S → S ≤ A .scanned + 2 → A .scanned + length (nextScreens shown A) ≡ S
-        → Due S s B m (handBack (settleIf true (readScreens (nextScreens shown A) A)) .after)
+        → Due S s B m (handBack (settleIf true (readOn shown A)) .after)
     over (thisReading a1 ae a2) h1 h2 h3 h4 = noReading refl (omega arith)
     over (noReading a1 a2) h1 h2 h3 h4 = absurd (omega (arith, ap length a1))
     over (nextReading a1 ae a2 a3 a4) h1 h2 h3 h4 =
@@ -125,4 +122,11 @@ pub due-collect : (S s B m : ℕ) (shown : List ℕ) (D : Desk) → 1 ≤ S → 
     → Due S s B m (collect S shown D .after)
 due-collect S s B m shown D hS hl hid ok d =
     let b = begin-keeps S D hS ok in
-    due-scan S s B m shown (begin D) hS hl hid (omega (arith, b .total, ok .total)) (b .going) (none-left D) (due-begin S s B m D hS ok d)
+    due-scan S s B m shown (begin D) hS hl hid (omega (arith, b .total, ok .total)) (b .going) (none-left D) (due-begin S s B m D ok d)
+
+-- What a swap makes the desk owe has no part in it.
+pub due-owe : (S s B m o : ℕ) (D : Desk) → Due S s B m D → Due S s B m (owe D o)
+due-owe S s B m o D (thisReading a b c) = thisReading a b c
+due-owe S s B m o D (noReading a b) = noReading a b
+due-owe S s B m o D (nextReading a b c d e) = nextReading a b c d e
+due-owe S s B m o D (isReady a) = isReady a

@@ -7,7 +7,7 @@ use mathlib.Core.Bool.{cond, Bool, true, false}
 use mathlib.Core.List.{List, [], _++_}
 use lib.ListN.{length, take, drop, replicate}
 use lib.Seq.{take-at}
-use Rattle.rules.specs.Demands.{BackWithin, Demand2, Demand3, countsOfDesk, exactBound, listOfDesk}
+use Rattle.rules.specs.Demands.{BackWithin, Demand2, Demand3, countsOfDesk, sharperBound, listOfDesk}
 use Rattle.rules.specs.Hall.{Desk, Hall, Limits, allScreens, deskOf, fresh, usedPlaces}
 use Rattle.rules.specs.History.{copies, handBacks, handBacksOf, isHandBack, isHandBackOf, isRetirement, isRetirementOf, retirements, retirementsOf}
 use Rattle.rules.specs.Steps.{Call, Event, end, firstNo, inRange, run}
@@ -79,7 +79,7 @@ module _ (limits : Limits) (H : Hall) (inside : inLimits limits H ≡ true) (t :
           (sym (ap usedIn (record-after i d r) ∙ counts-encoded (allScreens H) (deskOf (end H (fresh H) (take i cs)) d)))
       by-cases false q =
           omega
-          (arith, outsider-counts H d (out-of-range d (H .desks) q) isRetirement refl (take i cs) (fresh H) (fresh-formed H), outsider-counts H d (out-of-range d (H .desks) q) isHandBack refl (take i cs) (fresh H) (fresh-formed H))
+          (arith, outsider-counts H d (out-of-range d (H .desks) q) isRetirement refl (take i cs) (fresh H), outsider-counts H d (out-of-range d (H .desks) q) isHandBack refl (take i cs) (fresh H))
 
   list-after : (d i : ℕ) → retirements d (take i (run H (fresh H) cs)) ≤ handBacks d (take i (run H (fresh H) cs)) + 2 * allScreens H
   list-after d i = rw (run-take H i cs (fresh H)) (by-cases (inRange d (H .desks)) refl)
@@ -87,7 +87,7 @@ module _ (limits : Limits) (H : Hall) (inside : inLimits limits H ≡ true) (t :
       by-cases : (b : Bool) → inRange d (H .desks) ≡ b
           → retirements d (run H (fresh H) (take i cs)) ≤ handBacks d (run H (fresh H) (take i cs)) + 2 * allScreens H
       by-cases true q = list-bound H some (take i cs) d (in-range d (H .desks) q .0)
-      by-cases false q = omega (arith, outsider-counts H d (out-of-range d (H .desks) q) isRetirement refl (take i cs) (fresh H) (fresh-formed H))
+      by-cases false q = omega (arith, outsider-counts H d (out-of-range d (H .desks) q) isRetirement refl (take i cs) (fresh H))
 
   copies-after : (d s i : ℕ)
       → retirementsOf d s (take i (run H (fresh H) cs)) ≡ handBacksOf d s (take i (run H (fresh H) cs)) + copies s (listOfDesk H (endTable limits (openedTable H t) (take i cs)) d)
@@ -105,7 +105,7 @@ module _ (limits : Limits) (H : Hall) (inside : inLimits limits H ≡ true) (t :
       by-cases true q (yes z) =
           let r = in-range d (H .desks) q in
           let real = sound-run H d some (r .0) (take i cs) (fresh H) (fresh-formed H) (fresh-sound H d) .real in
-          let none = no-session-zero H (take i cs) (fresh H) (fresh-formed H) d in
+          let none = no-session-zero H (take i cs) (fresh H) d in
           let l = listed r in
           rw z (omega (arith, none .0, none .1, rw z at l, real))
       by-cases true q (no z) =
@@ -114,7 +114,7 @@ module _ (limits : Limits) (H : Hall) (inside : inLimits limits H ≡ true) (t :
           omega (arith, listed r, fresh-copies H d s)
       by-cases false q z =
           omega
-          (arith, outsider-counts H d (out-of-range d (H .desks) q) (isRetirementOf s) refl (take i cs) (fresh H) (fresh-formed H), outsider-counts H d (out-of-range d (H .desks) q) (isHandBackOf s) refl (take i cs) (fresh H) (fresh-formed H))
+          (arith, outsider-counts H d (out-of-range d (H .desks) q) (isRetirementOf s) refl (take i cs) (fresh H), outsider-counts H d (out-of-range d (H .desks) q) (isHandBackOf s) refl (take i cs) (fresh H))
 
   pub demand2-opened : Demand2 H (runTable limits (openedTable H t) cs) (λ i. endTable limits (openedTable H t) (take i cs))
   demand2-opened =
@@ -126,5 +126,5 @@ module _ (limits : Limits) (H : Hall) (inside : inLimits limits H ≡ true) (t :
       subst (λ (history : List Event). Demand3 H history (λ i. endTable limits (openedTable H t) (take i cs))) (sym run-is)
       (record { room = never-lacks-room H some cs; list = list-after; counts = counts-after; back = back-in-time H some cs (3 * allScreens H) (three-is-enough (allScreens H) some) })
 
-  pub back-opened : BackWithin (exactBound (allScreens H)) (runTable limits (openedTable H t) cs)
-  back-opened = subst (BackWithin (exactBound (allScreens H))) (sym run-is) (back-in-time H some cs (exactBound (allScreens H)) (omega arith))
+  pub back-opened : BackWithin (sharperBound (allScreens H)) (runTable limits (openedTable H t) cs)
+  back-opened = subst (BackWithin (sharperBound (allScreens H))) (sym run-is) (back-in-time H some cs (sharperBound (allScreens H)) (omega arith))

@@ -16,7 +16,7 @@ cast-put-end-3 : tie.Need-cast-put-end-3
 cast-put-end-3 c = search needs
 
 put-end-requires : tie.Need-put-end-requires
-put-end-requires c κs = omega (arith, end-length (tallyIs (c .before .before .before .before .before .before .args .state .tally)), c .before .before .before .before .before .before .pre)
+put-end-requires c κs = let start = c .before .before .before .before .before .before in omega (arith, end-length (tallyIs (start .args .state .tally)), start .pre)
 
 same-length : tie.Need-same-length
 same-length c = search needs

@@ -12,7 +12,9 @@ use Rattle.sheet.proofs.put_record.Statement.{statement}
 use Rattle.sheet.proofs.put_record.Tie as tie
 
 -- the record that was read
-record-read : (c : tie.After-known-told3) → recordAt (c .before .before .before .before .before .before .before .before .args .sheet .now) (c .before .before .before .before .before .before .before .before .args .state .place) ≡ got (recordOf (c .before .entry .given .0 .0)) (c .before .entry .given .0 .1 .0)
+record-read : (c : tie.After-known-told3) →
+    let a = c .before .before .before .before .before .before .before .before .args in
+    recordAt (a .sheet .now) (a .state .place) ≡ got (recordOf (c .before .entry .given .0 .0)) (c .before .entry .given .0 .1 .0)
 record-read c = sym (c .before .before .before .read-record .ensures) ∙ ap toldRecord (c .before .entry .given .1)
 
 finish-requires : tie.Need-finish-requires
@@ -22,7 +24,10 @@ same-length : tie.Need-same-length
 same-length c = search needs
 
 returns : tie.Need-returns
-returns c = (ended (c .before .before .before .before .before .before .before .before .args .sheet .now) (c .before .before .before .before .before .before .before .before .args .state) (c .before .before .before .before .before .before .before .before .args .table .now) (c .before .before .before .before .before .before .before .before .pre .0) (c .before .before .before .before .if1 .taken) (c .before .before .before .before .before .before .before .before .args .out .now) (c .before .before .finish .last .0) (c .before .before .before .before .before .before .before .before .args .at) (c .before .before .finish .result .put) (c .before .before .finish .ensures .0) (c .before .before .finish .result .state) (c .before .before .finish .ensures .1), finished-onward (c .before .before .before .before .before .before .before .before .args .sheet .now) (c .before .before .before .before .before .before .before .before .args .state) (c .before .before .finish .result .state) (c .before .before .finish .ensures .1) (c .before .before .before .before .before .before .before .before .pre .1))
+returns c =
+    let start = c .before .before .before .before .before .before .before .before in
+    let last = c .before .before .finish .ensures in
+    (ended (start .pre .0) (c .before .before .before .before .if1 .taken) (last .0) (last .1), finished-onward (last .1) (start .pre .1))
 
 read-record-requires : tie.Need-read-record-requires
 read-record-requires c κs = search needs
@@ -64,25 +69,38 @@ cast-put-line-3 : tie.Need-cast-put-line-3
 cast-put-line-3 c = search needs
 
 put-line-requires : tie.Need-put-line-requires
-put-line-requires c κs = omega (arith, line-length (c .before .before .before .before .before .before .before .before .before .before .before .before .before .before .before .before .args .state .index) (c .before .before .before .before .before .before .before .before .before .entry .given .0 .0 .code) (c .before .before .before .number .result) (c .before .before .session .result), c .before .before .before .before .before .before .before .before .before .before .before .before .before .before .before .before .pre .2)
+put-line-requires c κs =
+    let start = c .before .before .before .before .before .before .before .before .before .before .before .before .before .before .before .before in
+    omega (arith, line-length (start .args .state .index) (c .before .before .before .before .before .before .before .before .before .entry .given .0 .0 .code) (c .before .before .before .number .result) (c .before .before .session .result), start .pre .2)
 
 tallied-requires : tie.Need-tallied-requires
 tallied-requires c κs = search needs
 
 add-index : tie.Need-add-index
-add-index c = record { fits = omega (arith, c .before .before .before .before .before .before .before .before .before .before .before .before .before .before .before .before .before .before .before .before .before .before .pre .1, c .before .before .before .before .before .before .before .before .before .before .before .before .before .before .before .before .before .before .if1 .left, c .before .before .before .before .before .before .before .before .before .before .before .before .before .before .before .before .before .before .before .before .before .before .good .0 .0) }
+add-index c =
+    let start = c .before .before .before .before .before .before .before .before .before .before .before .before .before .before .before .before .before .before .before .before .before .before in
+    record { fits = omega (arith, start .pre .1, c .before .before .before .before .before .before .before .before .before .before .before .before .before .before .before .before .before .before .if1 .left, start .good .0 .0) }
 
 same-length-2 : tie.Need-same-length-2
 same-length-2 c = search needs
 
 returns-2 : tie.Need-returns-2
-returns-2 c = (stopped (c .before .before .before .before .before .before .before .before .before .before .before .before .before .args .sheet .now) (c .before .before .before .before .before .before .before .before .before .before .before .before .before .args .state) (c .before .before .before .before .before .before .before .before .before .before .before .before .before .args .table .now) (c .before .before .before .before .before .before .before .before .before .before .before .before .before .pre .0) (c .before .before .before .before .before .before .before .before .before .if1 .left) (c .before .before .before .before .before .before .code .given .0 .0) (c .before .before .before .refusal-number .result) (sym (c .before .before .before .before .before .before .before .before .read-record .ensures) ∙ ap toldRecord (c .before .before .before .before .before .before .code .given .1) ∙ ap (λ (n : ℕ). refused (refusalOf (c .before .before .before .before .before .before .code .given .0 .0) n)) (sym (c .before .before .before .refusal-number .ensures))) (c .before .before .before .before .before .before .before .before .before .before .before .before .before .args .out .now) (c .before .before .stop .last .0) (c .before .before .before .before .before .before .before .before .before .before .before .before .before .args .at) (c .before .before .stop .result .put) (c .before .before .stop .ensures .0) (c .before .before .stop .result .state) (c .before .before .stop .ensures .1), finished-onward (c .before .before .before .before .before .before .before .before .before .before .before .before .before .args .sheet .now) (c .before .before .before .before .before .before .before .before .before .before .before .before .before .args .state) (c .before .before .stop .result .state) (c .before .before .stop .ensures .1) (c .before .before .before .before .before .before .before .before .before .before .before .before .before .pre .1))
+returns-2 c =
+    let start = c .before .before .before .before .before .before .before .before .before .before .before .before .before in
+    let last = c .before .before .stop .ensures in
+    let code = c .before .before .before .before .before .before .code .given in
+    let read = sym (c .before .before .before .before .before .before .before .before .read-record .ensures) ∙ ap toldRecord (code .1) ∙ ap (λ (n : ℕ). refused (refusalOf (code .0 .0) n)) (sym (c .before .before .before .refusal-number .ensures)) in
+    (stopped (start .pre .0) (c .before .before .before .before .before .before .before .before .before .if1 .left) read (last .0) (last .1), finished-onward (last .1) (start .pre .1))
 
 same-length-3 : tie.Need-same-length-3
 same-length-3 c = search needs
 
 returns-3 : tie.Need-returns-3
-returns-3 c = (stopped (c .before .before .before .before .before .before .before .before .before .before .before .before .args .sheet .now) (c .before .before .before .before .before .before .before .before .before .before .before .before .args .state) (c .before .before .before .before .before .before .before .before .before .before .before .before .args .table .now) (c .before .before .before .before .before .before .before .before .before .before .before .before .pre .0) (c .before .before .before .before .before .before .before .before .if1 .left) (c .before .before .before .before .before .code2 .given .0 .0) 17 (sym (c .before .before .before .before .before .before .before .read-record .ensures) ∙ ap toldRecord (c .before .before .before .before .before .code2 .given .1)) (c .before .before .before .before .before .before .before .before .before .before .before .before .args .out .now) (c .before .before .stop2 .last .0) (c .before .before .before .before .before .before .before .before .before .before .before .before .args .at) (c .before .before .stop2 .result .put) (c .before .before .stop2 .ensures .0) (c .before .before .stop2 .result .state) (c .before .before .stop2 .ensures .1), finished-onward (c .before .before .before .before .before .before .before .before .before .before .before .before .args .sheet .now) (c .before .before .before .before .before .before .before .before .before .before .before .before .args .state) (c .before .before .stop2 .result .state) (c .before .before .stop2 .ensures .1) (c .before .before .before .before .before .before .before .before .before .before .before .before .pre .1))
+returns-3 c =
+    let start = c .before .before .before .before .before .before .before .before .before .before .before .before in
+    let last = c .before .before .stop2 .ensures in
+    let read = sym (c .before .before .before .before .before .before .before .read-record .ensures) ∙ ap toldRecord (c .before .before .before .before .before .code2 .given .1) in
+    (stopped (start .pre .0) (c .before .before .before .before .before .before .before .before .if1 .left) read (last .0) (last .1), finished-onward (last .1) (start .pre .1))
 
 same-length-4 : tie.Need-same-length-4
 same-length-4 c = search needs
@@ -91,7 +109,12 @@ same-length-5 : tie.Need-same-length-5
 same-length-5 c = search needs
 
 returns-4 : tie.Need-returns-4
-returns-4 c = (ran (c .before .before .before .before .before .before .before .before .before .before .before .before .before .before .before .before .before .before .before .before .before .before .args .sheet .now) (c .before .before .before .before .before .before .before .before .before .before .before .before .before .before .before .before .before .before .before .before .before .before .args .state) (c .before .before .before .before .before .before .before .before .before .before .before .before .before .before .before .before .before .before .before .before .before .before .args .table .now) (c .before .before .before .before .before .before .before .before .before .before .before .before .before .before .before .before .before .before .before .before .before .before .pre .0) (c .before .before .before .before .before .before .before .before .before .before .before .before .before .before .before .before .before .before .if1 .left) (recordOf (c .before .before .before .before .before .before .before .before .before .before .before .before .before .before .before .entry .given .0 .0)) (c .before .before .before .before .before .before .before .before .before .before .before .before .before .before .before .entry .given .0 .1 .0) (record-read (c .before .before .before .before .before .before .before .before .before .before .before .before .before .before)) (c .before .before .before .before .before .before .before .before .before .before .before .before .run-record .result) (c .before .before .before .before .before .before .before .before .before .before .before .before .run-record .last .0) (c .before .before .before .before .before .before .before .before .before .number .result) (c .before .before .before .before .before .before .before .before .session .result) (c .before .tallied .result) (c .before .before .before .before .before .before .before .before .before .before .before .before .before .before .before .before .before .before .before .before .before .before .args .out .now) (c .before .before .before .before .before .put-line .last .0) (c .before .before .before .before .before .before .before .before .before .before .before .before .before .before .before .before .before .before .before .before .before .before .args .at) (c .before .before .before .before .before .put-line .result) (c .before .before .before .before .before .before .before .before .before .before .before .before .run-record .ensures) (c .before .before .before .before .before .before .before .before .before .number .ensures) (c .before .before .before .before .before .before .before .before .session .ensures) (c .before .tallied .ensures) (c .before .before .before .before .before .put-line .ensures), ran-onward (c .before .before .before .before .before .before .before .before .before .before .before .before .before .before .before .before .before .before .before .before .before .before .args .sheet .now) (c .before .before .before .before .before .before .before .before .before .before .before .before .before .before .before .before .before .before .before .before .before .before .args .state) (c .before .before .before .before .before .before .before .before .before .before .before .before .before .before .before .before .before .before .before .before .before .before .args .table .now) (c .before .before .before .before .before .before .before .before .before .before .before .before .before .before .before .before .before .before .before .before .before .before .pre .0) (c .before .before .before .before .before .before .before .before .before .before .before .before .before .before .before .before .before .before .if1 .left) (recordOf (c .before .before .before .before .before .before .before .before .before .before .before .before .before .before .before .entry .given .0 .0)) (c .before .before .before .before .before .before .before .before .before .before .before .before .before .before .before .entry .given .0 .1 .0) (record-read (c .before .before .before .before .before .before .before .before .before .before .before .before .before .before)) (c .before .before .before .before .before .before .before .before .before .before .before .before .before .before .before .before .before .before .before .before .before .before .pre .1) (c .before .tallied .result))
+returns-4 c =
+    let start = c .before .before .before .before .before .before .before .before .before .before .before .before .before .before .before .before .before .before .before .before .before .before in
+    let inside = c .before .before .before .before .before .before .before .before .before .before .before .before .before .before .before .before .before .before .if1 .left in
+    let read = record-read (c .before .before .before .before .before .before .before .before .before .before .before .before .before .before) in
+    let ran-step = c .before .before .before .before .before .before .before .before .before .before .before .before .run-record in
+    (ran (start .pre .0) inside read (ran-step .result) (ran-step .ensures) (c .before .before .before .before .before .before .before .before .before .number .ensures) (c .before .before .before .before .before .before .before .before .session .ensures) (c .before .tallied .ensures) (c .before .before .before .before .before .put-line .ensures), ran-onward (start .pre .0) inside read (start .pre .1))
 
 pub put-record-spec : {M : Type 1} → statement M
 put-record-spec =

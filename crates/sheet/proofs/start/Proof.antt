@@ -3,13 +3,15 @@ use native.Mathlib.Omega.{arith}
 use mathlib.Core.Path.{_≡_, sym, ap, _∙_}
 use Prim.Native.Nat.{ℕ}
 use borrow.Author.Needs.{needs}
-use Rattle.rules.specs.Numbers.{got, refused, refusalOf}
-use Rattle.rules.specs.Table.{TableDone, openTable}
+use Rattle.rules.specs.Hall.{hallLimits}
+use Rattle.rules.specs.Numbers.{got, refusalOf, refused}
+use Rattle.rules.specs.Table.{openTable}
 use Rattle.reply.specs.Answer.{told}
 use Rattle.sheet_rules.specs.Sheet.{headerAt, lentTable}
+use Rattle.sheet_rules.specs.laws.Sheet.{short-enough, too-long}
 use Rattle.reader.specs.Told.{headerOf, toldHeader}
 use Rattle.lines.specs.laws.Longest.{line-length}
-use Rattle.sheet.proofs.StartLaws.{too-long, header-cut, opening-number, opening-refused, table-refused, opening-accepted, started-stopped, started-opened}
+use Rattle.sheet.proofs.StartLaws.{started-opened, started-refused, started-stopped}
 use Rattle.sheet.proofs.start.Statement.{statement}
 use Rattle.sheet.proofs.start.Tie as tie
 
@@ -18,8 +20,10 @@ header-read : (c : tie.After-known-told2) → headerAt (c .before .before .befor
 header-read c = sym (c .before .before .before .read-header .ensures) ∙ ap toldHeader (c .before .header .given .1)
 
 -- what the board replied to the opening
-opening : (c : tie.After-number) → told (c .before .before .before .«open» .result) (c .before .before .before .«open» .last .0) ≡ openTable (headerOf (c .before .before .before .before .before .before .header .given .0 .0)) lentTable
-opening c = c .before .before .before .«open» .ensures ∙ ap (openTable (headerOf (c .before .before .before .before .before .before .header .given .0 .0))) (c .before .before .before .before .before .before .before .before .before .before .before .before .before .pre .0)
+opening : (c : tie.After-number) →
+    let replied = c .before .before .before .«open» in
+    told (replied .result) (replied .last .0) ≡ openTable hallLimits (headerOf (c .before .before .before .before .before .before .header .given .0 .0)) lentTable
+opening c = c .before .before .before .«open» .ensures ∙ ap (openTable hallLimits _) (c .before .before .before .before .before .before .before .before .before .before .before .before .before .pre .0)
 
 stop-requires : tie.Need-stop-requires
 stop-requires c κs = search needs
@@ -28,7 +32,10 @@ same-length : tie.Need-same-length
 same-length c = search needs
 
 returns : tie.Need-returns
-returns c = started-stopped (c .before .before .before .before .before .before .before .before .args .sheet .now) (c .before .before .before .before .before .before .before .before .args .out .now) (c .before .before .stop .last .0) (c .before .before .stop .result .put) 18 (too-long (c .before .before .before .before .before .before .before .before .args .sheet .now) (c .before .before .before .before .if1 .taken)) (c .before .before .before .before .before .before .before .before .args .table .now) (c .before .before .before .before .before .before .before .before .pre .0) (c .before .before .stop .ensures .0) (c .before .before .stop .result .state) (c .before .before .stop .ensures .1)
+returns c =
+    let start = c .before .before .before .before .before .before .before .before in
+    let last = c .before .before .stop .ensures in
+    started-stopped (too-long (start .args .sheet .now) (c .before .before .before .before .if1 .taken)) (start .pre .0) (last .0) (last .1)
 
 read-header-requires : tie.Need-read-header-requires
 read-header-requires c κs = search needs
@@ -61,7 +68,9 @@ same-length-3 : tie.Need-same-length-3
 same-length-3 c = search needs
 
 returns-2 : tie.Need-returns-2
-returns-2 c = started-stopped (c .before .before .before .before .before .before .before .before .before .before .before .before .before .before .before .before .before .before .args .sheet .now) (c .before .before .before .before .before .before .before .before .before .before .before .before .before .before .before .before .before .before .args .out .now) (c .before .before .stop3 .last .0) (c .before .before .stop3 .result .put) (c .before .before .before .before .before .number .result) (opening-refused (c .before .before .before .before .before .before .before .before .before .before .before .before .before .before .before .before .before .before .args .sheet .now) (c .before .before .before .before .before .before .before .before .before .before .before .before .before .before .if1 .left) (headerOf (c .before .before .before .before .before .before .before .before .before .before .before .header .given .0 .0)) (c .before .before .before .before .before .before .before .before .before .before .before .header .given .0 .1 .0) (header-read (c .before .before .before .before .before .before .before .before .before .before)) (c .before .before .before .before .before .before .before .before .«open» .result) (c .before .before .before .before .before .before .before .before .«open» .last .0) (c .before .before .before .before .before .number .result) (opening (c .before .before .before .before .before)) (c .before .before .before .before .before .number .ensures) (c .before .before .before .before .if2 .taken)) (c .before .before .before .before .before .before .before .before .«open» .last .0) (table-refused (c .before .before .before .before .before .before .before .before .before .before .before .before .before .before .before .before .before .before .args .sheet .now) (c .before .before .before .before .before .before .before .before .before .before .before .before .before .before .if1 .left) (headerOf (c .before .before .before .before .before .before .before .before .before .before .before .header .given .0 .0)) (c .before .before .before .before .before .before .before .before .before .before .before .header .given .0 .1 .0) (header-read (c .before .before .before .before .before .before .before .before .before .before)) (c .before .before .before .before .before .before .before .before .«open» .result) (c .before .before .before .before .before .before .before .before .«open» .last .0) (c .before .before .before .before .before .number .result) (opening (c .before .before .before .before .before)) (c .before .before .before .before .before .number .ensures) (c .before .before .before .before .if2 .taken)) (c .before .before .stop3 .ensures .0) (c .before .before .stop3 .result .state) (c .before .before .stop3 .ensures .1)
+returns-2 c =
+    let last = c .before .before .stop3 .ensures in
+    started-refused (c .before .before .before .before .before .before .before .before .«open» .result) (c .before .before .before .before .before .before .before .before .before .before .before .before .before .before .if1 .left) (header-read (c .before .before .before .before .before .before .before .before .before .before)) (opening (c .before .before .before .before .before)) (c .before .before .before .before .before .number .ensures) (c .before .before .before .before .if2 .taken) (last .0) (last .1)
 
 put-line-requires : tie.Need-put-line-requires
 put-line-requires c κs = omega (arith, line-length 0 0 0 0, c .before .before .before .before .before .before .before .before .before .before .before .before .before .before .before .pre .1)
@@ -70,7 +79,11 @@ same-length-4 : tie.Need-same-length-4
 same-length-4 c = search needs
 
 returns-3 : tie.Need-returns-3
-returns-3 c = started-stopped (c .before .before .before .before .before .before .before .before .before .before .before .before .before .args .sheet .now) (c .before .before .before .before .before .before .before .before .before .before .before .before .before .args .out .now) (c .before .before .stop2 .last .0) (c .before .before .stop2 .result .put) (c .before .before .before .refusal-number .result) (header-cut (c .before .before .before .before .before .before .before .before .before .before .before .before .before .args .sheet .now) (c .before .before .before .before .before .before .before .before .before .if1 .left) (c .before .before .before .refusal-number .result) (sym (c .before .before .before .before .before .before .before .before .read-header .ensures) ∙ ap toldHeader (c .before .before .before .before .before .before .fault .given .1) ∙ ap (λ (n : ℕ). refused (refusalOf 0 n)) (sym (c .before .before .before .refusal-number .ensures)))) (c .before .before .before .before .before .before .before .before .before .before .before .before .before .args .table .now) (c .before .before .before .before .before .before .before .before .before .before .before .before .before .pre .0) (c .before .before .stop2 .ensures .0) (c .before .before .stop2 .result .state) (c .before .before .stop2 .ensures .1)
+returns-3 c =
+    let start = c .before .before .before .before .before .before .before .before .before .before .before .before .before in
+    let last = c .before .before .stop2 .ensures in
+    let read = sym (c .before .before .before .before .before .before .before .before .read-header .ensures) ∙ ap toldHeader (c .before .before .before .before .before .before .fault .given .1) ∙ ap (λ (n : ℕ). refused (refusalOf 0 n)) (sym (c .before .before .before .refusal-number .ensures)) in
+    started-stopped (short-enough (start .args .sheet .now) (c .before .before .before .before .before .before .before .before .before .if1 .left) read) (start .pre .0) (last .0) (last .1)
 
 same-length-5 : tie.Need-same-length-5
 same-length-5 c = search needs
@@ -79,7 +92,8 @@ same-length-6 : tie.Need-same-length-6
 same-length-6 c = search needs
 
 returns-4 : tie.Need-returns-4
-returns-4 c = started-opened (c .before .before .before .before .before .before .before .before .before .before .before .before .before .before .before .before .before .before .args .sheet .now) (c .before .before .before .before .before .before .before .before .before .before .before .before .before .before .before .before .before .before .args .out .now) (c .before .before .put-line .last .0) (c .before .before .put-line .result) (headerOf (c .before .before .before .before .before .before .before .before .before .before .before .header .given .0 .0)) (c .before .before .before .before .before .before .before .before .before .before .before .header .given .0 .1 .0) (header-read (c .before .before .before .before .before .before .before .before .before .before)) (opening-accepted (c .before .before .before .before .before .before .before .before .before .before .before .before .before .before .before .before .before .before .args .sheet .now) (c .before .before .before .before .before .before .before .before .before .before .before .before .before .before .if1 .left) (headerOf (c .before .before .before .before .before .before .before .before .before .before .before .header .given .0 .0)) (c .before .before .before .before .before .before .before .before .before .before .before .header .given .0 .1 .0) (header-read (c .before .before .before .before .before .before .before .before .before .before)) (c .before .before .before .before .before .before .before .before .«open» .result) (c .before .before .before .before .before .before .before .before .«open» .last .0) (c .before .before .before .before .before .number .result) (opening (c .before .before .before .before .before)) (c .before .before .before .before .before .number .ensures) (c .before .before .before .before .if2 .left)) (c .before .before .before .before .before .before .before .before .«open» .last .0) (ap (λ (done : TableDone). done .after) (opening (c .before .before .before .before .before))) (opening-number (c .before .before .before .before .before .before .before .before .before .before .before .before .before .before .before .before .before .before .args .sheet .now) (c .before .before .before .before .before .before .before .before .before .before .before .before .before .before .if1 .left) (headerOf (c .before .before .before .before .before .before .before .before .before .before .before .header .given .0 .0)) (c .before .before .before .before .before .before .before .before .before .before .before .header .given .0 .1 .0) (header-read (c .before .before .before .before .before .before .before .before .before .before)) (c .before .before .before .before .before .before .before .before .«open» .result) (c .before .before .before .before .before .before .before .before .«open» .last .0) (c .before .before .before .before .before .number .result) (opening (c .before .before .before .before .before)) (c .before .before .before .before .before .number .ensures) ∙ c .before .before .before .before .if2 .left) (c .before .before .put-line .ensures)
+returns-4 c =
+    started-opened (c .before .before .before .before .before .before .before .before .«open» .result) (c .before .before .before .before .before .before .before .before .before .before .before .before .before .before .if1 .left) (header-read (c .before .before .before .before .before .before .before .before .before .before)) (opening (c .before .before .before .before .before)) (c .before .before .before .before .before .number .ensures) (c .before .before .before .before .if2 .left) (c .before .before .put-line .ensures)
 
 pub start-spec : {M : Type 1} → statement M
 start-spec =

@@ -7,16 +7,20 @@ use Rattle.sheet.proofs.stop.Statement.{statement}
 use Rattle.sheet.proofs.stop.Tie as tie
 
 put-line-requires : tie.Need-put-line-requires
-put-line-requires c κs = omega (arith, line-length (c .before .before .args .state .index) (c .before .before .args .code) (c .before .before .args .reason) 0, c .before .before .pre)
+put-line-requires c κs =
+    let start = c .before .before in
+    omega (arith, line-length (start .args .state .index) (start .args .code) (start .args .reason) 0, start .pre)
 
 finish-requires : tie.Need-finish-requires
-finish-requires c κs = omega (arith, line-length (c .before .before .before .before .before .before .args .state .index) (c .before .before .before .before .before .before .args .code) (c .before .before .before .before .before .before .args .reason) 0, c .before .before .before .before .before .before .pre, c .before .before .before .put-line .ensures .place, c .before .before .before .put-line .kept)
+finish-requires c κs =
+    let start = c .before .before .before .before .before .before in
+    omega (arith, line-length (start .args .state .index) (start .args .code) (start .args .reason) 0, start .pre, c .before .before .before .put-line .ensures .place, c .before .before .before .put-line .kept)
 
 same-length : tie.Need-same-length
 same-length c = search needs
 
 returns : tie.Need-returns
-returns c = (put-on (c .before .before .before .before .before .before .put-line .ensures) (c .before .before .finish .ensures .0) (omega (arith, c .before .before .before .before .before .before .before .before .before .pre)), c .before .before .finish .ensures .1)
+returns c = (put-on (c .before .before .before .before .before .before .put-line .ensures) (c .before .before .finish .ensures .0), c .before .before .finish .ensures .1)
 
 pub stop-spec : {M : Type 1} → statement M
 stop-spec =

@@ -6,28 +6,29 @@ use mathlib.Core.Bool.{Bool, true, false, cond}
 use mathlib.Core.List.{List, _++_, append-assoc}
 use lib.ListN.{length}
 use lib.Dec.{leb, ltb}
-use Rattle.rules.specs.Hall.{Hall}
+use Rattle.rules.specs.Hall.{Hall, hallLimits}
 use Rattle.rules.specs.Steps.{Event}
-use Rattle.rules.specs.Table.{TableDone, openIf, openTable, openedTable, stepTable, runTable}
-use Rattle.rules.specs.Numbers.{Refusal, refusalOf, Got, got, refused}
-use Rattle.sheet_rules.specs.Sheet.{Record, recordFor, callOf, codeOf, isCode, recordAt, Records, more, complete, stop, onward}
-use Rattle.sheet_rules.specs.Sheet.{recordsAt, callsIn, headerAt, lentTable, openingNumber, unopened, opened, openedIf, headed}
-use Rattle.sheet_rules.specs.Sheet.{mostBytes, reading}
-use Rattle.sheet_rules.specs.Tally.{Tally, zeros, counted, tallied, countsIn}
-use Rattle.sheet_rules.specs.Lines.{line, answerLine, endLine, eventLines, endingLine, linesFrom, linesOf, printed}
-use Rattle.sheet_rules.specs.laws.Sheet.{record-got, in-range, false-not-true}
+use Rattle.rules.specs.Table.{TableDone, openTable, openedTable, runTable, stepTable}
+use Rattle.rules.specs.Numbers.{Got, Refusal, got, refusalOf, refused}
+use Rattle.rules.specs.laws.Effect.{in-range}
+use Rattle.rules.specs.laws.TableSteps.{accepted-open}
+use Rattle.sheet_rules.specs.Sheet.{Record, Records, callOf, callsIn, codeOf, complete, headed, headerAt, isCode, lentTable, more, mostBytes, onward}
+use Rattle.sheet_rules.specs.Sheet.{opened, openedIf, openingNumber, reading, recordAt, recordFor, recordsAt, stop, unopened}
+use Rattle.sheet_rules.specs.Tally.{Tally, counted, countsIn, tallied, zeros}
+use Rattle.sheet_rules.specs.Lines.{answerLine, endLine, endingLine, eventLines, line, linesFrom, linesOf, printed}
+use Rattle.sheet_rules.specs.laws.Sheet.{record-got}
 use Rattle.sheet_rules.specs.laws.Tally.{tally-from-zeros}
 
 -- ---- What a reading that opened had before it.
-pub record Opened (sheet : List ℕ) (hall : Hall) (records : Records) : Type 0 where
-  pub accepted : openingNumber hall ≡ 0
-  pub next : ℕ
-  pub are : records ≡ recordsAt (length sheet) sheet next
+record Opened (sheet : List ℕ) (hall : Hall) (records : Records) : Type 0 where
+  accepted : openingNumber hall ≡ 0
+  next : ℕ
+  are : records ≡ recordsAt (length sheet) sheet next
 
 unopened-not-opened : {reason : Refusal} {hall : Hall} {records : Records} → unopened reason ≡ opened hall records → ⊥
 unopened-not-opened e = let z : _≡_ {A = ℕ} 0 1 = cc in omega arith
 
-pub opened-from : (sheet : List ℕ) (hall : Hall) (records : Records) → reading sheet ≡ opened hall records → Opened sheet hall records
+opened-from : (sheet : List ℕ) (hall : Hall) (records : Records) → reading sheet ≡ opened hall records → Opened sheet hall records
 unfolding reading
 opened-from sheet hall records e = by-length (leb (length sheet) mostBytes) e
   where
@@ -48,9 +49,9 @@ opened-from sheet hall records e = by-length (leb (length sheet) mostBytes) e
     by-length false opens = absurd (unopened-not-opened opens)
 
 pub opening-accepted : (sheet : List ℕ) (hall : Hall) (records : Records) → reading sheet ≡ opened hall records
-    → openTable hall lentTable ≡ record { answer = record { number = 0; session = 0 }; after = openedTable hall lentTable }
-unfolding openTable openingNumber
-opening-accepted sheet hall records e = ap (λ (n : ℕ). openIf n hall lentTable) (opened-from sheet hall records e .accepted)
+    → openTable hallLimits hall lentTable ≡ record { answer = record { number = 0; session = 0 }; after = openedTable hall lentTable }
+unfolding openingNumber
+opening-accepted sheet hall records e = accepted-open hallLimits hall lentTable (opened-from sheet hall records e .accepted)
 
 -- ---- Each record that is read has a step's code, so the step's code is the record's.
 abbrev EachCode : Records → Type 0
@@ -69,26 +70,26 @@ each-code (suc most) sheet at = by-place (ltb at (length sheet)) (recordAt sheet
     by-place false found e later = tt
 
 code-of-call : (code desk screen position session : ℕ) → isCode code ≡ true → codeOf (callOf (recordFor code desk screen position session)) ≡ code
-code-of-call zero desk screen position session good = absurd (false-not-true good)
+code-of-call zero desk screen position session good = absurd (omega (arith, in-range 0 5 good .0))
 code-of-call (suc zero) desk screen position session good = refl
 code-of-call (suc (suc zero)) desk screen position session good = refl
 code-of-call (suc (suc (suc zero))) desk screen position session good = refl
 code-of-call (suc (suc (suc (suc zero)))) desk screen position session good = refl
 code-of-call (suc (suc (suc (suc (suc zero))))) desk screen position session good = refl
-code-of-call (suc (suc (suc (suc (suc (suc n)))))) desk screen position session good = absurd (omega (arith, in-range (suc (suc (suc (suc (suc (suc n)))))) 5 good))
+code-of-call (suc (suc (suc (suc (suc (suc n)))))) desk screen position session good = absurd (omega (arith, in-range (suc (suc (suc (suc (suc (suc n)))))) 5 good .1))
 
 -- ---- The lines are those of the run.
 lines-from : (table : List ℕ) (index : ℕ) (total : Tally) (records : Records) → EachCode records
     → linesFrom table index total records
-    ≡ eventLines index (runTable table (callsIn records))
-    ++ (endingLine index records ++ endLine (tallied total (runTable table (callsIn records))))
+    ≡ eventLines index (runTable hallLimits table (callsIn records))
+    ++ (endingLine index records ++ endLine (tallied total (runTable hallLimits table (callsIn records))))
 lines-from table index total complete codes = refl
 lines-from table index total (stop reason) codes = refl
 lines-from table index total (more entry rest) codes =
-    let done : TableDone = stepTable table (callOf entry) in
+    let done : TableDone = stepTable hallLimits table (callOf entry) in
     let first : List ℕ = answerLine index (entry .code) (done .answer) in
     let event : Event = record { call = callOf entry; answer = done .answer } in
-    let events : List Event = runTable (done .after) (callsIn rest) in
+    let events : List Event = runTable hallLimits (done .after) (callsIn rest) in
     let last : List ℕ = endingLine (suc index) rest ++ endLine (tallied (counted total event) events) in
     ap (λ (lines : List ℕ). first ++ lines) (lines-from (done .after) (suc index) (counted total event) rest (codes .1))
     ∙ sym (append-assoc first (eventLines (suc index) events) last)
@@ -98,22 +99,22 @@ lines-from table index total (more entry rest) codes =
 pub lines-of-run : (sheet : List ℕ) (hall : Hall) (records : Records) → reading sheet ≡ opened hall records
     → printed sheet
     ≡ line 0 0 0 0
-    ++ (eventLines 1 (runTable (openTable hall lentTable .after) (callsIn records))
-    ++ (endingLine 1 records ++ endLine (countsIn (runTable (openTable hall lentTable .after) (callsIn records)))))
+    ++ (eventLines 1 (runTable hallLimits (openTable hallLimits hall lentTable .after) (callsIn records))
+    ++ (endingLine 1 records ++ endLine (countsIn (runTable hallLimits (openTable hallLimits hall lentTable .after) (callsIn records)))))
 unfolding printed
 lines-of-run sheet hall records e =
     ap linesOf e
-    ∙ ap (λ (lines : List ℕ). answerLine 0 0 (openTable hall lentTable .answer) ++ lines) (lines-from table 1 zeros records codes)
-    ∙ ap (λ (total : Tally). answerLine 0 0 (openTable hall lentTable .answer) ++ (eventLines 1 events ++ (endingLine 1 records ++ endLine total)))
+    ∙ ap (λ (lines : List ℕ). answerLine 0 0 (openTable hallLimits hall lentTable .answer) ++ lines) (lines-from table 1 zeros records codes)
+    ∙ ap (λ (total : Tally). answerLine 0 0 (openTable hallLimits hall lentTable .answer) ++ (eventLines 1 events ++ (endingLine 1 records ++ endLine total)))
     (tally-from-zeros events)
     ∙ ap (λ (done : TableDone). answerLine 0 0 (done .answer) ++ (eventLines 1 events ++ (endingLine 1 records ++ endLine (countsIn events))))
     (opening-accepted sheet hall records e)
   where
     table : List ℕ
-    table = openTable hall lentTable .after
+    table = openTable hallLimits hall lentTable .after
 
     events : List Event
-    events = runTable table (callsIn records)
+    events = runTable hallLimits table (callsIn records)
 
     codes : EachCode records
     codes = let was = opened-from sheet hall records e in subst EachCode (sym (was .are)) (each-code (length sheet) sheet (was .next))

@@ -8,13 +8,13 @@ returns : tie.Need-returns
 returns c = refused-no-hand-back (c .before .args .code) (c .before .args .number) (c .before .args .session) (c .if1 .taken)
 
 returns-2 : tie.Need-returns-2
-returns-2 c = accepted-collect (c .before .before .args .code) (c .before .before .args .number) (c .before .before .args .session) (c .before .if1 .left) (λ low high. omega arith)
+returns-2 c = rw (c .before .if1 .left) (accepted-collect (c .before .before .args .code) (c .before .before .args .session) (λ low high. omega arith))
 
 returns-3 : tie.Need-returns-3
-returns-3 c = no-collect (c .before .before .before .args .code) (c .before .before .before .args .number) (c .before .before .before .args .session) (c .before .before .if1 .left) (omega arith) (omega arith)
+returns-3 c = rw (c .before .before .if1 .left) (no-collect (c .before .before .before .args .code) (c .before .before .before .args .session) (omega arith) (omega arith))
 
 returns-4 : tie.Need-returns-4
-returns-4 c = accepted-collect (c .before .before .before .args .code) (c .before .before .before .args .number) (c .before .before .before .args .session) (c .before .before .if1 .left) (λ low high. omega arith)
+returns-4 c = rw (c .before .before .if1 .left) (accepted-collect (c .before .before .before .args .code) (c .before .before .before .args .session) (λ low high. omega arith))
 
 pub hands-back-spec : {M : Type 1} → statement M
 hands-back-spec = tie.close (tie.spec returns returns-2 returns-3 returns-4)
