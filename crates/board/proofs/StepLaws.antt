@@ -24,7 +24,7 @@ use Rattle.desk.specs.Record.{Retired}
 use Rattle.desk.proofs.DeskTie.{scanned-below}
 use Rattle.board.specs.declared.Place.{Place}
 use Rattle.board.proofs.EntryLaws.{Entered}
-use Rattle.board.proofs.PlaceLaws.{AtScreen, AtPosition, Lent, lentRecord, screenAt, withRecord}
+use Rattle.board.proofs.PlaceLaws.{AtScreen, AtPosition, Lent, lentRecord, withRecord}
 
 module _ {t : List ℕ} {d : ℕ} {p : Place} (e : Entered t d p) where
   -- a step of the rules, by the number that its questions give
@@ -39,34 +39,34 @@ module _ {t : List ℕ} {d : ℕ} {p : Place} (e : Entered t d p) where
   pub drop-no-screen : (i : ℕ) → inRange i (p .screens) ≡ false → told NoScreen t ≡ stepTable hallLimits t (Drop d i)
   drop-no-screen i out = refuse 6 (Drop d i) (rw (e .yes-desk, ← e .screens-is, out))
 
-  module _ {i : ℕ} (s : AtScreen t d i p) where
-    pub drop-screen-empty : getD t (screenAt p d i) 0 ≡ 0 → told ScreenEmpty t ≡ stepTable hallLimits t (Drop d i)
+  module _ {i a : ℕ} (s : AtScreen t d i a) where
+    pub drop-screen-empty : getD t a 0 ≡ 0 → told ScreenEmpty t ≡ stepTable hallLimits t (Drop d i)
     drop-screen-empty none = refuse 10 (Drop d i) (rw (e .yes-desk, s .yes-screen, s .shows, none))
 
-    pub drop-accepted : (getD t (screenAt p d i) 0 ≡ 0 → ⊥)
-        → told (Accepted (getD t (screenAt p d i) 0)) (set t (screenAt p d i) 0) ≡ stepTable hallLimits t (Drop d i)
+    pub drop-accepted : (getD t a 0 ≡ 0 → ⊥)
+        → told (Accepted (getD t a 0)) (set t a 0) ≡ stepTable hallLimits t (Drop d i)
     drop-accepted some =
         (λ j. record { answer = record { number = 0; session = sym (s .shows) j }; after = set t (s .is j) 0 })
-        ∙ accept (Drop d i) (rw (e .yes-desk, s .yes-screen, s .shows, ne-eqb (getD t (screenAt p d i) 0) 0 some))
+        ∙ accept (Drop d i) (rw (e .yes-desk, s .yes-screen, s .shows, ne-eqb (getD t a 0) 0 some))
 
   -- ---- take
   pub take-no-screen : (i q : ℕ) → inRange i (p .screens) ≡ false → told NoScreen t ≡ stepTable hallLimits t (Take d i q)
   take-no-screen i q out = refuse 6 (Take d i q) (rw (e .yes-desk, ← e .screens-is, out))
 
-  module _ {i : ℕ} (s : AtScreen t d i p) where
+  module _ {i a : ℕ} (s : AtScreen t d i a) where
     pub take-no-position : (q : ℕ) → inRange q (p .positions) ≡ false → told NoPosition t ≡ stepTable hallLimits t (Take d i q)
     take-no-position q out = refuse 7 (Take d i q) (rw (e .yes-desk, s .yes-screen, ← e .positions-is, out))
 
     module _ {q : ℕ} (h : AtPosition t q) where
-      pub take-screen-full : (getD t (screenAt p d i) 0 ≡ 0 → ⊥) → told ScreenFull t ≡ stepTable hallLimits t (Take d i q)
+      pub take-screen-full : (getD t a 0 ≡ 0 → ⊥) → told ScreenFull t ≡ stepTable hallLimits t (Take d i q)
       take-screen-full some =
-          refuse 8 (Take d i q) (rw (e .yes-desk, s .yes-screen, h .yes-position, s .shows, ne-eqb (getD t (screenAt p d i) 0) 0 some))
+          refuse 8 (Take d i q) (rw (e .yes-desk, s .yes-screen, h .yes-position, s .shows, ne-eqb (getD t a 0) 0 some))
 
-      pub take-position-empty : getD t (screenAt p d i) 0 ≡ 0 → getD t (positionWord q) 0 ≡ 0 → told PositionEmpty t ≡ stepTable hallLimits t (Take d i q)
+      pub take-position-empty : getD t a 0 ≡ 0 → getD t (positionWord q) 0 ≡ 0 → told PositionEmpty t ≡ stepTable hallLimits t (Take d i q)
       take-position-empty free none = refuse 9 (Take d i q) (rw (e .yes-desk, s .yes-screen, h .yes-position, s .shows, free, h .holds, none))
 
-      pub take-accepted : getD t (screenAt p d i) 0 ≡ 0 → (getD t (positionWord q) 0 ≡ 0 → ⊥)
-          → told (Accepted (getD t (positionWord q) 0)) (set t (screenAt p d i) (getD t (positionWord q) 0)) ≡ stepTable hallLimits t (Take d i q)
+      pub take-accepted : getD t a 0 ≡ 0 → (getD t (positionWord q) 0 ≡ 0 → ⊥)
+          → told (Accepted (getD t (positionWord q) 0)) (set t a (getD t (positionWord q) 0)) ≡ stepTable hallLimits t (Take d i q)
       take-accepted free some =
           (λ j. record { answer = record { number = 0; session = sym (h .holds) j }; after = set t (s .is j) (getD t (positionWord q) 0) })
           ∙ accept (Take d i q) (rw (e .yes-desk, s .yes-screen, h .yes-position, s .shows, free, h .holds, ne-eqb (getD t (positionWord q) 0) 0 some))

@@ -16,7 +16,7 @@ ghost use Rattle.rules.specs.Table.{everyRecord, inLimits, need as hallNeed, op
 ghost use Rattle.rules.specs.Table.{headerWords, mostWords, startFor, widthFor};
 ghost use Rattle.rules.specs.laws.Window.{deskIn};
 ghost use Rattle.reply.specs.Answer.{answerOf, told};
-ghost use Rattle.board.specs.Entry.{entryOf};
+ghost use Rattle.board.specs.Entry.{entryOf, screenFor};
 ghost use Rattle.board.specs.Asked.{callOf};
 ghost use Rattle.board.specs.Opening.{OpeningAnswer};
 
@@ -84,6 +84,15 @@ pub fn record_start(l: usize, s: usize, d: usize) -> usize
     ensures { λ r. ⌜ (r ≡ startFor l s d) × (r ≤ mostWords) ⌝ }
 {
     HEADER + l + s + d * (LIST + 2 * s)
+}
+
+// Where screen i of desk d stands, both counted from 1, in a hall of l positions and c screens per desk. It requires numbers of
+// a sound table's hall.
+fn screen_at(l: usize, c: usize, d: u16, i: u16) -> usize
+    requires { ⌜ (1 ≤ d) × (1 ≤ i) × (screenFor l c d i ≤ mostWords) ⌝ }
+    ensures { λ r. ⌜ r ≡ screenFor l c d i ⌝ }
+{
+    HEADER + l + ((d as usize - 1) * c + (i as usize - 1))
 }
 
 // Whether a table is sound.
@@ -214,10 +223,8 @@ pub fn take(t: &mut [u16], desk: u16, screen: u16, position: u16) -> Reply
             if !in_range(position, l) {
                 return Reply::NoPosition;
             }
-            let d = desk as usize;
-            let i = screen as usize;
+            let at = screen_at(l, c, desk, screen);
             let q = position as usize;
-            let at = HEADER + l + ((d - 1) * c + (i - 1));
             if t[at] != 0 {
                 return Reply::ScreenFull;
             }
@@ -244,9 +251,7 @@ pub fn drop(t: &mut [u16], desk: u16, screen: u16) -> Reply
             if !in_range(screen, c) {
                 return Reply::NoScreen;
             }
-            let d = desk as usize;
-            let i = screen as usize;
-            let at = HEADER + l + ((d - 1) * c + (i - 1));
+            let at = screen_at(l, c, desk, screen);
             let shown = t[at];
             if shown == 0 {
                 return Reply::ScreenEmpty;
