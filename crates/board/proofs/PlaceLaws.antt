@@ -1,5 +1,5 @@
 -- Where the words of a step stand in a sound table, as the code finds them.
-use Prim.Native.Nat.{ℕ, _+_, _-_, _^_, _≤_, _<_}
+use Prim.Native.Nat.{ℕ, _-_, _^_, _≤_, _<_}
 use native.Mathlib.Omega.{arith}
 use mathlib.Core.Bool.{true}
 use mathlib.Core.List.{List}
@@ -63,10 +63,10 @@ at-position {t} {d} {q} e inside =
 
 -- ---- the record of the desk, as the code lends it and as it comes back
 abbrev pub lentRecord : List ℕ → Place → List ℕ
-lentRecord t p = midOf (p .start) (p .start + widthFor (p .all) - p .start) t
+lentRecord t p = midOf (p .start) (p .end - p .start) t
 
 abbrev pub withRecord : List ℕ → Place → List ℕ → List ℕ
-withRecord t p ys = putMid (p .start) (p .start + widthFor (p .all) - p .start) t ys
+withRecord t p ys = putMid (p .start) (p .end - p .start) t ys
 
 pub record Lent (t : List ℕ) (d : ℕ) (p : Place) : Type 0 where
   pub part : lentRecord t p ≡ recordOf (hallIn t) t d
@@ -77,17 +77,16 @@ pub record Lent (t : List ℕ) (d : ℕ) (p : Place) : Type 0 where
 
 pub lent : {t : List ℕ} {d : ℕ} {p : Place} → Entered t d p → ((i : ℕ) → getD t i 0 < 2 ^ 16) → Lent t d p
 lent {t} {d} {p} e small =
-    let a = p .start in
-    let w = widthFor (p .all) in
-    let n : ℕ = a + w - a in
-    let wide : n ≡ w = omega arith in
+    let n : ℕ = p .end - p .start in
+    let wide : n ≡ widthFor (p .all) = omega (arith, e .end-is) in
+    let long : length (lentRecord t p) ≡ widthFor (p .all) = mid-len (p .start) (p .end) t (e .room) ∙ wide in
     let n-is : n ≡ widthFor (allScreens (hallIn t)) = wide ∙ ap widthFor (e .all-is) in
     let part : lentRecord t p ≡ recordOf (hallIn t) t d = ap₂ (λ (k b : ℕ). take k (drop b t)) n-is (e .start-is) in
     let passes : recordSound (p .all) (lentRecord t p) ≡ true = ap₂ recordSound (e .all-is) part ∙ record-sound t d (e .facts) (e .range .0) (e .range .1) in
     record {
       part = part;
       sound = passes;
-      encoded = sound-encoded (p .all) (lentRecord t p) (e .most) (mid-len a (a + w) t (e .end) ∙ wide) (small-take n (drop a t) (small-drop a t small)) passes;
+      encoded = sound-encoded (p .all) (lentRecord t p) (e .most) long (small-take n (drop (p .start) t) (small-drop (p .start) t small)) passes;
       desk-is = ap decodeDesk part ∙ sym (desk-word t d (e .range .0) (e .range .1));
       put = λ ys. ap₂ (λ (k b : ℕ). putMid b k t ys) n-is (e .start-is);
     }

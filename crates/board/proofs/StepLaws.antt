@@ -13,7 +13,7 @@ use borrow.Rule.Slice.PartMut.{put-same}
 use Rattle.rules.specs.Hall.{Desk, Hall, allScreens, deskOf, hallLimits}
 use Rattle.rules.specs.Steps.{Call, Collect, Collected, Drop, Retire, Swap, Take, collect, collectSeeing, firstNo, inRange, nextScreens, perform, retire}
 use Rattle.rules.specs.Steps.{retireQuestions}
-use Rattle.rules.specs.Table.{decode, decodeDesk, encodeDesk, hallIn, headerWords, positionWord, putRecord, recordOf, scannedPlace, stepTable, widthFor, written}
+use Rattle.rules.specs.Table.{decode, decodeDesk, encodeDesk, hallIn, headerWords, positionWord, putRecord, recordOf, scannedPlace, stepTable, written}
 use Rattle.rules.specs.laws.Tables.{some-screens}
 use Rattle.rules.specs.laws.TableSteps.{accepted-step, asked, collect-seeing, owed-word, refused-step, shown-at}
 use Rattle.reply.specs.declared.Reply.{Reply}
@@ -109,7 +109,7 @@ module _ {t : List ℕ} {d : ℕ} {p : Place} (e : Entered t d p) where
         go (suc n) z =
             let session : answerOf x .session ≡ 0 = rw (z, eqb·suc-zero) at (r .session) in
             let after : ys ≡ lentRecord t p = rw (z, eqb·suc-zero) at (r .after) in
-            let same : withRecord t p ys ≡ t = ap (withRecord t p) after ∙ put-same (p .start) (p .start + widthFor (p .all) - p .start) t in
+            let same : withRecord t p ys ≡ t = ap (withRecord t p) after ∙ put-same (p .start) (p .end - p .start) t in
             (λ i. record { answer = record { number = z i; session = session i }; after = same i })
             ∙ refuse n (Retire d) (all-asked ∙ z)
 
@@ -156,8 +156,9 @@ reads {t} {d} {k} {p} e l is =
     let s = p .all in
     let a = p .start in
     let shown : List ℕ = decode H t .shown in
-    let n = a + widthFor s - a in
-    let word : k ≡ getD (lentRecord t p) scannedPlace 0 = is ∙ sym (getD-take n (drop a t) scannedPlace 0 (omega arith) ∙ getD-drop a t scannedPlace 0) in
+    let n = p .end - p .start in
+    let word : k ≡ getD (lentRecord t p) scannedPlace 0 =
+    is ∙ sym (getD-take n (drop a t) scannedPlace 0 (omega (arith, e .end-is)) ∙ getD-drop a t scannedPlace 0) in
     let scanned : k ≡ decodeDesk (lentRecord t p) .scanned = word ∙ scanned-word (lentRecord t p) in
     let below : k < s = omega (arith, word, scanned-below s (lentRecord t p) (omega (arith, e .all-is, some-screens H (e .facts .fits))) (l .sound)) in
     let room : allScreens H ≤ length (drop (H .positions) (drop headerWords t)) = simp length-drop (omega (arith, e .facts .long)) in
@@ -167,7 +168,7 @@ reads {t} {d} {k} {p} e l is =
     record {
       scanned-is = scanned;
       below = below;
-      there = omega (arith, e .start-is, e .positions-is, e .all-is, e .end);
+      there = omega (arith, e .start-is, e .positions-is, e .all-is, e .end-is, e .room);
       see-two = λ h. rw (← scanned, two shown k (omega arith), look k below, look (k + 1) h, ← add-assoc (headerWords + p .positions) k 1);
       see-one = λ h. rw (← scanned, one shown k (omega arith), look k below);
     }

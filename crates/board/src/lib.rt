@@ -134,12 +134,13 @@ fn sound_records(t: &[u16], p: usize, l: usize, s: usize) -> bool
 }
 
 // Where a desk's things stand in a sound table: the counts of positions, of screens per desk and of all screens, and the
-// start of the desk's record.
+// start and the end of the desk's record.
 struct Place {
     pub positions: usize,
     pub screens: usize,
     pub all: usize,
     pub start: usize,
+    pub end: usize,
 }
 
 // What the first questions of a step answer: a refusal, or the place of the desk.
@@ -164,11 +165,13 @@ fn enter(t: &[u16], desk: u16) -> Entry
     let s = p * c;
     let d = desk as usize;
     let a = record_start(l, s, d - 1);
+    let e = record_start(l, s, d);
     Entry::At(Place {
         positions: l,
         screens: c,
         all: s,
         start: a,
+        end: e,
     })
 }
 
@@ -298,7 +301,7 @@ pub fn retire(t: &mut [u16], desk: u16) -> Reply
         Entry::At(place) => {
             let s = place.all;
             let a = place.start;
-            let e = a + (LIST + 2 * s);
+            let e = place.end;
             retire_record(&mut t[a..e], s)
         }
     }
@@ -314,7 +317,7 @@ pub fn collect(t: &mut [u16], desk: u16) -> Reply
         Entry::At(place) => {
             let s = place.all;
             let a = place.start;
-            let e = a + (LIST + 2 * s);
+            let e = place.end;
             let k = word(t, a + SCANNED);
             let at = HEADER + place.positions + k;
             let x = t[at];

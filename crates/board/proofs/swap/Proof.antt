@@ -50,10 +50,10 @@ returns : tie.Need-returns
 returns c = swap-no-position (here (c .before .before)) _ _ (said-no (c .before .in-range .ensures) (c .if1 .taken))
 
 mul-if2 : tie.Need-mul-if2
-mul-if2 c = omega (arith, here (c .before .before) .end)
+mul-if2 c = let e = here (c .before .before) in omega arith
 
 slice-read-if2 : tie.Need-slice-read-if2
-slice-read-if2 c = omega (arith, here (c .before .before .before) .end)
+slice-read-if2 c = let e = here (c .before .before .before) in omega arith
 
 same-length-2 : tie.Need-same-length-2
 same-length-2 c = search needs
@@ -80,10 +80,10 @@ slice-write-t : tie.Need-slice-write-t
 slice-write-t c = let h = position (c .before .before .before) in omega arith
 
 mul-t-2 : tie.Need-mul-t-2
-mul-t-2 c = omega (arith, here (c .before .before .before .before .before) .end)
+mul-t-2 c = let e = here (c .before .before .before .before .before) in omega arith
 
 slice-write-t-2 : tie.Need-slice-write-t-2
-slice-write-t-2 c = simp length-set (omega (arith, here (c .before .before .before .before .before) .end))
+slice-write-t-2 c = let e = here (c .before .before .before .before .before) in simp length-set (omega arith)
 
 same-length-3 : tie.Need-same-length-3
 same-length-3 c = search needs
