@@ -1,13 +1,13 @@
 -- What `enter` answers, taken apart: a refusal, or a sound table with the desk's place in it.
-use Prim.Native.Nat.{ℕ, _+_, _≤_}
+use Prim.Native.Nat.{ℕ, _+_, _-_, _≤_}
 use native.Mathlib.Omega.{arith}
 use mathlib.Core.Bool.{Bool, true, false}
 use mathlib.Core.List.{List}
-use mathlib.Core.Path.{_≡_, refl, sym, ap}
+use mathlib.Core.Path.{_≡_, refl, sym, ap, _∙_}
 use lib.ListN.{length}
-use Rattle.rules.specs.Hall.{allScreens, hallLimits, mostAllScreens}
+use Rattle.rules.specs.Hall.{Hall, allScreens, hallLimits, mostAllScreens}
 use Rattle.rules.specs.Steps.{Call, Collect, Drop, Retire, Swap, Take, inRange}
-use Rattle.rules.specs.Table.{hallIn, recordStart, sound, stepTable, widthFor}
+use Rattle.rules.specs.Table.{hallIn, recordStart, recordWidth, sound, startFor, stepTable, widthFor}
 use Rattle.rules.specs.laws.Effect.{in-range}
 use Rattle.rules.specs.laws.TableSteps.{Known, asked, known, record-within, refused-step, unsound-step}
 use Rattle.rules.specs.laws.Window.{deskIn}
@@ -17,6 +17,10 @@ use Rattle.reply.specs.Answer.{told}
 use Rattle.board.specs.declared.Place.{Place}
 use Rattle.board.specs.declared.Entry.the-variants.{At, No}
 use Rattle.board.specs.Entry.{entryOf, placeOf}
+
+-- the end of a record is the start of the next
+pub next-start : (H : Hall) (d : ℕ) → 1 ≤ d → startFor (H .positions) (allScreens H) d ≡ recordStart H d + recordWidth H
+next-start H d h = let e : d ≡ 1 + (d - 1) = omega arith in ap (startFor (H .positions) (allScreens H)) e ∙ omega arith
 
 -- ---- accepted
 pub record Entered (t : List ℕ) (desk : ℕ) (p : Place) : Type 0 where
@@ -28,8 +32,9 @@ pub record Entered (t : List ℕ) (desk : ℕ) (p : Place) : Type 0 where
   pub screens-is : p .screens ≡ hallIn t .screens
   pub all-is : p .all ≡ allScreens (hallIn t)
   pub start-is : p .start ≡ recordStart (hallIn t) desk
+  pub end-is : p .end ≡ p .start + widthFor (p .all)
   pub most : p .all ≤ mostAllScreens
-  pub end : p .start + widthFor (p .all) ≤ length t
+  pub room : p .end ≤ length t
 
 pub entered : {t : List ℕ} {desk : ℕ} {p : Place} → At p ≡ entryOf t desk → Entered t desk p
 unfolding entryOf
@@ -41,6 +46,7 @@ entered {t} {desk} {p} q = go (sound hallLimits t) (inRange desk (hallIn t .desk
         let r = in-range desk (hallIn t .desks) g in
         let all = ap (λ (x : Place). x .all) is in
         let start = ap (λ (x : Place). x .start) is in
+        let end : p .end ≡ recordStart (hallIn t) desk + recordWidth (hallIn t) = ap (λ (x : Place). x .end) is ∙ next-start (hallIn t) desk (r .0) in
         record {
           yes-sound = e;
           yes-desk = g;
@@ -50,8 +56,9 @@ entered {t} {desk} {p} q = go (sound hallLimits t) (inRange desk (hallIn t .desk
           screens-is = ap (λ (x : Place). x .screens) is;
           all-is = all;
           start-is = start;
+          end-is = omega (arith, all, start, end);
           most = omega (arith, all, f .most);
-          end = omega (arith, all, start, f .long, record-within (hallIn t) desk (r .0) (r .1));
+          room = omega (arith, end, f .long, record-within (hallIn t) desk (r .0) (r .1));
         }
 
     go : (a b : Bool) → sound hallLimits t ≡ a → inRange desk (hallIn t .desks) ≡ b → Entered t desk p

@@ -1,14 +1,14 @@
 -- Where the words of a step stand in a sound table, as the code finds them.
-use Prim.Native.Nat.{ℕ, _+_, _-_, _*_, _^_, _≤_, _<_}
+use Prim.Native.Nat.{ℕ, _-_, _^_, _≤_, _<_}
 use native.Mathlib.Omega.{arith}
 use mathlib.Core.Bool.{true}
 use mathlib.Core.List.{List}
 use mathlib.Core.Path.{_≡_, sym, ap, ap₂, _∙_}
 use lib.ListN.{length, getD, take, drop}
 use borrow.Rule.Slice.PartMut.{mid-len, midOf, putMid}
-use Rattle.rules.specs.Hall.{Hall, allScreens, deskOf, mostAllScreens, screenIndex}
+use Rattle.rules.specs.Hall.{Hall, allScreens, deskOf, screenIndex}
 use Rattle.rules.specs.Steps.{inRange}
-use Rattle.rules.specs.Table.{decode, decodeDesk, hallIn, headerWords, positionWord, putRecord, recordOf, recordSound, screenWord, widthFor}
+use Rattle.rules.specs.Table.{decode, decodeDesk, hallIn, mostWords, positionWord, putRecord, recordOf, recordSound, screenWord, widthFor}
 use Rattle.rules.specs.laws.Decoding.{small-drop, small-take}
 use Rattle.rules.specs.laws.Effect.{in-range}
 use Rattle.rules.specs.laws.ScreenIndex.{screen-in}
@@ -16,37 +16,35 @@ use Rattle.rules.specs.laws.TableSteps.{desk-word, held-word, record-sound, sho
 use Rattle.desk.specs.Record.{Encoded}
 use Rattle.desk.proofs.DeskTie.{sound-encoded}
 use Rattle.board.specs.declared.Place.{Place}
+use Rattle.board.specs.Entry.{screenFor}
 use Rattle.board.proofs.EntryLaws.{Entered}
 
--- ---- screen i of desk d, both from 1
-abbrev pub screenAt : Place → ℕ → ℕ → ℕ
-screenAt p d i = headerWords + p .positions + ((d - 1) * p .screens + (i - 1))
-
-pub record AtScreen (t : List ℕ) (d i : ℕ) (p : Place) : Type 0 where
+-- ---- screen i of desk d, both from 1: its word is word a
+pub record AtScreen (t : List ℕ) (d i a : ℕ) : Type 0 where
   pub desk : 1 ≤ d
   pub first : 1 ≤ i
   pub yes-screen : inRange i (hallIn t .screens) ≡ true
-  pub row : (d - 1) * p .screens ≤ mostAllScreens
-  pub there : screenAt p d i < length t
-  pub is : screenAt p d i ≡ screenWord (hallIn t) d i
-  pub shows : getD (decode (hallIn t) t .shown) (screenIndex (hallIn t) d i) 0 ≡ getD t (screenAt p d i) 0
+  pub is : a ≡ screenWord (hallIn t) d i
+  pub most : a ≤ mostWords
+  pub there : a < length t
+  pub shows : getD (decode (hallIn t) t .shown) (screenIndex (hallIn t) d i) 0 ≡ getD t a 0
 
-pub at-screen : {t : List ℕ} {d i : ℕ} {p : Place} → Entered t d p → inRange i (p .screens) ≡ true → AtScreen t d i p
-at-screen {t} {d} {i} {p} e inside =
+pub at-screen : {t : List ℕ} {d i a : ℕ} {p : Place} → Entered t d p → inRange i (p .screens) ≡ true
+    → a ≡ screenFor (p .positions) (p .screens) d i → AtScreen t d i a
+at-screen {t} {d} {i} {a} {p} e inside at =
     let H : Hall = hallIn t in
     let yes-screen : inRange i (H .screens) ≡ true = ap (inRange i) (sym (e .screens-is)) ∙ inside in
     let r = in-range i (H .screens) yes-screen in
     let f = e .facts in
-    let row : (d - 1) * p .screens ≡ (d - 1) * H .screens = ap (λ (c : ℕ). (d - 1) * c) (e .screens-is) in
-    let is : screenAt p d i ≡ screenWord H d i = omega (arith, row, e .positions-is) in
+    let is : a ≡ screenWord H d i = at ∙ ap₂ (λ (l c : ℕ). screenFor l c d i) (e .positions-is) (e .screens-is) in
     let within = screen-in H d i (e .range .0) (e .range .1) (r .0) (r .1) in
     record {
       desk = e .range .0;
       first = r .0;
       yes-screen = yes-screen;
-      row = omega (arith, row, within, f .most);
-      there = omega (arith, is, within, f .long);
       is = is;
+      most = omega (arith, is, within, f .most, f .fits .positions);
+      there = omega (arith, is, within, f .long);
       shows = shown-word t d i (e .range .0) (e .range .1) (r .0) (r .1) ∙ ap (λ (k : ℕ). getD t k 0) (sym is);
     }
 
@@ -65,10 +63,10 @@ at-position {t} {d} {q} e inside =
 
 -- ---- the record of the desk, as the code lends it and as it comes back
 abbrev pub lentRecord : List ℕ → Place → List ℕ
-lentRecord t p = midOf (p .start) (p .start + widthFor (p .all) - p .start) t
+lentRecord t p = midOf (p .start) (p .end - p .start) t
 
 abbrev pub withRecord : List ℕ → Place → List ℕ → List ℕ
-withRecord t p ys = putMid (p .start) (p .start + widthFor (p .all) - p .start) t ys
+withRecord t p ys = putMid (p .start) (p .end - p .start) t ys
 
 pub record Lent (t : List ℕ) (d : ℕ) (p : Place) : Type 0 where
   pub part : lentRecord t p ≡ recordOf (hallIn t) t d
@@ -79,17 +77,16 @@ pub record Lent (t : List ℕ) (d : ℕ) (p : Place) : Type 0 where
 
 pub lent : {t : List ℕ} {d : ℕ} {p : Place} → Entered t d p → ((i : ℕ) → getD t i 0 < 2 ^ 16) → Lent t d p
 lent {t} {d} {p} e small =
-    let a = p .start in
-    let w = widthFor (p .all) in
-    let n : ℕ = a + w - a in
-    let wide : n ≡ w = omega arith in
+    let n : ℕ = p .end - p .start in
+    let wide : n ≡ widthFor (p .all) = omega (arith, e .end-is) in
+    let long : length (lentRecord t p) ≡ widthFor (p .all) = mid-len (p .start) (p .end) t (e .room) ∙ wide in
     let n-is : n ≡ widthFor (allScreens (hallIn t)) = wide ∙ ap widthFor (e .all-is) in
     let part : lentRecord t p ≡ recordOf (hallIn t) t d = ap₂ (λ (k b : ℕ). take k (drop b t)) n-is (e .start-is) in
     let passes : recordSound (p .all) (lentRecord t p) ≡ true = ap₂ recordSound (e .all-is) part ∙ record-sound t d (e .facts) (e .range .0) (e .range .1) in
     record {
       part = part;
       sound = passes;
-      encoded = sound-encoded (p .all) (lentRecord t p) (e .most) (mid-len a (a + w) t (e .end) ∙ wide) (small-take n (drop a t) (small-drop a t small)) passes;
+      encoded = sound-encoded (p .all) (lentRecord t p) (e .most) long (small-take n (drop (p .start) t) (small-drop (p .start) t small)) passes;
       desk-is = ap decodeDesk part ∙ sym (desk-word t d (e .range .0) (e .range .1));
       put = λ ys. ap₂ (λ (k b : ℕ). putMid b k t ys) n-is (e .start-is);
     }

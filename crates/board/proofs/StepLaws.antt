@@ -13,7 +13,7 @@ use borrow.Rule.Slice.PartMut.{put-same}
 use Rattle.rules.specs.Hall.{Desk, Hall, allScreens, deskOf, hallLimits}
 use Rattle.rules.specs.Steps.{Call, Collect, Collected, Drop, Retire, Swap, Take, collect, collectSeeing, firstNo, inRange, nextScreens, perform, retire}
 use Rattle.rules.specs.Steps.{retireQuestions}
-use Rattle.rules.specs.Table.{decode, decodeDesk, encodeDesk, hallIn, headerWords, positionWord, putRecord, recordOf, scannedPlace, stepTable, widthFor, written}
+use Rattle.rules.specs.Table.{decode, decodeDesk, encodeDesk, hallIn, headerWords, positionWord, putRecord, recordOf, scannedPlace, stepTable, written}
 use Rattle.rules.specs.laws.Tables.{some-screens}
 use Rattle.rules.specs.laws.TableSteps.{accepted-step, asked, collect-seeing, owed-word, refused-step, shown-at}
 use Rattle.reply.specs.declared.Reply.{Reply}
@@ -24,7 +24,7 @@ use Rattle.desk.specs.Record.{Retired}
 use Rattle.desk.proofs.DeskTie.{scanned-below}
 use Rattle.board.specs.declared.Place.{Place}
 use Rattle.board.proofs.EntryLaws.{Entered}
-use Rattle.board.proofs.PlaceLaws.{AtScreen, AtPosition, Lent, lentRecord, screenAt, withRecord}
+use Rattle.board.proofs.PlaceLaws.{AtScreen, AtPosition, Lent, lentRecord, withRecord}
 
 module _ {t : List ℕ} {d : ℕ} {p : Place} (e : Entered t d p) where
   -- a step of the rules, by the number that its questions give
@@ -39,34 +39,34 @@ module _ {t : List ℕ} {d : ℕ} {p : Place} (e : Entered t d p) where
   pub drop-no-screen : (i : ℕ) → inRange i (p .screens) ≡ false → told NoScreen t ≡ stepTable hallLimits t (Drop d i)
   drop-no-screen i out = refuse 6 (Drop d i) (rw (e .yes-desk, ← e .screens-is, out))
 
-  module _ {i : ℕ} (s : AtScreen t d i p) where
-    pub drop-screen-empty : getD t (screenAt p d i) 0 ≡ 0 → told ScreenEmpty t ≡ stepTable hallLimits t (Drop d i)
+  module _ {i a : ℕ} (s : AtScreen t d i a) where
+    pub drop-screen-empty : getD t a 0 ≡ 0 → told ScreenEmpty t ≡ stepTable hallLimits t (Drop d i)
     drop-screen-empty none = refuse 10 (Drop d i) (rw (e .yes-desk, s .yes-screen, s .shows, none))
 
-    pub drop-accepted : (getD t (screenAt p d i) 0 ≡ 0 → ⊥)
-        → told (Accepted (getD t (screenAt p d i) 0)) (set t (screenAt p d i) 0) ≡ stepTable hallLimits t (Drop d i)
+    pub drop-accepted : (getD t a 0 ≡ 0 → ⊥)
+        → told (Accepted (getD t a 0)) (set t a 0) ≡ stepTable hallLimits t (Drop d i)
     drop-accepted some =
         (λ j. record { answer = record { number = 0; session = sym (s .shows) j }; after = set t (s .is j) 0 })
-        ∙ accept (Drop d i) (rw (e .yes-desk, s .yes-screen, s .shows, ne-eqb (getD t (screenAt p d i) 0) 0 some))
+        ∙ accept (Drop d i) (rw (e .yes-desk, s .yes-screen, s .shows, ne-eqb (getD t a 0) 0 some))
 
   -- ---- take
   pub take-no-screen : (i q : ℕ) → inRange i (p .screens) ≡ false → told NoScreen t ≡ stepTable hallLimits t (Take d i q)
   take-no-screen i q out = refuse 6 (Take d i q) (rw (e .yes-desk, ← e .screens-is, out))
 
-  module _ {i : ℕ} (s : AtScreen t d i p) where
+  module _ {i a : ℕ} (s : AtScreen t d i a) where
     pub take-no-position : (q : ℕ) → inRange q (p .positions) ≡ false → told NoPosition t ≡ stepTable hallLimits t (Take d i q)
     take-no-position q out = refuse 7 (Take d i q) (rw (e .yes-desk, s .yes-screen, ← e .positions-is, out))
 
     module _ {q : ℕ} (h : AtPosition t q) where
-      pub take-screen-full : (getD t (screenAt p d i) 0 ≡ 0 → ⊥) → told ScreenFull t ≡ stepTable hallLimits t (Take d i q)
+      pub take-screen-full : (getD t a 0 ≡ 0 → ⊥) → told ScreenFull t ≡ stepTable hallLimits t (Take d i q)
       take-screen-full some =
-          refuse 8 (Take d i q) (rw (e .yes-desk, s .yes-screen, h .yes-position, s .shows, ne-eqb (getD t (screenAt p d i) 0) 0 some))
+          refuse 8 (Take d i q) (rw (e .yes-desk, s .yes-screen, h .yes-position, s .shows, ne-eqb (getD t a 0) 0 some))
 
-      pub take-position-empty : getD t (screenAt p d i) 0 ≡ 0 → getD t (positionWord q) 0 ≡ 0 → told PositionEmpty t ≡ stepTable hallLimits t (Take d i q)
+      pub take-position-empty : getD t a 0 ≡ 0 → getD t (positionWord q) 0 ≡ 0 → told PositionEmpty t ≡ stepTable hallLimits t (Take d i q)
       take-position-empty free none = refuse 9 (Take d i q) (rw (e .yes-desk, s .yes-screen, h .yes-position, s .shows, free, h .holds, none))
 
-      pub take-accepted : getD t (screenAt p d i) 0 ≡ 0 → (getD t (positionWord q) 0 ≡ 0 → ⊥)
-          → told (Accepted (getD t (positionWord q) 0)) (set t (screenAt p d i) (getD t (positionWord q) 0)) ≡ stepTable hallLimits t (Take d i q)
+      pub take-accepted : getD t a 0 ≡ 0 → (getD t (positionWord q) 0 ≡ 0 → ⊥)
+          → told (Accepted (getD t (positionWord q) 0)) (set t a (getD t (positionWord q) 0)) ≡ stepTable hallLimits t (Take d i q)
       take-accepted free some =
           (λ j. record { answer = record { number = 0; session = sym (h .holds) j }; after = set t (s .is j) (getD t (positionWord q) 0) })
           ∙ accept (Take d i q) (rw (e .yes-desk, s .yes-screen, h .yes-position, s .shows, free, h .holds, ne-eqb (getD t (positionWord q) 0) 0 some))
@@ -109,7 +109,7 @@ module _ {t : List ℕ} {d : ℕ} {p : Place} (e : Entered t d p) where
         go (suc n) z =
             let session : answerOf x .session ≡ 0 = rw (z, eqb·suc-zero) at (r .session) in
             let after : ys ≡ lentRecord t p = rw (z, eqb·suc-zero) at (r .after) in
-            let same : withRecord t p ys ≡ t = ap (withRecord t p) after ∙ put-same (p .start) (p .start + widthFor (p .all) - p .start) t in
+            let same : withRecord t p ys ≡ t = ap (withRecord t p) after ∙ put-same (p .start) (p .end - p .start) t in
             (λ i. record { answer = record { number = z i; session = session i }; after = same i })
             ∙ refuse n (Retire d) (all-asked ∙ z)
 
@@ -156,8 +156,9 @@ reads {t} {d} {k} {p} e l is =
     let s = p .all in
     let a = p .start in
     let shown : List ℕ = decode H t .shown in
-    let n = a + widthFor s - a in
-    let word : k ≡ getD (lentRecord t p) scannedPlace 0 = is ∙ sym (getD-take n (drop a t) scannedPlace 0 (omega arith) ∙ getD-drop a t scannedPlace 0) in
+    let n = p .end - p .start in
+    let word : k ≡ getD (lentRecord t p) scannedPlace 0 =
+    is ∙ sym (getD-take n (drop a t) scannedPlace 0 (omega (arith, e .end-is)) ∙ getD-drop a t scannedPlace 0) in
     let scanned : k ≡ decodeDesk (lentRecord t p) .scanned = word ∙ scanned-word (lentRecord t p) in
     let below : k < s = omega (arith, word, scanned-below s (lentRecord t p) (omega (arith, e .all-is, some-screens H (e .facts .fits))) (l .sound)) in
     let room : allScreens H ≤ length (drop (H .positions) (drop headerWords t)) = simp length-drop (omega (arith, e .facts .long)) in
@@ -167,7 +168,7 @@ reads {t} {d} {k} {p} e l is =
     record {
       scanned-is = scanned;
       below = below;
-      there = omega (arith, e .start-is, e .positions-is, e .all-is, e .end);
+      there = omega (arith, e .start-is, e .positions-is, e .all-is, e .end-is, e .room);
       see-two = λ h. rw (← scanned, two shown k (omega arith), look k below, look (k + 1) h, ← add-assoc (headerWords + p .positions) k 1);
       see-one = λ h. rw (← scanned, one shown k (omega arith), look k below);
     }

@@ -1,17 +1,23 @@
 -- What every step asks first: is the table sound, is the desk one of the hall; and where the desk's things stand.
-use Prim.Native.Nat.{ℕ}
+use Prim.Native.Nat.{ℕ, _+_, _-_, _*_}
 use mathlib.Core.Bool.{cond}
 use mathlib.Core.List.{List}
 use Rattle.rules.specs.Hall.{allScreens, hallLimits}
 use Rattle.rules.specs.Steps.{inRange}
-use Rattle.rules.specs.Table.{hallIn, recordStart, sound}
+use Rattle.rules.specs.Table.{hallIn, headerWords, recordStart, sound, startFor}
 use Rattle.reply.specs.declared.Reply.the-variants.{NoDesk, Unsound}
 use Rattle.board.specs.declared.Place.{Place}
 use Rattle.board.specs.declared.Entry.{Entry}
 use Rattle.board.specs.declared.Entry.the-variants.{At, No}
 
 abbrev pub placeOf : List ℕ → ℕ → Place
-placeOf t desk = record { positions = hallIn t .positions; screens = hallIn t .screens; all = allScreens (hallIn t); start = recordStart (hallIn t) desk }
+placeOf t desk =
+    let H = hallIn t in
+    record { positions = H .positions; screens = H .screens; all = allScreens H; start = recordStart H desk; end = startFor (H .positions) (allScreens H) desk }
 
 unfoldable pub entryOf : List ℕ → ℕ → Entry
 entryOf t desk = cond (sound hallLimits t) (cond (inRange desk (hallIn t .desks)) (At (placeOf t desk)) (No NoDesk)) (No Unsound)
+
+-- the word of desk d's screen i, in a hall of L positions and c screens per desk
+abbrev pub screenFor : ℕ → ℕ → ℕ → ℕ → ℕ
+screenFor L c d i = headerWords + L + ((d - 1) * c + (i - 1))

@@ -16,7 +16,7 @@ ghost use Rattle.rules.specs.Table.{everyRecord, inLimits, need as hallNeed, op
 ghost use Rattle.rules.specs.Table.{headerWords, mostWords, startFor, widthFor};
 ghost use Rattle.rules.specs.laws.Window.{deskIn};
 ghost use Rattle.reply.specs.Answer.{answerOf, told};
-ghost use Rattle.board.specs.Entry.{entryOf};
+ghost use Rattle.board.specs.Entry.{entryOf, screenFor};
 ghost use Rattle.board.specs.Asked.{callOf};
 ghost use Rattle.board.specs.Opening.{OpeningAnswer};
 
@@ -86,6 +86,15 @@ pub fn record_start(l: usize, s: usize, d: usize) -> usize
     HEADER + l + s + d * (LIST + 2 * s)
 }
 
+// Where screen i of desk d stands, both counted from 1, in a hall of l positions and c screens per desk. It requires numbers of
+// a sound table's hall.
+fn screen_at(l: usize, c: usize, d: u16, i: u16) -> usize
+    requires { ⌜ (1 ≤ d) × (1 ≤ i) × (screenFor l c d i ≤ mostWords) ⌝ }
+    ensures { λ r. ⌜ r ≡ screenFor l c d i ⌝ }
+{
+    HEADER + l + ((d as usize - 1) * c + (i as usize - 1))
+}
+
 // Whether a table is sound.
 pub fn sound(t: &[u16]) -> bool
     ensures { λ r. ⌜ r ≡ soundTable hallLimits (now (t .entry)) ⌝ }
@@ -125,12 +134,13 @@ fn sound_records(t: &[u16], p: usize, l: usize, s: usize) -> bool
 }
 
 // Where a desk's things stand in a sound table: the counts of positions, of screens per desk and of all screens, and the
-// start of the desk's record.
+// start and the end of the desk's record.
 struct Place {
     pub positions: usize,
     pub screens: usize,
     pub all: usize,
     pub start: usize,
+    pub end: usize,
 }
 
 // What the first questions of a step answer: a refusal, or the place of the desk.
@@ -155,11 +165,13 @@ fn enter(t: &[u16], desk: u16) -> Entry
     let s = p * c;
     let d = desk as usize;
     let a = record_start(l, s, d - 1);
+    let e = record_start(l, s, d);
     Entry::At(Place {
         positions: l,
         screens: c,
         all: s,
         start: a,
+        end: e,
     })
 }
 
@@ -214,10 +226,8 @@ pub fn take(t: &mut [u16], desk: u16, screen: u16, position: u16) -> Reply
             if !in_range(position, l) {
                 return Reply::NoPosition;
             }
-            let d = desk as usize;
-            let i = screen as usize;
+            let at = screen_at(l, c, desk, screen);
             let q = position as usize;
-            let at = HEADER + l + ((d - 1) * c + (i - 1));
             if t[at] != 0 {
                 return Reply::ScreenFull;
             }
@@ -244,9 +254,7 @@ pub fn drop(t: &mut [u16], desk: u16, screen: u16) -> Reply
             if !in_range(screen, c) {
                 return Reply::NoScreen;
             }
-            let d = desk as usize;
-            let i = screen as usize;
-            let at = HEADER + l + ((d - 1) * c + (i - 1));
+            let at = screen_at(l, c, desk, screen);
             let shown = t[at];
             if shown == 0 {
                 return Reply::ScreenEmpty;
@@ -293,7 +301,7 @@ pub fn retire(t: &mut [u16], desk: u16) -> Reply
         Entry::At(place) => {
             let s = place.all;
             let a = place.start;
-            let e = a + (LIST + 2 * s);
+            let e = place.end;
             retire_record(&mut t[a..e], s)
         }
     }
@@ -309,7 +317,7 @@ pub fn collect(t: &mut [u16], desk: u16) -> Reply
         Entry::At(place) => {
             let s = place.all;
             let a = place.start;
-            let e = a + (LIST + 2 * s);
+            let e = place.end;
             let k = word(t, a + SCANNED);
             let at = HEADER + place.positions + k;
             let x = t[at];

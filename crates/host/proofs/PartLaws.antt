@@ -7,11 +7,12 @@ use mathlib.Core.List.{List, [], _++_, append-nil}
 use lib.ListN.{length, take, drop, length-drop, drop-of-length-le}
 use lib.Seq.{length-take-le, take-take}
 use borrow.Rule.Slice.PartMut.{mid-len, midOf, putMid}
-use Rattle.rules.specs.Hall.{Hall, allScreens, mostAllScreens, mostDesks, mostPositions}
+use Rattle.rules.specs.Hall.{allScreens, mostAllScreens, mostDesks, mostPositions}
 use Rattle.rules.specs.Table.{hallIn, headerWords, recordStart, recordWidth, startFor}
 use Rattle.rules.specs.Bytes.{IsBytes, laidOver, wordsOfBytes}
 use Rattle.rules.specs.laws.TableSteps.{record-within}
 use Rattle.rules.specs.laws.Window.{Rewritten, partLaid, rewritten-laid}
+use Rattle.board.proofs.EntryLaws.{next-start}
 
 -- words laid over a part of the bytes that is as long
 laid-over-part : (words bytes : List ℕ) (n : ℕ) → 2 * length words ≡ n → n ≤ length bytes
@@ -39,10 +40,6 @@ pub record Parts (d : ℕ) (words : List ℕ) : Type 0 where
   pub desk : (1 ≤ d) × (d ≤ mostDesks)
   pub next : startFor (hallIn words .positions) (allScreens (hallIn words)) d ≡ recordStart (hallIn words) d + recordWidth (hallIn words)
   pub end : startFor (hallIn words .positions) (allScreens (hallIn words)) d ≤ length words
-
--- the end of a record is the start of the next
-next-start : (H : Hall) (d : ℕ) → 1 ≤ d → startFor (H .positions) (allScreens H) d ≡ recordStart H d + recordWidth H
-next-start H d h = let e : d ≡ 1 + (d - 1) = omega arith in ap (startFor (H .positions) (allScreens H)) e ∙ omega arith
 
 module _ (d : ℕ) (words bytes : List ℕ) (done : Rewritten d (take (length words) (wordsOfBytes bytes)) words) where
   pub parts : Parts d words

@@ -41,20 +41,11 @@ enum-known-entry c = search needs
 enum-known-entry-2 : tie.Need-enum-known-entry-2
 enum-known-entry-2 c = search needs
 
-mul-e : tie.Need-mul-e
-mul-e c = omega (arith, here c .most)
-
-add-e : tie.Need-add-e
-add-e c = omega (arith, here c .most)
-
-add-e-2 : tie.Need-add-e-2
-add-e-2 c = omega (arith, here c .end)
-
 add-word : tie.Need-add-word
-add-word c = omega (arith, here (c .before) .end)
+add-word c = let e = here (c .before) in omega arith
 
 word-requires : tie.Need-word-requires
-word-requires c κs = omega (arith, here (c .before) .end)
+word-requires c κs = let e = here (c .before) in omega arith
 
 add-at : tie.Need-add-at
 add-at c = omega (arith, reading c .there)
@@ -81,16 +72,16 @@ slice-read-y : tie.Need-slice-read-y
 slice-read-y c = let g = reading (c .before .before .before) in omega arith
 
 mul-collect-record : tie.Need-mul-collect-record
-mul-collect-record c = omega (arith, here (c .before .before .before .before .before .before) .end)
+mul-collect-record c = let e = here (c .before .before .before .before .before .before) in omega arith
 
 sub-collect-record : tie.Need-sub-collect-record
-sub-collect-record c = search needs
+sub-collect-record c = let e = here (c .before .before .before .before .before .before) in omega arith
 
 part-collect-record-start : tie.Need-part-collect-record-start
-part-collect-record-start c = search needs
+part-collect-record-start c = let e = here (c .before .before .before .before .before .before) in omega arith
 
 part-collect-record-end : tie.Need-part-collect-record-end
-part-collect-record-end c = here (c .before .before .before .before .before .before) .end
+part-collect-record-end c = here (c .before .before .before .before .before .before) .room
 
 collect-record-requires : tie.Need-collect-record-requires
 collect-record-requires c κs =
@@ -98,16 +89,16 @@ collect-record-requires c κs =
     (record-lent (b .before .before .before) .encoded, omega (arith, reading b .scanned-is, here (b .before .before .before) .most), omega arith, omega arith)
 
 mul-collect-record-2 : tie.Need-mul-collect-record-2
-mul-collect-record-2 c = omega (arith, here (c .before .before .before .before .before) .end)
+mul-collect-record-2 c = let e = here (c .before .before .before .before .before) in omega arith
 
 sub-collect-record-2 : tie.Need-sub-collect-record-2
-sub-collect-record-2 c = search needs
+sub-collect-record-2 c = let e = here (c .before .before .before .before .before) in omega arith
 
 part-collect-record-start-2 : tie.Need-part-collect-record-start-2
-part-collect-record-start-2 c = search needs
+part-collect-record-start-2 c = let e = here (c .before .before .before .before .before) in omega arith
 
 part-collect-record-end-2 : tie.Need-part-collect-record-end-2
-part-collect-record-end-2 c = here (c .before .before .before .before .before) .end
+part-collect-record-end-2 c = here (c .before .before .before .before .before) .room
 
 collect-record-requires-2 : tie.Need-collect-record-requires-2
 collect-record-requires-2 c κs =
@@ -143,4 +134,4 @@ returns-3 c =
 
 pub collect-spec : {M : Type 1} → statement M
 collect-spec =
-    tie.close (tie.spec enter-requires enum-known-entry enum-known-entry-2 mul-e add-e add-e-2 add-word word-requires add-at add-at-2 mul-x slice-read-x add-if1 add-y mul-y slice-read-y mul-collect-record sub-collect-record part-collect-record-start part-collect-record-end collect-record-requires mul-collect-record-2 sub-collect-record-2 part-collect-record-start-2 part-collect-record-end-2 collect-record-requires-2 same-length returns same-length-2 returns-2 same-length-3 returns-3)
+    tie.close (tie.spec enter-requires enum-known-entry enum-known-entry-2 add-word word-requires add-at add-at-2 mul-x slice-read-x add-if1 add-y mul-y slice-read-y mul-collect-record sub-collect-record part-collect-record-start part-collect-record-end collect-record-requires mul-collect-record-2 sub-collect-record-2 part-collect-record-start-2 part-collect-record-end-2 collect-record-requires-2 same-length returns same-length-2 returns-2 same-length-3 returns-3)

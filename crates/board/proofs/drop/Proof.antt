@@ -2,9 +2,10 @@
 use native.Mathlib.Omega.{arith}
 use Prim.Native.Nat.{ℕ}
 use mathlib.Core.List.{List}
-use mathlib.Core.Path.{sym, _∙_}
+use mathlib.Core.Bool.{true}
+use mathlib.Core.Path.{_≡_, refl, sym, _∙_}
 use borrow.Author.Needs.{needs}
-use Rattle.rules.specs.Steps.{Drop}
+use Rattle.rules.specs.Steps.{Drop, inRange}
 use Rattle.board.specs.declared.Place.{Place}
 use Rattle.board.proofs.EntryLaws.{Entered, entered, refused}
 use Rattle.board.proofs.PlaceLaws.{AtScreen, at-screen}
@@ -27,8 +28,11 @@ here : (a : tie.After-known-told2) → Entered (T a) (start a .args .desk) (P a)
 here a = entered (sym (a .before .entry2 .given .1) ∙ a .before .before .before .enter .ensures)
 
 -- its screen, where it is in range
-screen-at : (c : tie.Else1) → let a = c .before .before in AtScreen (T a) (start a .args .desk) (start a .args .screen) (P a)
-screen-at c = at-screen (here (c .before .before)) (said-yes (c .before .in-range .ensures) (c .if1 .left))
+own : (b : tie.Else1) → let a = b .before .before in inRange (start a .args .screen) (P a .screens) ≡ true
+own b = said-yes (b .before .in-range .ensures) (b .if1 .left)
+
+screen : (w : tie.After-screen-at) → let a = w .before .before .before in AtScreen (T a) (start a .args .desk) (start a .args .screen) (w .screen-at .result)
+screen w = at-screen (here (w .before .before .before)) (own (w .before)) (w .screen-at .ensures)
 
 enter-requires : tie.Need-enter-requires
 enter-requires c κs = search needs
@@ -48,41 +52,26 @@ same-length c = search needs
 returns : tie.Need-returns
 returns c = drop-no-screen (here (c .before .before)) _ (said-no (c .before .in-range .ensures) (c .if1 .taken))
 
-add-at : tie.Need-add-at
-add-at c = let s = screen-at c in omega arith
-
-sub-at : tie.Need-sub-at
-sub-at c = let s = screen-at c in omega arith
-
-mul-at : tie.Need-mul-at
-mul-at c = let s = screen-at c in omega arith
-
-sub-at-2 : tie.Need-sub-at-2
-sub-at-2 c = let s = screen-at c in omega arith
-
-add-at-2 : tie.Need-add-at-2
-add-at-2 c = let s = screen-at c in omega arith
-
-add-at-3 : tie.Need-add-at-3
-add-at-3 c = let s = screen-at c in omega arith
+screen-at-requires : tie.Need-screen-at-requires
+screen-at-requires c κs = let s = at-screen (here (c .before .before)) (own c) refl in (s .desk, s .first, s .most)
 
 mul-shown : tie.Need-mul-shown
-mul-shown c = let s = screen-at c in omega arith
+mul-shown c = omega (arith, screen c .most)
 
 slice-read-shown : tie.Need-slice-read-shown
-slice-read-shown c = let s = screen-at (c .before) in omega arith
+slice-read-shown c = screen (c .before) .there
 
 same-length-2 : tie.Need-same-length-2
 same-length-2 c = search needs
 
 returns-2 : tie.Need-returns-2
-returns-2 c = let b = c .before .before in drop-screen-empty (here (b .before .before)) (screen-at b) (c .if2 .taken)
+returns-2 c = let w = c .before .before in drop-screen-empty (here (w .before .before .before)) (screen w) (c .if2 .taken)
 
 mul-t : tie.Need-mul-t
-mul-t c = let s = screen-at (c .before .before) in omega arith
+mul-t c = omega (arith, screen (c .before .before) .most)
 
 slice-write-t : tie.Need-slice-write-t
-slice-write-t c = let s = screen-at (c .before .before) in omega arith
+slice-write-t c = screen (c .before .before) .there
 
 same-length-3 : tie.Need-same-length-3
 same-length-3 c = search needs
@@ -94,8 +83,8 @@ same-length-4 : tie.Need-same-length-4
 same-length-4 c = search needs
 
 returns-4 : tie.Need-returns-4
-returns-4 c = let b = c .before .before in drop-accepted (here (b .before .before)) (screen-at b) (c .if2 .left)
+returns-4 c = let w = c .before .before in drop-accepted (here (w .before .before .before)) (screen w) (c .if2 .left)
 
 pub drop-spec : {M : Type 1} → statement M
 drop-spec =
-    tie.close (tie.spec enter-requires enum-known-entry enum-known-entry-2 in-range-requires same-length returns add-at sub-at mul-at sub-at-2 add-at-2 add-at-3 mul-shown slice-read-shown same-length-2 returns-2 mul-t slice-write-t same-length-3 returns-3 same-length-4 returns-4)
+    tie.close (tie.spec enter-requires enum-known-entry enum-known-entry-2 in-range-requires same-length returns screen-at-requires mul-shown slice-read-shown same-length-2 returns-2 mul-t slice-write-t same-length-3 returns-3 same-length-4 returns-4)

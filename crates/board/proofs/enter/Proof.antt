@@ -74,17 +74,25 @@ record-start-requires c κs =
     let f = known hallLimits (T a) (is-sound a) in
     omega (arith, all-is c, c .word3 .ensures .0, desk-range (c .before .before))
 
+record-start-requires-2 : tie.Need-record-start-requires-2
+record-start-requires-2 c κs =
+    let w = c .before in
+    let a = w .before .before .before .before .before in
+    let f = known hallLimits (T a) (is-sound a) in
+    omega (arith, all-is w, w .word3 .ensures .0, desk-range (w .before .before))
+
 returns-3 : tie.Need-returns-3
 unfolding entryOf
 returns-3 c =
-    let w = c .before in
+    let w = c .before .before in
     let b = w .before .before in
     let a = b .before .before .before in
     let l = w .word3 .ensures .0 in
     let s = all-is w in
-    let at = c .record-start .ensures .0 ∙ ap₂ (λ (x y : ℕ). startFor x y (start a .args .desk - 1)) l s in
-    rw (is-sound a, is-desk b) (λ i. Entry.At (record { positions = l i; screens = w .before .word2 .ensures .0 i; all = s i; start = at i }))
+    let at = c .before .record-start .ensures .0 ∙ ap₂ (λ (x y : ℕ). startFor x y (start a .args .desk - 1)) l s in
+    let to = c .record-start2 .ensures .0 ∙ ap₂ (λ (x y : ℕ). startFor x y (start a .args .desk)) l s in
+    rw (is-sound a, is-desk b) (λ i. Entry.At (record { positions = l i; screens = w .before .word2 .ensures .0 i; all = s i; start = at i; end = to i }))
 
 pub enter-spec : {M : Type 1} → statement M
 enter-spec =
-    tie.close (tie.spec sound-requires returns word-requires in-range-requires returns-2 word-requires-2 word-requires-3 mul-s sub-record-start record-start-requires returns-3)
+    tie.close (tie.spec sound-requires returns word-requires in-range-requires returns-2 word-requires-2 word-requires-3 mul-s sub-record-start record-start-requires record-start-requires-2 returns-3)

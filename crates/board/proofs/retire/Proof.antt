@@ -37,26 +37,17 @@ enum-known-entry c = search needs
 enum-known-entry-2 : tie.Need-enum-known-entry-2
 enum-known-entry-2 c = search needs
 
-mul-e : tie.Need-mul-e
-mul-e c = omega (arith, here c .most)
-
-add-e : tie.Need-add-e
-add-e c = omega (arith, here c .most)
-
-add-e-2 : tie.Need-add-e-2
-add-e-2 c = omega (arith, here c .end)
-
 mul-retire-record : tie.Need-mul-retire-record
-mul-retire-record c = omega (arith, here c .end)
+mul-retire-record c = let e = here c in omega arith
 
 sub-retire-record : tie.Need-sub-retire-record
-sub-retire-record c = search needs
+sub-retire-record c = let e = here c in omega arith
 
 part-retire-record-start : tie.Need-part-retire-record-start
-part-retire-record-start c = search needs
+part-retire-record-start c = let e = here c in omega arith
 
 part-retire-record-end : tie.Need-part-retire-record-end
-part-retire-record-end c = here c .end
+part-retire-record-end c = here c .room
 
 retire-record-requires : tie.Need-retire-record-requires
 retire-record-requires c κs = record-lent (c .before) .encoded
@@ -78,4 +69,4 @@ returns-2 c =
 
 pub retire-spec : {M : Type 1} → statement M
 retire-spec =
-    tie.close (tie.spec enter-requires enum-known-entry enum-known-entry-2 mul-e add-e add-e-2 mul-retire-record sub-retire-record part-retire-record-start part-retire-record-end retire-record-requires same-length returns same-length-2 returns-2)
+    tie.close (tie.spec enter-requires enum-known-entry enum-known-entry-2 mul-retire-record sub-retire-record part-retire-record-start part-retire-record-end retire-record-requires same-length returns same-length-2 returns-2)

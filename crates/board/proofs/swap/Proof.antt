@@ -28,8 +28,8 @@ here : (a : tie.After-known-told2) → Entered (T a) (start a .args .desk) (P a)
 here a = entered (sym (a .before .entry2 .given .1) ∙ a .before .before .before .enter .ensures)
 
 -- its position, where it is in range
-position-at : (c : tie.Else1) → let a = c .before .before in AtPosition (T a) (start a .args .position)
-position-at c = at-position (here (c .before .before)) (said-yes (c .before .in-range .ensures) (c .if1 .left))
+position : (c : tie.Else1) → let a = c .before .before in AtPosition (T a) (start a .args .position)
+position c = at-position (here (c .before .before)) (said-yes (c .before .in-range .ensures) (c .if1 .left))
 
 enter-requires : tie.Need-enter-requires
 enter-requires c κs = search needs
@@ -50,19 +50,19 @@ returns : tie.Need-returns
 returns c = swap-no-position (here (c .before .before)) _ _ (said-no (c .before .in-range .ensures) (c .if1 .taken))
 
 mul-if2 : tie.Need-mul-if2
-mul-if2 c = omega (arith, here (c .before .before) .end)
+mul-if2 c = let e = here (c .before .before) in omega arith
 
 slice-read-if2 : tie.Need-slice-read-if2
-slice-read-if2 c = omega (arith, here (c .before .before .before) .end)
+slice-read-if2 c = let e = here (c .before .before .before) in omega arith
 
 same-length-2 : tie.Need-same-length-2
 same-length-2 c = search needs
 
 returns-2 : tie.Need-returns-2
-returns-2 c = let b = c .before .before in swap-owing (here (b .before .before)) _ _ (position-at b) (c .if2 .taken)
+returns-2 c = let b = c .before .before in swap-owing (here (b .before .before)) _ _ (position b) (c .if2 .taken)
 
 sub-at : tie.Need-sub-at
-sub-at c = let h = position-at (c .before .before) in omega arith
+sub-at c = let h = position (c .before .before) in omega arith
 
 add-at : tie.Need-add-at
 add-at c = search needs
@@ -71,19 +71,19 @@ mul-old : tie.Need-mul-old
 mul-old c = search needs
 
 slice-read-old : tie.Need-slice-read-old
-slice-read-old c = let h = position-at (c .before .before .before) in omega arith
+slice-read-old c = let h = position (c .before .before .before) in omega arith
 
 mul-t : tie.Need-mul-t
 mul-t c = search needs
 
 slice-write-t : tie.Need-slice-write-t
-slice-write-t c = let h = position-at (c .before .before .before) in omega arith
+slice-write-t c = let h = position (c .before .before .before) in omega arith
 
 mul-t-2 : tie.Need-mul-t-2
-mul-t-2 c = omega (arith, here (c .before .before .before .before .before) .end)
+mul-t-2 c = let e = here (c .before .before .before .before .before) in omega arith
 
 slice-write-t-2 : tie.Need-slice-write-t-2
-slice-write-t-2 c = simp length-set (omega (arith, here (c .before .before .before .before .before) .end))
+slice-write-t-2 c = let e = here (c .before .before .before .before .before) in simp length-set (omega arith)
 
 same-length-3 : tie.Need-same-length-3
 same-length-3 c = search needs
@@ -95,7 +95,7 @@ same-length-4 : tie.Need-same-length-4
 same-length-4 c = search needs
 
 returns-4 : tie.Need-returns-4
-returns-4 c = let b = c .before .before .before in swap-accepted (here (b .before .before)) _ _ (position-at b) (c .before .if2 .left)
+returns-4 c = let b = c .before .before .before in swap-accepted (here (b .before .before)) _ _ (position b) (c .before .if2 .left)
 
 pub swap-spec : {M : Type 1} → statement M
 swap-spec =
