@@ -7,7 +7,7 @@ use mathlib.Core.Bool.{Bool, true, false, cond}
 use mathlib.Core.List.{List, [], _∷_, _++_}
 use lib.Dec.{ltb}
 use borrow.Author.Tests.{lt-ltb, le-ltb}
-use Rattle.sheet_rules.specs.Lines.{digits, decimal}
+use Rattle.sheet_rules.specs.Lines.{decimal, digits}
 
 -- how many digits there may be does not matter, once they are enough
 digits-enough : (most value : ℕ) → value < 10 ^ suc most → digits (suc most) value ≡ digits (suc (suc most)) value

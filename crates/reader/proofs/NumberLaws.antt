@@ -7,7 +7,7 @@ use mathlib.Core.List.{List, [], _∷_}
 use lib.ListN.{length, drop, getD, drop-of-length-le}
 use lib.Seq.{drop-cons}
 use borrow.Author.Tests.{lt-ltb, le-ltb}
-use Rattle.rules.specs.Numbers.{refusal, ended, stopped, before, groupsIn, withinLimit, number}
+use Rattle.rules.specs.Numbers.{before, ended, groupsIn, number, refusal, stopped, withinLimit}
 
 -- a byte that stands at a place of a sheet
 pub record Byte (sheet : List ℕ) (at byte : ℕ) : Type 0 where

@@ -6,13 +6,13 @@ use Rattle.sheet_rules.specs.Sheet.{Record, recordFor}
 use Rattle.reader.specs.declared.Fault.{Fault}
 use Rattle.reader.specs.declared.Fault.the-variants.{Ends, TooLarge}
 use Rattle.reader.specs.declared.Number.{Number}
-use Rattle.reader.specs.declared.Number.the-variants.{Value, Refused}
+use Rattle.reader.specs.declared.Number.the-variants.{Refused, Value}
 use Rattle.reader.specs.declared.Entry.{Entry}
-use Rattle.reader.specs.declared.Entry.the-variants.{Whole as WholeEntry, Refused as RefusedEntry, NoCode}
+use Rattle.reader.specs.declared.Entry.the-variants.{NoCode, Refused as RefusedEntry, Whole as WholeEntry}
 use Rattle.reader.specs.declared.Record.{Record as ReadRecord}
 use Rattle.reader.specs.declared.Header.{Header}
 use Rattle.reader.specs.declared.Head.{Head}
-use Rattle.reader.specs.declared.Head.the-variants.{Whole as WholeHead, Refused as RefusedHead}
+use Rattle.reader.specs.declared.Head.the-variants.{Refused as RefusedHead, Whole as WholeHead}
 
 -- "does it end within three bytes and at most 65,535? 16; did the sheet go on to its end? 15"
 abbrev pub numberOf : Fault → ℕ

@@ -1,6 +1,6 @@
 -- The step that each code asks for. (The collect is `asks-collect` of the rules.)
 use mathlib.Core.Path.{_≡_}
-use Rattle.rules.specs.Steps.{Take, Drop, Swap, Retire}
+use Rattle.rules.specs.Steps.{Drop, Retire, Swap, Take}
 use Rattle.sheet_rules.specs.Sheet.{Record, callOf}
 
 module _ (entry : Record) where

@@ -7,8 +7,8 @@ use lib.ListN.{length, take}
 use native.Mathlib.Omega.{arith}
 use Rattle.sheet_rules.specs.Lines.{printed}
 use Rattle.sheet.specs.declared.State.{State}
-use Rattle.sheet.specs.Turn.{Started, Left, lastState, lastTable, bytesOf, Turns, sheetTable}
-use Rattle.sheet.specs.laws.Turns.{turns-piece, turns-few, left-at-most, all-printed, table-at-start, table-kept, table-at-end}
+use Rattle.sheet.specs.Turn.{Left, Started, Turns, bytesOf, lastState, lastTable, sheetTable}
+use Rattle.sheet.specs.laws.Turns.{all-printed, left-at-most, table-at-end, table-at-start, table-kept, turns-few, turns-piece}
 
 module _ (sheet out : List ℕ) (first : State) (table outAfter : List ℕ) (put : ℕ) (started : Started sheet out first table outAfter put)
     (turns : List Left) (each : Turns sheet first table turns) where

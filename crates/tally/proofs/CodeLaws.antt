@@ -7,7 +7,7 @@ use Rattle.rules.specs.Steps.{isSession}
 use Rattle.sheet_rules.specs.Sheet.{recordFor}
 use Rattle.sheet_rules.specs.Tally.{isHandedBack}
 use Rattle.sheet_rules.specs.laws.Sheet.{asks-collect}
-use Rattle.sheet_rules.specs.laws.Tally.{refused-hands-nothing, collect-hands-back}
+use Rattle.sheet_rules.specs.laws.Tally.{collect-hands-back, refused-hands-nothing}
 use Rattle.tally.specs.Count.{eventOf}
 
 -- A refused step hands nothing back.

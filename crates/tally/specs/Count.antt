@@ -1,7 +1,7 @@
 -- The tally record as the rules' tally, and the step that is counted. Document 01, "The day sheet".
 use Prim.Native.Nat.{ℕ}
 use Rattle.rules.specs.Steps.{Event}
-use Rattle.sheet_rules.specs.Sheet.{recordFor, callOf}
+use Rattle.sheet_rules.specs.Sheet.{callOf, recordFor}
 use Rattle.sheet_rules.specs.Tally.{Tally as Counts, tallyOf}
 use Rattle.tally.specs.declared.Tally.{Tally}
 

@@ -6,7 +6,7 @@ use borrow.Author.Needs.{needs}
 use borrow.Fn.Kinds.{In}
 use borrow.Fn.PlainCycle.{Measures, is, falls, and}
 use Rattle.lines.specs.laws.Put.{put-on}
-use Rattle.lines.proofs.DigitLaws.{decimal-one, decimal-more}
+use Rattle.lines.proofs.DigitLaws.{decimal-more, decimal-one}
 use Rattle.lines.proofs.put_digits.Reads as put-digits
 use Rattle.lines.proofs.put_digits.Kinds as put-digits-kinds
 use Rattle.lines.proofs.+put_digits.Lts-put_digits as put-digits-lts

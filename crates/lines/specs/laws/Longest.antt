@@ -6,7 +6,7 @@ use mathlib.Core.List.{List, [], _∷_, _++_}
 use lib.ListN.{length, length-append}
 use lib.Dec.{ltb}
 use Rattle.sheet_rules.specs.Tally.{Tally}
-use Rattle.sheet_rules.specs.Lines.{digits, decimal, spaced, line, endLine}
+use Rattle.sheet_rules.specs.Lines.{decimal, digits, endLine, line, spaced}
 
 digits-length : (most value : ℕ) → length (digits most value) ≤ most
 digits-length zero value = omega arith

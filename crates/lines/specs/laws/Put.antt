@@ -7,7 +7,7 @@ use mathlib.Core.Path.{_≡_, refl, sym, ap, _∙_}
 use mathlib.Core.List.{List, [], _∷_, _++_, append-assoc, append-nil}
 use lib.ListN.{length, take, drop, set, length-append, take-append-drop, drop-of-length-le}
 use lib.Seq.{length-take-le, take-all, take-at, drop-at, drop-drop, set-split}
-use Rattle.lines.specs.Put.{laid, Put}
+use Rattle.lines.specs.Put.{Put, laid}
 
 -- ---- The buffer with bytes laid in it, at any place: so that whoever puts bytes after bytes need not show again that they fit.
 

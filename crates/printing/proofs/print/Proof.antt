@@ -6,8 +6,8 @@ use mathlib.Core.Bool.{true, false}
 use lib.ListN.{length}
 use lib.Seq.{length-take-le}
 use borrow.Author.Needs.{needs}
-use Rattle.sheet.specs.Turn.{recordRoom, turnsLeft, sheetTable}
-use Rattle.sheet.specs.laws.Turns.{tableToCome, table-at-start, table-kept, table-at-end, turns-fall}
+use Rattle.sheet.specs.Turn.{recordRoom, sheetTable, turnsLeft}
+use Rattle.sheet.specs.laws.Turns.{table-at-end, table-at-start, table-kept, tableToCome, turns-fall}
 use Rattle.printing.proofs.print.Statement.{statement}
 use Rattle.printing.proofs.print.Tie as tie
 

@@ -3,7 +3,7 @@ use Prim.Native.Nat.{_+_}
 use native.Mathlib.Omega.{arith}
 use mathlib.Core.Path.{sym, _∙_}
 use borrow.Author.Needs.{needs}
-use Rattle.reader.proofs.NumberLaws.{Byte, none-there, one-ends, one-only, two-end, two-only, three-end, three-go-on}
+use Rattle.reader.proofs.NumberLaws.{Byte, none-there, one-ends, one-only, three-end, three-go-on, two-end, two-only}
 use Rattle.reader.proofs.read_number.Statement.{statement}
 use Rattle.reader.proofs.read_number.Tie as tie
 

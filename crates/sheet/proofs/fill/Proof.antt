@@ -2,7 +2,7 @@
 use native.Mathlib.Omega.{arith}
 use Rattle.sheet.specs.Turn.{turnsLeft}
 use Rattle.sheet.specs.laws.Turns.{turns-fall}
-use Rattle.sheet.proofs.TurnLaws.{Reached, reached-first, reached-within, reached-next, turn-finished, turn-full}
+use Rattle.sheet.proofs.TurnLaws.{Reached, reached-first, reached-next, reached-within, turn-finished, turn-full}
 use Rattle.sheet.proofs.fill.Statement.{statement}
 use Rattle.sheet.proofs.fill.Tie as tie
 

@@ -4,7 +4,7 @@ use mathlib.Core.Logic.{⊎-elim}
 use borrow.Author.Needs.{needs}
 use Rattle.sheet_rules.specs.laws.Sheet.{asks-collect}
 use Rattle.reader.specs.Told.{recordOf}
-use Rattle.sheet.proofs.CallLaws.{is-take, is-drop, is-swap, is-retire}
+use Rattle.sheet.proofs.CallLaws.{is-drop, is-retire, is-swap, is-take}
 use Rattle.sheet.proofs.run_record.Statement.{statement}
 use Rattle.sheet.proofs.run_record.Tie as tie
 

@@ -1,6 +1,6 @@
 -- `tally::hands_back` meets its contract.
 use native.Mathlib.Omega.{arith}
-use Rattle.tally.proofs.CodeLaws.{refused-no-hand-back, no-collect, accepted-collect}
+use Rattle.tally.proofs.CodeLaws.{accepted-collect, no-collect, refused-no-hand-back}
 use Rattle.tally.proofs.hands_back.Statement.{statement}
 use Rattle.tally.proofs.hands_back.Tie as tie
 
