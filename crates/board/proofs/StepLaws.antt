@@ -17,14 +17,14 @@ use Rattle.rules.specs.Table.{decode, decodeDesk, encodeDesk, hallIn, headerWor
 use Rattle.rules.specs.laws.Tables.{some-screens}
 use Rattle.rules.specs.laws.TableSteps.{accepted-step, asked, collect-seeing, owed-word, refused-step, shown-at}
 use Rattle.reply.specs.declared.Reply.{Reply}
-use Rattle.reply.specs.declared.Reply.the-variants.{Accepted, Owing, NoPosition, NoScreen, PositionEmpty, ScreenEmpty, ScreenFull}
+use Rattle.reply.specs.declared.Reply.the-variants.{Accepted, NoPosition, NoScreen, Owing, PositionEmpty, ScreenEmpty, ScreenFull}
 use Rattle.reply.specs.Answer.{answerOf, told}
 use Rattle.marks.proofs.Scan.{ended, rest}
 use Rattle.desk.specs.Record.{Retired}
 use Rattle.desk.proofs.DeskTie.{scanned-below}
 use Rattle.board.specs.declared.Place.{Place}
 use Rattle.board.proofs.EntryLaws.{Entered}
-use Rattle.board.proofs.PlaceLaws.{AtScreen, AtPosition, Lent, lentRecord, withRecord}
+use Rattle.board.proofs.PlaceLaws.{AtPosition, AtScreen, Lent, lentRecord, withRecord}
 
 module _ {t : List ℕ} {d : ℕ} {p : Place} (e : Entered t d p) where
   -- a step of the rules, by the number that its questions give

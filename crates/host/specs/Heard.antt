@@ -1,8 +1,8 @@
 -- What the contracts of the host's functions cite beside the rules.
 use Prim.Native.Nat.{ℕ, _≤_, _*_}
-use mathlib.Core.Path.{_≡_}
 use mathlib.Core.Bool.{true}
 use mathlib.Core.List.{List}
+use mathlib.Core.Path.{_≡_}
 use lib.ListN.{length, take}
 use Rattle.rules.specs.Hall.{Hall, hallLimits}
 use Rattle.rules.specs.Steps.{Call}

@@ -1,6 +1,6 @@
 -- `board::swap` meets its contract.
-use native.Mathlib.Omega.{arith}
 use Prim.Native.Nat.{ℕ}
+use native.Mathlib.Omega.{arith}
 use mathlib.Core.List.{List}
 use mathlib.Core.Path.{sym, _∙_}
 use lib.ListN.{length-set}
@@ -10,7 +10,7 @@ use Rattle.board.specs.declared.Place.{Place}
 use Rattle.board.proofs.EntryLaws.{Entered, entered, refused}
 use Rattle.board.proofs.PlaceLaws.{AtPosition, at-position}
 use Rattle.board.proofs.SoundLaws.{said-no, said-yes}
-use Rattle.board.proofs.StepLaws.{swap-accepted, swap-owing, swap-no-position}
+use Rattle.board.proofs.StepLaws.{swap-accepted, swap-no-position, swap-owing}
 use Rattle.board.proofs.swap.Statement.{statement}
 use Rattle.board.proofs.swap.Tie as tie
 

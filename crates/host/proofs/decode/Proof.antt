@@ -1,9 +1,9 @@
 -- `host::decode` meets its contract.
 use Prim.Native.Nat.{_≤_, _+_, _-_, _*_}
-use mathlib.Core.Path.{_≡_}
 use native.Mathlib.Omega.{arith}
-use borrow.Author.Needs.{needs}
+use mathlib.Core.Path.{_≡_}
 use lib.ListN.{length, take, length-set}
+use borrow.Author.Needs.{needs}
 use Rattle.rules.specs.Bytes.{wordsOfBytes}
 use Rattle.rules.specs.laws.Bytes.{words-length}
 use Rattle.host.proofs.WordLaws.{read-more, word-at}

@@ -1,11 +1,11 @@
 -- `host::encode` meets its contract.
 use Prim.Native.Nat.{_≤_, _-_}
-use mathlib.Core.Path.{_≡_, refl}
 use native.Mathlib.Omega.{arith}
-use borrow.Author.Needs.{needs}
+use mathlib.Core.Path.{_≡_, refl}
 use lib.ListN.{length, take, length-set}
+use borrow.Author.Needs.{needs}
 use Rattle.rules.specs.Bytes.{laidOver}
-use Rattle.host.proofs.WordLaws.{write-more, nothing-laid}
+use Rattle.host.proofs.WordLaws.{nothing-laid, write-more}
 use Rattle.host.proofs.encode.Statement.{statement}
 use Rattle.host.proofs.encode.Tie as tie
 
