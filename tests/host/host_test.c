@@ -15,6 +15,7 @@
 #include <stdlib.h>
 #include <string.h>
 #include <sys/mman.h>
+#include <ucontext.h>
 #include <unistd.h>
 
 /* ---- checks ---------------------------------------------------------- */
@@ -492,6 +493,59 @@ static void unopened(int place, enum filling with)
     }
 }
 
+/* ---- the stack ------------------------------------------------------- */
+
+/* What the header says that a call takes at most. */
+enum { STACK_SAID = 11 * 1024, STACK = 64 * 1024, UNTOUCHED = 0xA5 };
+
+static uint16_t busy_desks, busy_screens, busy_positions;
+
+/* Lists that fill up, and then collects that mark, settle and hand back. */
+static void busy_hall(void)
+{
+    static uint8_t table[BOARD_MOST_BYTES];
+    size_t bytes = sizeof table;
+    board_open(busy_desks, busy_screens, busy_positions, table, bytes);
+    for (uint16_t session = 1; session <= 130; session++) {
+        board_swap(1, 1, session, table, bytes);
+        board_take(1, 1, 1, table, bytes);
+        board_swap(1, 1, 0, table, bytes);
+        board_retire(1, table, bytes);
+        if (session % 3 == 0)
+            board_drop(1, 1, table, bytes);
+    }
+    for (int collects = 0; collects < 400; collects++)
+        board_collect(1, table, bytes);
+}
+
+static void no_calls(void)
+{
+}
+
+static size_t stack_of(void (*calls)(void))
+{
+    static uint8_t stack[STACK];
+    static ucontext_t here, there;
+    memset(stack, UNTOUCHED, sizeof stack);
+    getcontext(&there);
+    there.uc_stack.ss_sp = stack;
+    there.uc_stack.ss_size = sizeof stack;
+    there.uc_link = &here;
+    makecontext(&there, calls, 0);
+    swapcontext(&here, &there);
+    size_t left = 0;
+    while (left < sizeof stack && stack[left] == UNTOUCHED)
+        left++;
+    return sizeof stack - left;
+}
+
+static void stack_use(uint16_t desks, uint16_t screens, uint16_t positions)
+{
+    busy_desks = desks, busy_screens = screens, busy_positions = positions;
+    busy_hall(); /* once before, so that the C library's functions are bound */
+    check(stack_of(busy_hall) - stack_of(no_calls) <= STACK_SAID, "no more stack than the header says");
+}
+
 /* ---- all of it ------------------------------------------------------- */
 
 int main(void)
@@ -533,6 +587,12 @@ int main(void)
     for (int align = 0; align < 8; align++)
         hall_book(ALIGNED_0 + align, 0);
     far_corner(ALIGNED_0 + 3);
+    end();
+
+    begin("stack");
+    stack_use(1, 1, 1);
+    stack_use(6, 1, 12);
+    stack_use(16, 4, 64);
     end();
 
     begin("lengths from 0 to 50 bytes");
