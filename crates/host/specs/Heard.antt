@@ -9,6 +9,10 @@ use Rattle.rules.specs.Steps.{Call}
 use Rattle.rules.specs.Table.{headerWords, inLimits, mostWords, need, stepTable}
 use Rattle.rules.specs.Bytes.{BytesDone, laidOver, reply, wordsOfBytes}
 
+-- the words of a small buffer
+abbrev pub fewWords : ℕ
+fewWords = 256
+
 -- the number that answers a call, and the bytes that it leaves
 abbrev pub heard : ℕ → List ℕ → BytesDone
 heard reply bytes = record { reply = reply; after = bytes }

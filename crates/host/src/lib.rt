@@ -13,11 +13,11 @@ ghost use Prim.Native.Nat.{_+_, _*_, _<_, _≤_};
 ghost use lib.ListN.{length, getD, replicate, take as takeWords};
 ghost use Rattle.rules.specs.Hall.{hallLimits, hallOf};
 ghost use Rattle.rules.specs.Steps.{Take, Drop, Swap, Retire, Collect};
-ghost use Rattle.rules.specs.Table.{hallIn};
+ghost use Rattle.rules.specs.Table.{hallIn, mostWords};
 ghost use Rattle.rules.specs.Bytes.{wordsOfBytes, laidOver, openBytes, stepBytes};
 ghost use Rattle.rules.specs.laws.Window.{Rewritten, partLaid};
 ghost use Rattle.board.specs.Asked.{callOf};
-ghost use Rattle.host.specs.Heard.{heard, Front, Seen, Told};
+ghost use Rattle.host.specs.Heard.{Front, Seen, Told, fewWords, heard};
 
 // How many words a step on a table of a hall looks at: its need, or the header alone where there is no such hall.
 fn front(desks: u16, screens: u16, positions: u16) -> usize
@@ -141,26 +141,50 @@ fn step_on_words(call: Call, n: usize, words: &mut [u16], table: &mut [u8]) -> u
 // The words of the buffer for small tables: to clear one for the largest takes longer than a step on the smallest.
 const FEW_WORDS: usize = 256;
 
-// A step on a table sent as bytes, in a buffer for few words or for all. The table of the largest hall fills its buffer: that is
-// asked by itself, so that the compiler leaves out to clear what `decode` fills.
+// A step on the first n words of a table, in a buffer for few words. It requires that they are few, and there.
+fn step_in_few(call: Call, n: usize, table: &mut [u8]) -> u32
+    requires { ⌜ (n ≤ fewWords) × (2 * n ≤ length (now table)) ⌝ }
+    ensures { λ r. ⌜ Told r (callOf call) (takeWords n (wordsOfBytes (now (table .entry)))) (now (table .entry)) (now (table .exit)) ⌝ }
+{
+    let mut few = [0u16; FEW_WORDS];
+    decode(table, n, &mut few);
+    step_on_words(call, n, &mut few, table)
+}
+
+// The same, in a buffer for all words that a hall can need.
+fn step_in_front(call: Call, n: usize, table: &mut [u8]) -> u32
+    requires { ⌜ (n ≤ mostWords) × (2 * n ≤ length (now table)) ⌝ }
+    ensures { λ r. ⌜ Told r (callOf call) (takeWords n (wordsOfBytes (now (table .entry)))) (now (table .entry)) (now (table .exit)) ⌝ }
+{
+    let mut front = [0u16; Board::MOST_WORDS];
+    decode(table, n, &mut front);
+    step_on_words(call, n, &mut front, table)
+}
+
+// The same, of a table that fills it: so the compiler leaves out to clear what `decode` fills.
+fn step_in_all(call: Call, table: &mut [u8]) -> u32
+    requires { ⌜ 2 * mostWords ≤ length (now table) ⌝ }
+    ensures { λ r. ⌜ Told r (callOf call) (takeWords mostWords (wordsOfBytes (now (table .entry)))) (now (table .entry)) (now (table .exit)) ⌝ }
+{
+    let mut all = [0u16; Board::MOST_WORDS];
+    decode(table, Board::MOST_WORDS, &mut all);
+    step_on_words(call, Board::MOST_WORDS, &mut all, table)
+}
+
+// A step on a table sent as bytes, in a buffer for few words or for all. Each buffer is a function's own, so that they can share
+// their place on the stack.
 fn step_on_bytes(call: Call, table: &mut [u8]) -> u32
     ensures { λ r. ⌜ heard r (now (table .exit)) ≡ stepBytes hallLimits (now (table .entry)) (callOf call) ⌝ }
 {
     let m = looked_at(table);
     let n = seen(table, m);
     if n <= FEW_WORDS {
-        let mut few = [0u16; FEW_WORDS];
-        decode(table, n, &mut few);
-        return step_on_words(call, n, &mut few, table);
+        return step_in_few(call, n, table);
     }
     if n < Board::MOST_WORDS {
-        let mut front = [0u16; Board::MOST_WORDS];
-        decode(table, n, &mut front);
-        return step_on_words(call, n, &mut front, table);
+        return step_in_front(call, n, table);
     }
-    let mut words = [0u16; Board::MOST_WORDS];
-    decode(table, Board::MOST_WORDS, &mut words);
-    step_on_words(call, Board::MOST_WORDS, &mut words, table)
+    step_in_all(call, table)
 }
 
 // The opening of a hall of so many desks, screens per desk and positions: its header and zeros up to its need are written.

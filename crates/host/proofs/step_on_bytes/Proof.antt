@@ -1,6 +1,6 @@
 -- `host::step_on_bytes` meets its contract.
 use native.Mathlib.Omega.{arith}
-use mathlib.Core.Path.{_≡_}
+use mathlib.Core.Path.{_≡_, refl}
 use borrow.Author.Needs.{needs}
 use Rattle.rules.specs.Table.{mostWords}
 use Rattle.host.specs.Heard.{Seen}
@@ -21,75 +21,33 @@ looked-at-requires c κs = search needs
 seen-requires : tie.Need-seen-requires
 seen-requires c κs = search needs
 
-slice-aggregate-decode : tie.Need-slice-aggregate-decode
-slice-aggregate-decode c = search needs
-
-decode-requires : tie.Need-decode-requires
-decode-requires c κs = search needs
-
-slice-aggregate-step-on-words : tie.Need-slice-aggregate-step-on-words
-slice-aggregate-step-on-words c = search needs
-
-step-on-words-requires : tie.Need-step-on-words-requires
-step-on-words-requires c κs = search needs
+step-in-few-requires : tie.Need-step-in-few-requires
+step-in-few-requires c κs = search needs
 
 same-length : tie.Need-same-length
 same-length c = search needs
 
 returns : tie.Need-returns
-returns c =
-    let d = c .before .before .before .before .before .before .before in
-    let s = d .before .before .before .before in
-    let m = s .before .before in
-    step-heard (λ j. m .before .before .slice-known .given j .fits) (m .looked-at .ensures) (s .seen .ensures) (d .decode .ensures)
-    (c .before .before .before .step-on-words .ensures)
+returns c = step-heard (λ j. c .before .before .before .before .before .before .before .before .before .slice-known .given j .fits) (c .before .before .before .before .before .before .before .looked-at .ensures) (c .before .before .before .before .before .seen .ensures) refl (c .before .before .step-in-few .ensures)
 
-slice-aggregate-decode-2 : tie.Need-slice-aggregate-decode-2
-slice-aggregate-decode-2 c = search needs
-
-decode-requires-2 : tie.Need-decode-requires-2
-decode-requires-2 c κs = search needs
-
-slice-aggregate-step-on-words-2 : tie.Need-slice-aggregate-step-on-words-2
-slice-aggregate-step-on-words-2 c = search needs
-
-step-on-words-requires-2 : tie.Need-step-on-words-requires-2
-step-on-words-requires-2 c κs = search needs
+step-in-front-requires : tie.Need-step-in-front-requires
+step-in-front-requires c κs = search needs
 
 same-length-2 : tie.Need-same-length-2
 same-length-2 c = search needs
 
 returns-2 : tie.Need-returns-2
-returns-2 c =
-    let d = c .before .before .before .before .before .before .before in
-    let s = d .before .before .before .before .before in
-    let m = s .before .before in
-    step-heard (λ j. m .before .before .slice-known .given j .fits) (m .looked-at .ensures) (s .seen .ensures) (d .decode2 .ensures)
-    (c .before .before .before .step-on-words2 .ensures)
+returns-2 c = step-heard (λ j. c .before .before .before .before .before .before .before .before .before .before .slice-known .given j .fits) (c .before .before .before .before .before .before .before .before .looked-at .ensures) (c .before .before .before .before .before .before .seen .ensures) refl (c .before .before .step-in-front .ensures)
 
-slice-aggregate-decode-3 : tie.Need-slice-aggregate-decode-3
-slice-aggregate-decode-3 c = search needs
-
-decode-requires-3 : tie.Need-decode-requires-3
-decode-requires-3 c κs = search needs
-
-slice-aggregate-step-on-words-3 : tie.Need-slice-aggregate-step-on-words-3
-slice-aggregate-step-on-words-3 c = search needs
-
-step-on-words-requires-3 : tie.Need-step-on-words-requires-3
-step-on-words-requires-3 c κs = search needs
+step-in-all-requires : tie.Need-step-in-all-requires
+step-in-all-requires c κs = let l = largest ((c .before)) in l .there
 
 same-length-3 : tie.Need-same-length-3
 same-length-3 c = search needs
 
 returns-3 : tie.Need-returns-3
-returns-3 c =
-    let d = c .before .before .before .before .before .before .before in
-    let b = d .before .before .before in
-    let m = b .before .before .before .before in
-    step-heard (λ j. m .before .before .slice-known .given j .fits) (m .looked-at .ensures) (largest b) (d .decode3 .ensures)
-    (c .before .before .before .step-on-words3 .ensures)
+returns-3 c = step-heard (λ j. c .before .before .before .before .before .before .before .before .before .before .slice-known .given j .fits) (c .before .before .before .before .before .before .before .before .looked-at .ensures) (largest ((c .before .before .before .before))) refl (c .before .before .step-in-all .ensures)
 
 pub step-on-bytes-spec : {M : Type 1} → statement M
 step-on-bytes-spec =
-    tie.close (tie.spec looked-at-requires seen-requires slice-aggregate-decode decode-requires slice-aggregate-step-on-words step-on-words-requires same-length returns slice-aggregate-decode-2 decode-requires-2 slice-aggregate-step-on-words-2 step-on-words-requires-2 same-length-2 returns-2 slice-aggregate-decode-3 decode-requires-3 slice-aggregate-step-on-words-3 step-on-words-requires-3 same-length-3 returns-3)
+    tie.close (tie.spec looked-at-requires seen-requires step-in-few-requires same-length returns step-in-front-requires same-length-2 returns-2 step-in-all-requires same-length-3 returns-3)
