@@ -23,7 +23,7 @@
  * within 3 of these collects for each screen of the hall.
  *
  * The board keeps nothing between calls: the table is the whole state of the
- * hall. It uses no memory but the table and about 11 KB of stack, and of the C
+ * hall. It uses no memory but the table and about 6 KB of stack, and of the C
  * library memcpy, memmove and memset. Send one call at a time to a table. Link
  * with libhost.a, which is for x86-64.
  */

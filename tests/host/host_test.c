@@ -496,7 +496,7 @@ static void unopened(int place, enum filling with)
 /* ---- the stack ------------------------------------------------------- */
 
 /* What the header says that a call takes at most. */
-enum { STACK_SAID = 11 * 1024, STACK = 64 * 1024, UNTOUCHED = 0xA5 };
+enum { STACK_SAID = 6 * 1024, STACK = 64 * 1024, UNTOUCHED = 0xA5 };
 
 static uint16_t busy_desks, busy_screens, busy_positions;
 
