@@ -17,7 +17,7 @@ enum { DESKS = 2, SCREENS = 1, POSITIONS = 2 };
 /* The host lends the board its memory. The board keeps none of its own, so
  * this table is the whole state of the hall. The largest hall's size always
  * fits; a host that is short of memory lends 2 * board_need(...) bytes. */
-static uint8_t table[BOARD_MOST_BYTES];
+static uint8_t table[BOARD_MAX_BYTES];
 
 /* Each refusal has a number; an operator would rather read this. */
 static const char *reason(uint16_t number)

@@ -37,11 +37,11 @@
 extern "C" {
 #endif
 
-#define BOARD_MOST_DESKS 16
-#define BOARD_MOST_SCREENS 4 /* of one desk */
-#define BOARD_MOST_POSITIONS 64
-#define BOARD_MOST_WORDS 2387 /* the need of the largest hall */
-#define BOARD_MOST_BYTES 4774
+#define BOARD_MAX_DESKS 16
+#define BOARD_MAX_SCREENS 4 /* of one desk */
+#define BOARD_MAX_POSITIONS 64
+#define BOARD_MAX_WORDS 2387 /* the need of the largest hall */
+#define BOARD_MAX_BYTES 4774
 
 /* The reply numbers. Each but the first is the "no" to one question. */
 enum board_reply {

@@ -18,7 +18,7 @@ ROOT = pathlib.Path(__file__).resolve().parent.parent
 LIST = ROOT / 'tests' / 'sheet_cases.txt'
 STORED = ROOT / 'crates' / 'sheet_cases'
 
-MOST_BYTES = 65_536
+MAX_BYTES = 65_536
 
 # A case: the bytes of a sheet, and the lines that document 01 gives for it.
 Case = collections.namedtuple('Case', 'name sheet lines')
@@ -54,12 +54,12 @@ def longest():
     for record in range(0, 4 * 1820, 4):
         lines += [f'{record + 1} 3 0 0', f'{record + 2} 3 0 65535', f'{record + 3} 4 0 65535', f'{record + 4} 5 0 65535']
     sheet = bytes.fromhex('81 00 01 01') + 1820 * turn + bytes.fromhex(f'{swap} FF FF 03')
-    assert len(sheet) == MOST_BYTES
+    assert len(sheet) == MAX_BYTES
     return [
         Case('the longest sheet, read to its end', sheet, [*lines, '7281 3 0 0', 'end 7281 0 1820']),
         Case('one byte more: nothing is run', sheet + b'\x05', ['0 0 18 0', 'end 0 0 0']),
-        Case('65,536 zeros: P is 0', bytes(MOST_BYTES), ['0 0 1 0', 'end 0 0 0']),
-        Case('65,537 zeros: 18 is asked before P', bytes(MOST_BYTES + 1), ['0 0 18 0', 'end 0 0 0']),
+        Case('65,536 zeros: P is 0', bytes(MAX_BYTES), ['0 0 1 0', 'end 0 0 0']),
+        Case('65,537 zeros: 18 is asked before P', bytes(MAX_BYTES + 1), ['0 0 18 0', 'end 0 0 0']),
     ]
 
 

@@ -10,7 +10,7 @@ use std::time::Instant;
 
 /// Bytes of all tables of a batch together: they stay in the nearest cache.
 const BATCH_BYTES: usize = 16 * 1024;
-const MOST_TABLES: usize = 256;
+const MAX_TABLES: usize = 256;
 const REPETITIONS: usize = 2001;
 
 #[derive(Clone, Copy)]
@@ -65,7 +65,7 @@ fn main() {
     println!("and all tables of a batch fit into {} KB", BATCH_BYTES / 1024);
     for (desks, screens, positions) in HALLS {
         let hall = Hall::new(desks, screens, positions).expect("a hall within the limits");
-        let tables = (BATCH_BYTES / (2 * hall.need())).clamp(1, MOST_TABLES);
+        let tables = (BATCH_BYTES / (2 * hall.need())).clamp(1, MAX_TABLES);
         println!();
         println!(
             "hall {desks} {screens} {positions}: {} bytes, batches of {tables} calls",

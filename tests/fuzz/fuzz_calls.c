@@ -21,7 +21,7 @@
 #include <stdlib.h>
 #include <string.h>
 
-enum { MOST_BYTES = BOARD_MOST_BYTES + 64 };
+enum { MAX_BYTES = BOARD_MAX_BYTES + 64 };
 
 /* ---- reading an input ------------------------------------------------ */
 
@@ -56,13 +56,13 @@ static struct call next_call(void)
 /* ---- the tables ------------------------------------------------------ */
 
 static struct ground lent, short_reach;
-static uint8_t at_first[MOST_BYTES], before[MOST_BYTES], of_reference[MOST_BYTES];
+static uint8_t at_first[MAX_BYTES], before[MAX_BYTES], of_reference[MAX_BYTES];
 static uint8_t *told; /* the table, as the board gets it: NULL is allowed for no bytes */
 
 static void lay_table(void)
 {
     unsigned place = byte() % PLACES;
-    size_t bytes = two_bytes() % (MOST_BYTES + 1u);
+    size_t bytes = two_bytes() % (MAX_BYTES + 1u);
     size_t given = two_bytes() % (bytes + 1);
     uint8_t fill = byte();
     lay(&lent, place, bytes);
@@ -78,8 +78,8 @@ static void lay_table(void)
 static size_t need_within(const uint16_t hall[3], size_t bytes)
 {
     size_t most = bytes - bytes % 2;
-    if (hall[0] - 1u >= BOARD_MOST_DESKS || hall[1] - 1u >= BOARD_MOST_SCREENS ||
-        hall[2] - 1u >= BOARD_MOST_POSITIONS)
+    if (hall[0] - 1u >= BOARD_MAX_DESKS || hall[1] - 1u >= BOARD_MAX_SCREENS ||
+        hall[2] - 1u >= BOARD_MAX_POSITIONS)
         return most;
     size_t need = 2 * board_need(hall[0], hall[1], hall[2]);
     return need < most ? need : most;
@@ -158,8 +158,8 @@ static uint8_t this_input[FUNCTIONS][BOARD_NO_ROOM + 1];
 int LLVMFuzzerInitialize(int *count, char ***arguments)
 {
     (void)count, (void)arguments;
-    make_ground(&lent, MOST_BYTES);
-    make_ground(&short_reach, MOST_BYTES);
+    make_ground(&lent, MAX_BYTES);
+    make_ground(&short_reach, MAX_BYTES);
     atexit(print_tally);
     return 0;
 }

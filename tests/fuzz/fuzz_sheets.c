@@ -23,8 +23,8 @@
 #include <unistd.h>
 
 enum {
-    MOST_MILLISECONDS = 10000, /* far more than any sheet needs */
-    MOST_PRINTED = 4 << 20,    /* five times the lines of the longest sheet */
+    MAX_MILLISECONDS = 10000, /* far more than any sheet needs */
+    MAX_PRINTED = 4 << 20,    /* five times the lines of the longest sheet */
     PIPE_BYTES = 1 << 20,
     NUMBERS = 19
 };
@@ -51,8 +51,8 @@ static void must(bool good, const char *what)
 
 static const char *program;
 static int lines; /* a file in memory that takes what is printed */
-static uint8_t printed[MOST_PRINTED];
-static const struct rlimit most_printed = {MOST_PRINTED, MOST_PRINTED};
+static uint8_t printed[MAX_PRINTED];
+static const struct rlimit max_printed = {MAX_PRINTED, MAX_PRINTED};
 
 static int sheet_in_a_file(const uint8_t *sheet, size_t bytes)
 {
@@ -102,7 +102,7 @@ static pid_t start(int sheet)
     posix_spawn_file_actions_addopen(&files, 2, "/dev/null", O_WRONLY, 0);
     errno = posix_spawn(&child, program, &files, NULL, arguments, no_environment);
     must(errno == 0, program);
-    prlimit(child, RLIMIT_FSIZE, &most_printed, NULL); /* no matter if it has ended by now */
+    prlimit(child, RLIMIT_FSIZE, &max_printed, NULL); /* no matter if it has ended by now */
     posix_spawn_file_actions_destroy(&files);
     return child;
 }
@@ -114,7 +114,7 @@ static bool ends_in_time(pid_t child)
     struct pollfd ended = {(int)syscall(SYS_pidfd_open, child, 0), POLLIN, 0};
     must(ended.fd >= 0, "pidfd_open");
     do {
-        found = poll(&ended, 1, MOST_MILLISECONDS);
+        found = poll(&ended, 1, MAX_MILLISECONDS);
     } while (found < 0 && errno == EINTR);
     close(ended.fd);
     return found == 1;

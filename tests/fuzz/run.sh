@@ -25,7 +25,7 @@ export DAY_SHEET
 CARGO_TARGET_DIR=$out/seeds cargo build --quiet --offline --release \
     --manifest-path "$fuzz/seeds/Cargo.toml"
 
-# fuzz NAME MOST_BYTES: the harness fuzz_NAME, begun with the seeds of its own.
+# fuzz NAME MAX_BYTES: the harness fuzz_NAME, begun with the seeds of its own.
 fuzz() {
     mkdir -p "$out/found" "$out/$1" "$out/$1_seeds"
     "$out/seeds/release/$1_seeds" "$out/$1_seeds" 2000

@@ -54,7 +54,7 @@ static size_t ground_bytes;
 static void make_ground(void)
 {
     size_t page = (size_t)sysconf(_SC_PAGESIZE);
-    ground_bytes = (BOARD_MOST_BYTES + 2 * GUARD + 8 + page - 1) / page * page;
+    ground_bytes = (BOARD_MAX_BYTES + 2 * GUARD + 8 + page - 1) / page * page;
     uint8_t *all = mmap(NULL, ground_bytes + 2 * page, PROT_READ | PROT_WRITE,
                         MAP_PRIVATE | MAP_ANONYMOUS, -1, 0);
     if (all == MAP_FAILED || mprotect(all, page, PROT_NONE) != 0 ||
@@ -91,7 +91,7 @@ static struct {
     size_t told; /* as told to the board */
 } lent;
 
-static uint8_t before[BOARD_MOST_BYTES + SPARE];
+static uint8_t before[BOARD_MAX_BYTES + SPARE];
 
 static void lend(int place, size_t bytes)
 {
@@ -243,8 +243,8 @@ static void case_a(void)
 
 static void case_b(void)
 {
-    check(board_need(16, 4, 64) == BOARD_MOST_WORDS, "B: need 2387");
-    check(2 * BOARD_MOST_WORDS == BOARD_MOST_BYTES, "B: 4774 bytes");
+    check(board_need(16, 4, 64) == BOARD_MAX_WORDS, "B: need 2387");
+    check(2 * BOARD_MAX_WORDS == BOARD_MAX_BYTES, "B: 4774 bytes");
     hall(16, 4, 64);
     refuses(open_hall(17, 4, 64), BOARD_BAD_DESKS, "B: 17 desks give 1");
 }
@@ -473,7 +473,7 @@ static void fill(enum filling with)
 static void unopened(int place, enum filling with)
 {
     static const size_t lengths[] = {0, 1, 2, 3, 5, 6, 7, 39, 40, 41, 50, 76, 77,
-                                     1000, BOARD_MOST_BYTES - 1, BOARD_MOST_BYTES};
+                                     1000, BOARD_MAX_BYTES - 1, BOARD_MAX_BYTES};
     for (size_t i = 0; i < sizeof lengths / sizeof *lengths; i++) {
         lend(place, lengths[i]);
         fill(with);
@@ -503,7 +503,7 @@ static uint16_t busy_desks, busy_screens, busy_positions;
 /* Lists that fill up, and then collects that mark, settle and hand back. */
 static void busy_hall(void)
 {
-    static uint8_t table[BOARD_MOST_BYTES];
+    static uint8_t table[BOARD_MAX_BYTES];
     size_t bytes = sizeof table;
     board_open(busy_desks, busy_screens, busy_positions, table, bytes);
     for (uint16_t session = 1; session <= 130; session++) {
@@ -571,7 +571,7 @@ int main(void)
     end();
 
     begin("hall book with the words past the need out of reach");
-    book_out_of_reach = BOARD_MOST_BYTES;
+    book_out_of_reach = BOARD_MAX_BYTES;
     hall_book(AT_END, 0);
     far_corner(AT_END);
     book_out_of_reach = 0;

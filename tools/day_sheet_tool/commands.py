@@ -8,7 +8,7 @@ from .complaint import Complaint, plural
 from .explain import explained
 from .files import read_sheet, read_text, reason, write_text
 from .lines import lines_of
-from .picture import MOST_RECORDS, picture
+from .picture import MAX_RECORDS, picture
 from .reading import read
 from .replay import replay
 from .text import decode, encode, where_and_why
@@ -107,7 +107,7 @@ def draw(options):
     last = len(sheet.records)
     if not 1 <= options.first <= max(last, 1):
         raise Complaint(f"--from {options.first}: the sheet has {plural(last, 'record')}")
-    numbers = range(options.first, min(options.first + MOST_RECORDS, last + 1))
+    numbers = range(options.first, min(options.first + MAX_RECORDS, last + 1))
     moments = replay(sheet, lines, end, numbers)
     write_text(options.svg, picture(os.path.basename(options.sheet), sheet, moments, end))
     if len(moments) < last:

@@ -4,9 +4,9 @@ import re
 import sys
 
 from .complaint import Complaint
-from .steps import MOST_BYTES
+from .steps import MAX_BYTES
 
-MOST_TEXT = 16 * 1024 * 1024
+MAX_TEXT = 16 * 1024 * 1024
 A_SHEET = "is it a sheet already? then 'decode' reads it"
 
 
@@ -25,7 +25,7 @@ def read_bytes(name, most):
 
 def read_sheet(name):
     """One byte more than the longest sheet is enough to know that it is too long."""
-    data = read_bytes(name, MOST_BYTES + 1)
+    data = read_bytes(name, MAX_BYTES + 1)
     words = (line.split(b"#", 1)[0].split() for line in data.split(b"\n"))
     if next(filter(None, words), [b""])[0] == b"hall":  # no hall has as many desks as these letters would say
         raise Complaint(f"{name}: this is the text of a sheet; 'encode' makes the sheet")
@@ -33,8 +33,8 @@ def read_sheet(name):
 
 
 def read_text(name):
-    data = read_bytes(name, MOST_TEXT + 1)
-    if len(data) > MOST_TEXT:
+    data = read_bytes(name, MAX_TEXT + 1)
+    if len(data) > MAX_TEXT:
         raise Complaint(f"{name}: longer than 16 MB, no sheet has so much text")
     try:
         text = data.decode("utf-8-sig")

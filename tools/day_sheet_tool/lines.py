@@ -15,14 +15,14 @@ End = namedtuple("End", "accepted refused handed_back")
 
 ROOT = os.path.dirname(os.path.dirname(os.path.dirname(os.path.realpath(__file__))))
 USUAL_PROGRAM = os.path.join(ROOT, "target", "bin", "day_sheet")
-MOST_SECONDS = 30
-MOST_LINES = 4 * 1024 * 1024
+MAX_SECONDS = 30
+MAX_LINES = 4 * 1024 * 1024
 
 
 def lines_of(data, sheet, program, file):
     """The program's lines for this sheet, and the end; from a file if there is one."""
     if file is not None:
-        name, printed = file, read_bytes(file, MOST_LINES)
+        name, printed = file, read_bytes(file, MAX_LINES)
     else:
         name, printed = run(data, program)
     lines, end = parse(printed, name)
@@ -38,11 +38,11 @@ def run(data, program):
     if os.sep not in path:
         path = os.path.join(os.curdir, path)
     try:
-        done = subprocess.run([path], input=data, capture_output=True, timeout=MOST_SECONDS, check=False)
+        done = subprocess.run([path], input=data, capture_output=True, timeout=MAX_SECONDS, check=False)
     except (OSError, ValueError) as error:
         raise Complaint(f"{path}: {reason(error)}") from None
     except subprocess.TimeoutExpired:
-        raise Complaint(f"{path}: did not end within {MOST_SECONDS} s") from None
+        raise Complaint(f"{path}: did not end within {MAX_SECONDS} s") from None
     if done.returncode != 0:
         raise Complaint(f"{path}: ended with status {done.returncode}")
     return path, done.stdout

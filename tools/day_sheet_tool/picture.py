@@ -8,18 +8,18 @@ from .complaint import plural
 from .explain import end_in_words, hall_in_words
 from .legend import legend
 from .pieces import (
-    CELL, COLUMN, HANDED_BACK, LEFT, MARGIN, MOST_CELLS, REFUSED, ROW, SCREEN, bars, boxed, listed,
+    CELL, COLUMN, HANDED_BACK, LEFT, MARGIN, MAX_CELLS, REFUSED, ROW, SCREEN, bars, boxed, listed,
 )
 from .steps import STEPS
 from .svg import FAINT, INK, Drawing
 
 HEAD = 78  # a record and its reply
 STRIP_COLUMNS = 18  # at most
-MOST_POSITIONS = 8
+MAX_POSITIONS = 8
 FEW_DESKS = 4
 
 # The most records of one picture.
-MOST_RECORDS = 160
+MAX_RECORDS = 160
 
 
 def picture(name, sheet, moments, end):
@@ -66,7 +66,7 @@ class Shown:
         self.fault = sheet.fault
         self.desks = [at for at in range(desks) if desks <= FEW_DESKS or any(busy(moment, at) for moment in moments)]
         held = [at for at in range(positions) if any(moment.board.positions[at] for moment in moments)]
-        self.positions = held[:MOST_POSITIONS]
+        self.positions = held[:MAX_POSITIONS]
         self.positions_left_out = len(held) - len(self.positions)
 
 
@@ -157,7 +157,7 @@ def positions(drawing, moments, shown, y):
 def desk(drawing, moments, at, top, width):
     """Its screens, what it owes, its list; the answer is where it ends."""
     states = [moment.board.desks[at] for moment in moments]
-    rows = max(1, *(min(state.used(), MOST_CELLS) for state in states))
+    rows = max(1, *(min(state.used(), MAX_CELLS) for state in states))
     screens = len(states[0].screens)
     height = (screens + 1) * ROW + rows * CELL + 12
     for column, moment in enumerate(moments):

@@ -9,7 +9,7 @@ LEFT = 122  # room for the names of the rows
 MARGIN = 16
 ROW = 18
 CELL = 15
-MOST_CELLS = 10  # of a list; more are counted
+MAX_CELLS = 10  # of a list; more are counted
 
 SCREEN = "#bcd9ee"
 REFUSED = {"fill": INK, "stroke": INK}
@@ -48,7 +48,7 @@ def listed(drawing, state, x, y):
     cells = [("ready", session, False) for session in state.ready]
     cells += [("tested", session, marked) for session, marked in zip(state.tested, state.marks)]
     cells += [("waiting", session, False) for session in state.waiting]
-    fit = len(cells) if len(cells) <= MOST_CELLS else MOST_CELLS - 1
+    fit = len(cells) if len(cells) <= MAX_CELLS else MAX_CELLS - 1
     for at, (kind, session, marked) in enumerate(cells[:fit]):
         cell(drawing, kind, str(session), marked, x, y + at * CELL)
     if fit < len(cells):

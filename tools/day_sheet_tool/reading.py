@@ -2,7 +2,7 @@
 
 from collections import namedtuple
 
-from .steps import MOST_BYTES, MOST_NUMBER, STEPS, Record
+from .steps import MAX_BYTES, MAX_NUMBER, STEPS, Record
 
 # What a sheet says, up to where its reading ends. The hall is None if it could not be read; fault is None
 # if the sheet is whole.
@@ -12,7 +12,7 @@ Sheet = namedtuple("Sheet", "hall records fault")
 # being read (0 is the header) and its code (0 if that was not read).
 Fault = namedtuple("Fault", "number byte record code")
 
-MOST_GROUPS = 3
+MAX_GROUPS = 3
 
 
 class Stopped(Exception):
@@ -32,14 +32,14 @@ class Reader:
         """Groups of seven bits, lowest first; the top bit says that another follows."""
         self.began = self.at
         value = 0
-        for group in range(MOST_GROUPS):
+        for group in range(MAX_GROUPS):
             if self.at_end():
                 raise Stopped(15)
             byte = self.data[self.at]
             self.at += 1
             value |= (byte & 0x7F) << (7 * group)
             if byte < 0x80:
-                if value > MOST_NUMBER:
+                if value > MAX_NUMBER:
                     raise Stopped(16)
                 return value
         raise Stopped(16)
@@ -47,8 +47,8 @@ class Reader:
 
 def read(data):
     """The sheet of these bytes."""
-    if len(data) > MOST_BYTES:
-        return Sheet(None, [], Fault(18, MOST_BYTES, 0, 0))
+    if len(data) > MAX_BYTES:
+        return Sheet(None, [], Fault(18, MAX_BYTES, 0, 0))
     reader = Reader(data)
     hall, records, code = None, [], 0
     try:

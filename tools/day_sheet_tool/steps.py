@@ -19,8 +19,8 @@ CODES = {step.name: code for code, step in STEPS.items()}
 
 HALL_FIELDS = ("desks", "screens per desk", "positions")
 
-MOST_NUMBER = 65_535
-MOST_BYTES = 65_536
+MAX_NUMBER = 65_535
+MAX_BYTES = 65_536
 
 # Reply numbers. 4 and 5 cannot come from a sheet: the program lends a table of its own.
 REASONS = {

@@ -2,7 +2,7 @@
 
 from .complaint import Complaint, plural
 from .reading import number_bytes
-from .steps import CODES, HALL_FIELDS, MOST_BYTES, MOST_NUMBER, REASONS, STEPS
+from .steps import CODES, HALL_FIELDS, MAX_BYTES, MAX_NUMBER, REASONS, STEPS
 
 HALL_LINE = "'hall DESKS SCREENS POSITIONS'"
 
@@ -19,7 +19,7 @@ def encode(text, name):
             except Complaint as complaint:
                 raise Complaint(f"{name}:{number}: {complaint}") from None
             opened = True
-            if len(data) > MOST_BYTES:
+            if len(data) > MAX_BYTES:
                 raise Complaint(f"{name}:{number}: the sheet is longer than 65,536 bytes with this record (reply number 18)")
     if not opened:
         raise Complaint(f"{name}: there is no line {HALL_LINE}, and every sheet begins with one")
@@ -52,7 +52,7 @@ def number(field, word):
     if not (word.isascii() and word.isdigit()):
         raise Complaint(f"{field}: '{shown(word)}' is not a number")
     digits = word.lstrip("0") or "0"
-    if len(digits) > 5 or int(digits) > MOST_NUMBER:
+    if len(digits) > 5 or int(digits) > MAX_NUMBER:
         raise Complaint(f"{field}: {shown(word)} is over 65,535 (reply number 16)")
     return int(digits)
 

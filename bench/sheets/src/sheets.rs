@@ -3,7 +3,7 @@
 const BYTES: usize = 65_536;
 
 /// No record of these sheets is longer.
-const MOST_RECORD: usize = 5;
+const MAX_RECORD: usize = 5;
 
 pub struct Sheet {
     pub name: &'static str,
@@ -76,7 +76,7 @@ fn refused() -> Vec<u8> {
 fn fill(mut sheet: Vec<u8>, mut records: impl Iterator<Item = Vec<u8>>) -> Vec<u8> {
     while BYTES - sheet.len() > 6 {
         let record = records.next().expect("records without end");
-        assert!(record.len() <= MOST_RECORD);
+        assert!(record.len() <= MAX_RECORD);
         sheet.extend(record);
     }
     let left = BYTES - sheet.len();

@@ -5,7 +5,7 @@ use mathlib.Core.Bool.{Bool, true, false}
 use mathlib.Core.List.{List}
 use mathlib.Core.Path.{_≡_, refl, sym, ap, _∙_}
 use lib.ListN.{length}
-use Rattle.rules.specs.Hall.{Hall, allScreens, hallLimits, mostAllScreens}
+use Rattle.rules.specs.Hall.{Hall, allScreens, hallLimits, maxAllScreens}
 use Rattle.rules.specs.Steps.{Call, Collect, Drop, Retire, Swap, Take, inRange}
 use Rattle.rules.specs.Table.{hallIn, recordStart, recordWidth, sound, startFor, stepTable, widthFor}
 use Rattle.rules.specs.laws.Effect.{in-range}
@@ -33,7 +33,7 @@ pub record Entered (t : List ℕ) (desk : ℕ) (p : Place) : Type 0 where
   pub all-is : p .all ≡ allScreens (hallIn t)
   pub start-is : p .start ≡ recordStart (hallIn t) desk
   pub end-is : p .end ≡ p .start + widthFor (p .all)
-  pub most : p .all ≤ mostAllScreens
+  pub most : p .all ≤ maxAllScreens
   pub room : p .end ≤ length t
 
 pub entered : {t : List ℕ} {desk : ℕ} {p : Place} → At p ≡ entryOf t desk → Entered t desk p

@@ -7,7 +7,7 @@ use mathlib.Core.Path.{_≡_, refl, ap}
 use lib.ListN.{length, take, drop, set, replicate}
 use borrow.Author.Tests.{le-leb, lt-leb}
 use borrow.Rule.Slice.PartMut.{mid-len, midOf, post-is, putMid}
-use Rattle.rules.specs.Hall.{Hall, hallLimits, mostDesks, mostPositions, mostScreens}
+use Rattle.rules.specs.Hall.{Hall, hallLimits, maxDesks, maxPositions, maxScreens}
 use Rattle.rules.specs.Steps.{Answer, firstNo, inRange}
 use Rattle.rules.specs.Table.{headerWords, need, openQuestions, openTable}
 use Rattle.rules.specs.laws.Tables.{hall-opens}
@@ -22,18 +22,18 @@ module _ (H : Hall) (t : List ℕ) where
   refusal : (n : ℕ) → firstNo (openQuestions hallLimits H t) ≡ suc n → record { number = suc n; session = 0 } ≡ openTable hallLimits H t .answer
   refusal n q = rw (refused-open hallLimits H t n q)
 
-  pub bad-desks : inRange (H .desks) mostDesks ≡ false → answerOf BadDesks ≡ openTable hallLimits H t .answer
+  pub bad-desks : inRange (H .desks) maxDesks ≡ false → answerOf BadDesks ≡ openTable hallLimits H t .answer
   bad-desks out = refusal 0 (rw out)
 
-  module _ (d : inRange (H .desks) mostDesks ≡ true) where
-    pub bad-screens : inRange (H .screens) mostScreens ≡ false → answerOf BadScreens ≡ openTable hallLimits H t .answer
+  module _ (d : inRange (H .desks) maxDesks ≡ true) where
+    pub bad-screens : inRange (H .screens) maxScreens ≡ false → answerOf BadScreens ≡ openTable hallLimits H t .answer
     bad-screens out = refusal 1 (rw (d, out))
 
-    module _ (c : inRange (H .screens) mostScreens ≡ true) where
-      pub bad-positions : inRange (H .positions) mostPositions ≡ false → answerOf BadPositions ≡ openTable hallLimits H t .answer
+    module _ (c : inRange (H .screens) maxScreens ≡ true) where
+      pub bad-positions : inRange (H .positions) maxPositions ≡ false → answerOf BadPositions ≡ openTable hallLimits H t .answer
       bad-positions out = refusal 2 (rw (d, c, out))
 
-      module _ (l : inRange (H .positions) mostPositions ≡ true) where
+      module _ (l : inRange (H .positions) maxPositions ≡ true) where
         pub table-short : length t < need H → answerOf TableShort ≡ openTable hallLimits H t .answer
         table-short h = refusal 3 (rw (d, c, l, lt-leb (need H) (length t) h))
 

@@ -8,7 +8,7 @@ use lib.ListN.{length, getD, take, drop}
 use borrow.Rule.Slice.PartMut.{mid-len, midOf, putMid}
 use Rattle.rules.specs.Hall.{Hall, allScreens, deskOf, screenIndex}
 use Rattle.rules.specs.Steps.{inRange}
-use Rattle.rules.specs.Table.{decode, decodeDesk, hallIn, mostWords, positionWord, putRecord, recordOf, recordSound, screenWord, widthFor}
+use Rattle.rules.specs.Table.{decode, decodeDesk, hallIn, maxWords, positionWord, putRecord, recordOf, recordSound, screenWord, widthFor}
 use Rattle.rules.specs.laws.Decoding.{small-drop, small-take}
 use Rattle.rules.specs.laws.Effect.{in-range}
 use Rattle.rules.specs.laws.ScreenIndex.{screen-in}
@@ -25,7 +25,7 @@ pub record AtScreen (t : List ℕ) (d i a : ℕ) : Type 0 where
   pub first : 1 ≤ i
   pub yes-screen : inRange i (hallIn t .screens) ≡ true
   pub is : a ≡ screenWord (hallIn t) d i
-  pub most : a ≤ mostWords
+  pub most : a ≤ maxWords
   pub there : a < length t
   pub shows : getD (decode (hallIn t) t .shown) (screenIndex (hallIn t) d i) 0 ≡ getD t a 0
 

@@ -10,10 +10,10 @@ use reply::number;
 ghost use mathlib.Core.Path.{_≡_};
 ghost use Prim.Native.Nat.{_+_, _-_, _*_, _≤_, _<_};
 ghost use lib.ListN.{length, drop as dropWords};
-ghost use Rattle.rules.specs.Hall.{hallLimits, hallOf, mostAllScreens, mostDesks, mostPositions};
+ghost use Rattle.rules.specs.Hall.{hallLimits, hallOf, maxAllScreens, maxDesks, maxPositions};
 ghost use Rattle.rules.specs.Steps.{Collect, Drop, Retire, Swap, Take, inRange};
 ghost use Rattle.rules.specs.Table.{everyRecord, inLimits, need as hallNeed, openTable, pieces, recordSound, sound as soundTable, stepTable};
-ghost use Rattle.rules.specs.Table.{headerWords, mostWords, startFor, widthFor};
+ghost use Rattle.rules.specs.Table.{headerWords, maxWords, startFor, widthFor};
 ghost use Rattle.rules.specs.laws.Window.{deskIn};
 ghost use Rattle.reply.specs.Answer.{answerOf, told};
 ghost use Rattle.board.specs.Entry.{entryOf, screenFor};
@@ -37,14 +37,14 @@ pub struct Board;
 
 impl Board {
     // The limits for P, c and L.
-    pub const MOST_DESKS: usize = 16;
+    pub const MAX_DESKS: usize = 16;
 
-    pub const MOST_SCREENS: usize = 4;
+    pub const MAX_SCREENS: usize = 4;
 
-    pub const MOST_POSITIONS: usize = 64;
+    pub const MAX_POSITIONS: usize = 64;
 
     // The words that the largest hall needs.
-    pub const MOST_WORDS: usize = 2387;
+    pub const MAX_WORDS: usize = 2387;
 
     // The words that a hall needs: 3 + L + S + P times (13 + 2S).
     pub fn need(desks: u16, screens: u16, positions: u16) -> usize
@@ -68,20 +68,20 @@ fn in_range(n: u16, most: usize) -> bool
 pub fn in_limits(desks: u16, screens: u16, positions: u16) -> bool
     ensures { λ r. ⌜ r ≡ inLimits hallLimits (hallOf desks screens positions) ⌝ }
 {
-    if !in_range(desks, Board::MOST_DESKS) {
+    if !in_range(desks, Board::MAX_DESKS) {
         return false;
     }
-    if !in_range(screens, Board::MOST_SCREENS) {
+    if !in_range(screens, Board::MAX_SCREENS) {
         return false;
     }
-    in_range(positions, Board::MOST_POSITIONS)
+    in_range(positions, Board::MAX_POSITIONS)
 }
 
 // Where the record of desk d stands, with d counted from 0, in a hall of l positions and s screens.
 // It requires numbers within the limits: a sound table tells them. Desk P's end is the start of a desk after it.
 pub fn record_start(l: usize, s: usize, d: usize) -> usize
-    requires { ⌜ (l ≤ mostPositions) × (s ≤ mostAllScreens) × (d ≤ mostDesks) ⌝ }
-    ensures { λ r. ⌜ (r ≡ startFor l s d) × (r ≤ mostWords) ⌝ }
+    requires { ⌜ (l ≤ maxPositions) × (s ≤ maxAllScreens) × (d ≤ maxDesks) ⌝ }
+    ensures { λ r. ⌜ (r ≡ startFor l s d) × (r ≤ maxWords) ⌝ }
 {
     HEADER + l + s + d * (LIST + 2 * s)
 }
@@ -89,7 +89,7 @@ pub fn record_start(l: usize, s: usize, d: usize) -> usize
 // Where screen i of desk d stands, both counted from 1, in a hall of l positions and c screens per desk. It requires numbers of
 // a sound table's hall.
 fn screen_at(l: usize, c: usize, d: u16, i: u16) -> usize
-    requires { ⌜ (1 ≤ d) × (1 ≤ i) × (screenFor l c d i ≤ mostWords) ⌝ }
+    requires { ⌜ (1 ≤ d) × (1 ≤ i) × (screenFor l c d i ≤ maxWords) ⌝ }
     ensures { λ r. ⌜ r ≡ screenFor l c d i ⌝ }
 {
     HEADER + l + ((d as usize - 1) * c + (i as usize - 1))
@@ -117,7 +117,7 @@ pub fn sound(t: &[u16]) -> bool
 
 // Whether the record of each desk is sound, in a table that is long enough.
 fn sound_records(t: &[u16], p: usize, l: usize, s: usize) -> bool
-    requires { ⌜ (p ≤ mostDesks) × (l ≤ mostPositions) × (s ≤ mostAllScreens) × (startFor l s p ≤ length (now t)) ⌝ }
+    requires { ⌜ (p ≤ maxDesks) × (l ≤ maxPositions) × (s ≤ maxAllScreens) × (startFor l s p ≤ length (now t)) ⌝ }
     ensures { λ r. ⌜ r ≡ everyRecord (recordSound s) (pieces p (widthFor s) (dropWords (headerWords + l + s) (now (t .entry)))) ⌝ }
 {
     let size = LIST + 2 * s;
@@ -179,13 +179,13 @@ fn enter(t: &[u16], desk: u16) -> Entry
 pub fn opening(desks: u16, screens: u16, positions: u16, words: usize) -> Reply
     ensures { λ r. ⌜ OpeningAnswer (hallOf desks screens positions) words (answerOf r) ⌝ }
 {
-    if !in_range(desks, Board::MOST_DESKS) {
+    if !in_range(desks, Board::MAX_DESKS) {
         return Reply::BadDesks;
     }
-    if !in_range(screens, Board::MOST_SCREENS) {
+    if !in_range(screens, Board::MAX_SCREENS) {
         return Reply::BadScreens;
     }
-    if !in_range(positions, Board::MOST_POSITIONS) {
+    if !in_range(positions, Board::MAX_POSITIONS) {
         return Reply::BadPositions;
     }
     if words < Board::need(desks, screens, positions) {

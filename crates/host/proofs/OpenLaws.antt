@@ -8,7 +8,7 @@ use lib.Seq.{length-take-le}
 use borrow.Rule.Slice.PartMut.{mid-len, midOf, post-is, putMid}
 use Rattle.rules.specs.Hall.{Hall, hallLimits}
 use Rattle.rules.specs.Steps.{firstNo}
-use Rattle.rules.specs.Table.{TableDone, headerWords, mostWords, need, openQuestions, openTable}
+use Rattle.rules.specs.Table.{TableDone, headerWords, maxWords, need, openQuestions, openTable}
 use Rattle.rules.specs.Bytes.{IsBytes, bytesOfWords, laidOver, openBytes, reply, wordsOfBytes}
 use Rattle.rules.specs.laws.Bytes.{laid-back, words-length}
 use Rattle.rules.specs.laws.Front.{laid-front}
@@ -31,7 +31,7 @@ zero-bytes (suc k) = let e : 2 * suc k ≡ suc (suc (2 * k)) = omega arith in rw
 pub record Room (H : Hall) (bytes : List ℕ) : Type 0 where
   pub asked : firstNo (openQuestions hallLimits H (wordsOfBytes bytes)) ≡ 0
   pub least : headerWords ≤ need H
-  pub most : need H ≤ mostWords
+  pub most : need H ≤ maxWords
   pub words : need H ≤ length (wordsOfBytes bytes)
   pub there : 2 * need H ≤ length bytes
 

@@ -7,7 +7,7 @@ use mathlib.Core.Path.{_≡_, ap, _∙_}
 use lib.ListN.{length, take, drop, length-drop, drop-of-length-le}
 use lib.Seq.{length-take-le, take-take}
 use borrow.Rule.Slice.PartMut.{mid-len, midOf, putMid}
-use Rattle.rules.specs.Hall.{allScreens, mostAllScreens, mostDesks, mostPositions}
+use Rattle.rules.specs.Hall.{allScreens, maxAllScreens, maxDesks, maxPositions}
 use Rattle.rules.specs.Table.{hallIn, headerWords, recordStart, recordWidth, startFor}
 use Rattle.rules.specs.Bytes.{IsBytes, laidOver, wordsOfBytes}
 use Rattle.rules.specs.laws.TableSteps.{record-within}
@@ -35,9 +35,9 @@ part-lent a e words bytes part order there room laid =
 
 -- where the two parts stand
 pub record Parts (d : ℕ) (words : List ℕ) : Type 0 where
-  pub screens : allScreens (hallIn words) ≤ mostAllScreens
-  pub positions : (1 ≤ hallIn words .positions) × (hallIn words .positions ≤ mostPositions)
-  pub desk : (1 ≤ d) × (d ≤ mostDesks)
+  pub screens : allScreens (hallIn words) ≤ maxAllScreens
+  pub positions : (1 ≤ hallIn words .positions) × (hallIn words .positions ≤ maxPositions)
+  pub desk : (1 ≤ d) × (d ≤ maxDesks)
   pub next : startFor (hallIn words .positions) (allScreens (hallIn words)) d ≡ recordStart (hallIn words) d + recordWidth (hallIn words)
   pub end : startFor (hallIn words .positions) (allScreens (hallIn words)) d ≤ length words
 

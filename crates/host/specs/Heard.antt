@@ -6,7 +6,7 @@ use mathlib.Core.Path.{_≡_}
 use lib.ListN.{length, take}
 use Rattle.rules.specs.Hall.{Hall, hallLimits}
 use Rattle.rules.specs.Steps.{Call}
-use Rattle.rules.specs.Table.{headerWords, inLimits, mostWords, need, stepTable}
+use Rattle.rules.specs.Table.{headerWords, inLimits, maxWords, need, stepTable}
 use Rattle.rules.specs.Bytes.{BytesDone, laidOver, reply, wordsOfBytes}
 
 -- the words of a small buffer
@@ -20,7 +20,7 @@ heard reply bytes = record { reply = reply; after = bytes }
 -- "Words past the need are neither read nor written": the first m words are enough for a call on a table of this hall
 pub record Front (hall : Hall) (m : ℕ) : Type 0 where
   pub header : headerWords ≤ m
-  pub most : m ≤ mostWords
+  pub most : m ≤ maxWords
   pub enough : inLimits hallLimits hall ≡ true → need hall ≤ m
 
 -- of the first m words n are there: m, or all that the table has

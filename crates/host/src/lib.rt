@@ -13,7 +13,7 @@ ghost use Prim.Native.Nat.{_+_, _*_, _<_, _≤_};
 ghost use lib.ListN.{length, getD, replicate, take as takeWords};
 ghost use Rattle.rules.specs.Hall.{hallLimits, hallOf};
 ghost use Rattle.rules.specs.Steps.{Take, Drop, Swap, Retire, Collect};
-ghost use Rattle.rules.specs.Table.{hallIn, mostWords};
+ghost use Rattle.rules.specs.Table.{hallIn, maxWords};
 ghost use Rattle.rules.specs.Bytes.{wordsOfBytes, laidOver, openBytes, stepBytes};
 ghost use Rattle.rules.specs.laws.Window.{Rewritten, partLaid};
 ghost use Rattle.board.specs.Asked.{callOf};
@@ -153,22 +153,22 @@ fn step_in_few(call: Call, n: usize, table: &mut [u8]) -> u32
 
 // The same, in a buffer for all words that a hall can need.
 fn step_in_front(call: Call, n: usize, table: &mut [u8]) -> u32
-    requires { ⌜ (n ≤ mostWords) × (2 * n ≤ length (now table)) ⌝ }
+    requires { ⌜ (n ≤ maxWords) × (2 * n ≤ length (now table)) ⌝ }
     ensures { λ r. ⌜ Told r (callOf call) (takeWords n (wordsOfBytes (now (table .entry)))) (now (table .entry)) (now (table .exit)) ⌝ }
 {
-    let mut front = [0u16; Board::MOST_WORDS];
+    let mut front = [0u16; Board::MAX_WORDS];
     decode(table, n, &mut front);
     step_on_words(call, n, &mut front, table)
 }
 
 // The same, of a table that fills it: so the compiler leaves out to clear what `decode` fills.
 fn step_in_all(call: Call, table: &mut [u8]) -> u32
-    requires { ⌜ 2 * mostWords ≤ length (now table) ⌝ }
-    ensures { λ r. ⌜ Told r (callOf call) (takeWords mostWords (wordsOfBytes (now (table .entry)))) (now (table .entry)) (now (table .exit)) ⌝ }
+    requires { ⌜ 2 * maxWords ≤ length (now table) ⌝ }
+    ensures { λ r. ⌜ Told r (callOf call) (takeWords maxWords (wordsOfBytes (now (table .entry)))) (now (table .entry)) (now (table .exit)) ⌝ }
 {
-    let mut all = [0u16; Board::MOST_WORDS];
-    decode(table, Board::MOST_WORDS, &mut all);
-    step_on_words(call, Board::MOST_WORDS, &mut all, table)
+    let mut all = [0u16; Board::MAX_WORDS];
+    decode(table, Board::MAX_WORDS, &mut all);
+    step_on_words(call, Board::MAX_WORDS, &mut all, table)
 }
 
 // A step on a table sent as bytes, in a buffer for few words or for all. Each buffer is a function's own, so that they can share
@@ -181,7 +181,7 @@ fn step_on_bytes(call: Call, table: &mut [u8]) -> u32
     if n <= FEW_WORDS {
         return step_in_few(call, n, table);
     }
-    if n < Board::MOST_WORDS {
+    if n < Board::MAX_WORDS {
         return step_in_front(call, n, table);
     }
     step_in_all(call, table)

@@ -1,6 +1,6 @@
 ghost use mathlib.Core.Path.{_≡_};
 ghost use Prim.Native.Nat.{_≤_, _<_};
-ghost use Rattle.rules.specs.Numbers.{number, withinLimit, mostNumber};
+ghost use Rattle.rules.specs.Numbers.{number, withinLimit, maxNumber};
 ghost use Rattle.sheet_rules.specs.Sheet.{follows as followsCode, fieldAt, fieldsAt, withCode, recordAt, headerAt};
 ghost use Rattle.reader.specs.Told.{numberOf, toldNumber, toldRecord, toldHeader};
 
@@ -29,7 +29,7 @@ pub enum Number {
 }
 
 // The largest number of a sheet.
-const MOST_NUMBER: u16 = 65535;
+const MAX_NUMBER: u16 = 65535;
 
 // A number that has ended, if it is at most the limit.
 fn within_limit(value: u32, next: usize, limit: u16) -> Number
@@ -103,10 +103,10 @@ fn follows(code: u16, field: usize) -> bool
 // A field that follows its code is read; one that does not is 0 and takes no byte.
 fn read_field(sheet: &[u8], at: usize, code: u16, field: usize) -> Number
     requires { ⌜ (1 ≤ code) × (code ≤ 5) × (field < 4) ⌝ }
-    ensures { λ r. ⌜ toldNumber r ≡ fieldAt (followsCode code field) mostNumber (now (sheet .entry)) at ⌝ }
+    ensures { λ r. ⌜ toldNumber r ≡ fieldAt (followsCode code field) maxNumber (now (sheet .entry)) at ⌝ }
 {
     if follows(code, field) {
-        return read_number(sheet, at, MOST_NUMBER);
+        return read_number(sheet, at, MAX_NUMBER);
     }
     Number::Value(0, at)
 }
@@ -172,7 +172,7 @@ fn read_fields(sheet: &[u8], at: usize, code: u16) -> Entry
 pub fn read_record(sheet: &[u8], at: usize) -> Entry
     ensures { λ r. ⌜ toldRecord r ≡ recordAt (now (sheet .entry)) at ⌝ }
 {
-    match read_number(sheet, at, MOST_NUMBER) {
+    match read_number(sheet, at, MAX_NUMBER) {
         Number::Refused(fault) => Entry::Refused(0, fault),
         Number::Value(code, after_code) => {
             if code < 1 {
@@ -203,14 +203,14 @@ pub enum Head {
 pub fn read_header(sheet: &[u8], at: usize) -> Head
     ensures { λ r. ⌜ toldHeader r ≡ headerAt (now (sheet .entry)) at ⌝ }
 {
-    match read_number(sheet, at, MOST_NUMBER) {
+    match read_number(sheet, at, MAX_NUMBER) {
         Number::Refused(fault) => Head::Refused(fault),
-        Number::Value(desks, after_desks) => match read_number(sheet, after_desks, MOST_NUMBER) {
+        Number::Value(desks, after_desks) => match read_number(sheet, after_desks, MAX_NUMBER) {
             Number::Refused(fault) => Head::Refused(fault),
             Number::Value(screens, after_screens) => match read_number(
                 sheet,
                 after_screens,
-                MOST_NUMBER,
+                MAX_NUMBER,
             ) {
                 Number::Refused(fault) => Head::Refused(fault),
                 Number::Value(positions, next) => Head::Whole(

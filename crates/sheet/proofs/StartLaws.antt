@@ -11,7 +11,7 @@ use Rattle.rules.specs.Table.{TableDone, openIf, openTable}
 use Rattle.rules.specs.Numbers.{got, refusalOf}
 use Rattle.reply.specs.Answer.{answerOf, told}
 use Rattle.reply.specs.declared.Reply.{Reply}
-use Rattle.sheet_rules.specs.Sheet.{headerAt, lentTable, mostBytes, opened, openedIf, openingNumber, reading, recordsAt, unopened}
+use Rattle.sheet_rules.specs.Sheet.{headerAt, lentTable, maxBytes, opened, openedIf, openingNumber, reading, recordsAt, unopened}
 use Rattle.sheet_rules.specs.Tally.{zeros}
 use Rattle.sheet_rules.specs.Lines.{answerLine, endLine, line, linesFrom, linesOf, printed}
 use Rattle.sheet_rules.specs.laws.Sheet.{header-got, opening-answer, short-enough}
@@ -38,7 +38,7 @@ opening-number : (hall : Hall) (reply : Reply) (after : List ℕ) {number : ℕ}
 opening-number hall reply after tells is-number =
     sym (ap (λ (answer : Answer). answer .number) (opening-answer hall)) ∙ sym (ap (λ (done : TableDone). done .answer .number) tells) ∙ sym is-number
 
-reads-by : (sheet : List ℕ) {hall : Hall} {next number : ℕ} → length sheet ≤ mostBytes → headerAt sheet 0 ≡ got hall next
+reads-by : (sheet : List ℕ) {hall : Hall} {next number : ℕ} → length sheet ≤ maxBytes → headerAt sheet 0 ≡ got hall next
     → openingNumber hall ≡ number
     → reading sheet ≡ openedIf number hall (recordsAt (length sheet) sheet next)
 reads-by sheet {hall} {next} short read opening =
@@ -60,7 +60,7 @@ module _ {sheet out outAfter : List ℕ} {end : ℕ} where
   })
 
   -- The header was read, and the board replied to the opening.
-  module _ (reply : Reply) {hall : Hall} {next : ℕ} {after : List ℕ} {number : ℕ} (short : length sheet ≤ mostBytes)
+  module _ (reply : Reply) {hall : Hall} {next : ℕ} {after : List ℕ} {number : ℕ} (short : length sheet ≤ maxBytes)
       (read : headerAt sheet 0 ≡ got hall next) (tells : told reply after ≡ openTable hallLimits hall lentTable) (is-number : number ≡ answerOf reply .number) where
     pub started-refused : {is : State} → (number ≡ 0 → ⊥) → Put out outAfter 0 (line 0 0 number 0 ++ endLine zeros) end → is ≡ finishedAt atHeader
         → Started sheet out is after outAfter end

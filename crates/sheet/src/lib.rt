@@ -33,7 +33,7 @@ ghost use Rattle.tally.specs.Count.{tallyIs};
 ghost use Rattle.sheet.specs.Turn.{Filling, Onward, Started, Turn, endRoom, finishedAt, recordRoom};
 
 // The most bytes of a sheet.
-const MOST_BYTES: usize = 65536;
+const MAX_BYTES: usize = 65536;
 
 // The reply number of a sheet that is longer.
 const TOO_LONG: u16 = 18;
@@ -195,7 +195,7 @@ pub fn start(sheet: &[u8], table: &mut [u16], out: &mut [u8]) -> Filled
         tally: none,
         finished: false,
     };
-    if MOST_BYTES < sheet.len() {
+    if MAX_BYTES < sheet.len() {
         return stop(out, 0, header_state, 0, TOO_LONG);
     }
     match read_header(sheet, 0) {

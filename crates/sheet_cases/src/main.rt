@@ -12,7 +12,7 @@ const OUTPUT: i32 = 1;
 const BYTES: usize = 65537;
 
 // The most cases.
-const MOST_CASES: u64 = 1000;
+const MAX_CASES: u64 = 1000;
 
 // The length that three bytes say.
 fn length_of(low: u8, middle: u8, high: u8) -> usize {
@@ -41,14 +41,14 @@ fn print_next(case: u64, bytes: &mut [u8]) -> bool {
         return false;
     }
     print_title(case);
-    let mut table = [0u16; Board::MOST_WORDS];
+    let mut table = [0u16; Board::MAX_WORDS];
     let mut out = io::large_buffer();
     print(&bytes[..n], &mut table, &mut out)
 }
 
 fn main() {
     let mut bytes = [0u8; BYTES];
-    for case in 1..=MOST_CASES {
+    for case in 1..=MAX_CASES {
         if !print_next(case, &mut bytes) {
             return;
         }

@@ -5,7 +5,7 @@ use crate::case::Case;
 use crate::damage::damage;
 use crate::rng::Rng;
 use crate::tables::{any_bytes, any_hall, any_words, sound_table, Sessions};
-use reference::{Hall, MOST_DESKS, MOST_POSITIONS, MOST_SCREENS};
+use reference::{Hall, MAX_DESKS, MAX_POSITIONS, MAX_SCREENS};
 
 /// The case of this number under this seed.
 pub fn case(seed: u64, number: u64) -> Case {
@@ -28,7 +28,7 @@ fn case_of(rng: &mut Rng, table: Vec<u8>, calls: Vec<Call>) -> Case {
 /// Openings of all shapes, over whatever stood in the table.
 fn openings(rng: &mut Rng) -> Case {
     let numbers = |rng: &mut Rng| {
-        [limited(rng, MOST_DESKS), limited(rng, MOST_SCREENS), limited(rng, MOST_POSITIONS)]
+        [limited(rng, MAX_DESKS), limited(rng, MAX_SCREENS), limited(rng, MAX_POSITIONS)]
     };
     let calls: Vec<Call> = (0..rng.within(1, 3)).map(|_| Call::new(Open, &numbers(rng))).collect();
     let [desks, screens, positions] = calls[0].numbers;

@@ -3,9 +3,9 @@
 use super::{ask, Refusal};
 use std::ops::Range;
 
-pub const MOST_DESKS: u16 = 16;
-pub const MOST_SCREENS: u16 = 4;
-pub const MOST_POSITIONS: u16 = 64;
+pub const MAX_DESKS: u16 = 16;
+pub const MAX_SCREENS: u16 = 4;
+pub const MAX_POSITIONS: u16 = 64;
 
 /// Words before the first position: the hall's three numbers.
 const HEADER: usize = 3;
@@ -21,9 +21,9 @@ pub struct Hall {
 impl Hall {
     /// The hall of these numbers, asked in the order of the opening.
     pub fn new(desks: u16, screens: u16, positions: u16) -> Result<Hall, Refusal> {
-        ask((1..=MOST_DESKS).contains(&desks), Refusal::BadDesks)?;
-        ask((1..=MOST_SCREENS).contains(&screens), Refusal::BadScreens)?;
-        ask((1..=MOST_POSITIONS).contains(&positions), Refusal::BadPositions)?;
+        ask((1..=MAX_DESKS).contains(&desks), Refusal::BadDesks)?;
+        ask((1..=MAX_SCREENS).contains(&screens), Refusal::BadScreens)?;
+        ask((1..=MAX_POSITIONS).contains(&positions), Refusal::BadPositions)?;
         Ok(Hall { desks, screens, positions })
     }
 

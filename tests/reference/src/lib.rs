@@ -10,7 +10,7 @@ pub mod sheet;
 mod sound;
 mod words;
 
-pub use self::hall::{Hall, MOST_DESKS, MOST_POSITIONS, MOST_SCREENS};
+pub use self::hall::{Hall, MAX_DESKS, MAX_POSITIONS, MAX_SCREENS};
 pub use self::record::place;
 pub use self::sound::is_sound;
 pub use self::words::{set_word, word};

@@ -15,7 +15,7 @@ pub mod place {
 }
 
 /// The most places that a list can have.
-const MOST_LIST: usize = 128;
+const MAX_LIST: usize = 128;
 
 /// The eight mark words as one number: bit j is the mark of tested place j.
 /// Low byte first and lowest bit first make this a plain reading of the bytes.
@@ -104,7 +104,7 @@ impl<'a> Record<'a> {
     fn settle(&mut self) {
         let marks = marks(self.bytes);
         let (ready, tested) = (self.ready(), self.tested());
-        let mut before = [0; MOST_LIST];
+        let mut before = [0; MAX_LIST];
         for (j, session) in before[..tested].iter_mut().enumerate() {
             *session = self.listed(ready + j);
         }

@@ -1,7 +1,7 @@
 //! The day sheet: case D whole, case L, the empty sheet, and each way in which
 //! a reading ends.
 
-use reference::sheet::{printed, Fault, Reader, MOST_BYTES};
+use reference::sheet::{printed, Fault, Reader, MAX_BYTES};
 
 const CASE_D: [u8; 27] = [
     0x01, 0x01, 0x01, 0x03, 0x01, 0x01, 0xAC, 0x02, 0x01, 0x01, 0x01, 0x01, 0x03, 0x01, 0x01, 0x07,
@@ -146,8 +146,8 @@ fn long_sheet(bytes: usize) -> Vec<u8> {
 
 #[test]
 fn the_longest_sheet_is_read() {
-    let lines = lines(&long_sheet(MOST_BYTES));
-    assert_eq!(MOST_BYTES, 65_536);
+    let lines = lines(&long_sheet(MAX_BYTES));
+    assert_eq!(MAX_BYTES, 65_536);
     assert!(lines.ends_with("32766 5 6 0\n32767 5 15 0\nend 0 32766 0\n"));
 }
 

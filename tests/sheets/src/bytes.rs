@@ -1,7 +1,7 @@
 //! Numbers as a sheet has them, and sheets as people read them.
 
 /// The largest number of three groups.
-pub const MOST_IN_THREE: u32 = (1 << 21) - 1;
+pub const MAX_IN_THREE: u32 = (1 << 21) - 1;
 
 /// Appends a number: groups of seven bits, lowest first, at least so many.
 pub fn put(sheet: &mut Vec<u8>, number: u32, least_groups: usize) {

@@ -1,7 +1,7 @@
 //! The sheets that every run begins with, small ones first: a program that is
 //! plainly wrong is caught by a sheet that a person can read.
 
-use crate::bytes::{put, MOST_IN_THREE};
+use crate::bytes::{put, MAX_IN_THREE};
 
 const CASE_D: [u8; 27] = [
     0x01, 0x01, 0x01, 0x03, 0x01, 0x01, 0xAC, 0x02, 0x01, 0x01, 0x01, 0x01, 0x03, 0x01, 0x01, 0x07,
@@ -9,7 +9,7 @@ const CASE_D: [u8; 27] = [
 ];
 
 /// The longest sheet that is read.
-const MOST_BYTES: usize = 65_536;
+const MAX_BYTES: usize = 65_536;
 
 pub fn sheets() -> Vec<Vec<u8>> {
     let mut sheets = vec![Vec::new(), CASE_D.to_vec()];
@@ -41,7 +41,7 @@ fn headers() -> Vec<Vec<u8>> {
 /// Numbers at every bound, as the session of a swap; with zero groups too.
 fn numbers() -> Vec<Vec<u8>> {
     let bounds = [0, 1, 127, 128, 255, 256, 16_383, 16_384, 32_768, 65_535];
-    let too_large = [65_536, 65_537, 131_072, MOST_IN_THREE, MOST_IN_THREE + 1];
+    let too_large = [65_536, 65_537, 131_072, MAX_IN_THREE, MAX_IN_THREE + 1];
     let mut sheets = Vec::new();
     for number in bounds.into_iter().chain(too_large) {
         for least_groups in 1..=4 {
@@ -98,7 +98,7 @@ fn every_step(least_groups: usize) -> Vec<u8> {
 /// Around the longest sheet, and well past it.
 fn long() -> Vec<Vec<u8>> {
     let mut sheets = Vec::new();
-    for bytes in [MOST_BYTES - 1, MOST_BYTES, MOST_BYTES + 1, MOST_BYTES + 2, 3 * MOST_BYTES] {
+    for bytes in [MAX_BYTES - 1, MAX_BYTES, MAX_BYTES + 1, MAX_BYTES + 2, 3 * MAX_BYTES] {
         sheets.push(filled(&[1, 1, 1], &[5], bytes));
         sheets.push(filled(&[1, 1, 1], &[5, 1], bytes));
         sheets.push(filled(&[16, 4, 64], &[5, 16], bytes));

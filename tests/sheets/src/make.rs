@@ -1,7 +1,7 @@
 //! Sheets at random: histories that press the board to its refusals, the same
 //! written with zero groups, cut or damaged, and bytes of no meaning.
 
-use crate::bytes::{put, MOST_IN_THREE};
+use crate::bytes::{put, MAX_IN_THREE};
 use crate::damage::{cut, damage};
 use crate::rng::Rng;
 
@@ -145,8 +145,8 @@ fn with_a_number_too_large(rng: &mut Rng) -> Vec<u8> {
     let mut numbers = history(rng);
     let (record, at) = any_place(rng, &numbers);
     let now = numbers[record][at];
-    let over = rng.within(65_536, MOST_IN_THREE as usize) as u32;
-    numbers[record][at] = rng.pick(&[65_536, 65_536 + now, over, MOST_IN_THREE + 1, u32::MAX]);
+    let over = rng.within(65_536, MAX_IN_THREE as usize) as u32;
+    numbers[record][at] = rng.pick(&[65_536, 65_536 + now, over, MAX_IN_THREE + 1, u32::MAX]);
     plain(&numbers)
 }
 

@@ -8,10 +8,10 @@ use std::thread::{scope, sleep};
 use std::time::{Duration, Instant};
 
 /// Far more than any sheet needs.
-const MOST_TIME: Duration = Duration::from_secs(10);
+const MAX_TIME: Duration = Duration::from_secs(10);
 
 /// The lines of the longest sheet are less than a fifth of this.
-const MOST_PRINTED: u64 = 4 << 20;
+const MAX_PRINTED: u64 = 4 << 20;
 
 /// Between the pieces of a sheet: the program is waiting for more by then.
 const PAUSE: Duration = Duration::from_millis(3);
@@ -86,13 +86,13 @@ fn wait(child: &mut Child, lines: &Path) -> io::Result<Result<(), String>> {
         if let Some(status) = child.try_wait()? {
             return Ok(if status.success() { Ok(()) } else { Err(status.to_string()) });
         }
-        if begun.elapsed() > MOST_TIME {
+        if begun.elapsed() > MAX_TIME {
             end(child)?;
-            return Ok(Err(format!("did not end within {} s", MOST_TIME.as_secs())));
+            return Ok(Err(format!("did not end within {} s", MAX_TIME.as_secs())));
         }
-        if fs::metadata(lines)?.len() > MOST_PRINTED {
+        if fs::metadata(lines)?.len() > MAX_PRINTED {
             end(child)?;
-            return Ok(Err(format!("printed more than {MOST_PRINTED} bytes")));
+            return Ok(Err(format!("printed more than {MAX_PRINTED} bytes")));
         }
         sleep(pause);
         pause = (pause * 5 / 4).min(Duration::from_millis(2));

@@ -6,7 +6,7 @@ use std::time::{Duration, Instant};
 
 /// A sheet that differs by its length alone cannot be made shorter; it is not
 /// tried for ever.
-const MOST_TIME: Duration = Duration::from_secs(20);
+const MAX_TIME: Duration = Duration::from_secs(20);
 
 /// Tries ever smaller sheets until none of them differs any more.
 pub fn shrink(pair: &Pair, sheet: Vec<u8>, way: Way) -> Vec<u8> {
@@ -36,7 +36,7 @@ struct Search<'a> {
 
 impl Search<'_> {
     fn is_late(&self) -> bool {
-        self.begun.elapsed() > MOST_TIME
+        self.begun.elapsed() > MAX_TIME
     }
 
     /// Takes the other sheet if it is smaller and still differs.

@@ -3,7 +3,7 @@ use native.Mathlib.Omega.{arith}
 use mathlib.Core.Bool.{true}
 use mathlib.Core.Path.{_≡_}
 use borrow.Author.Needs.{needs}
-use Rattle.rules.specs.Hall.{Hall, hallOf, mostDesks, mostPositions, mostScreens}
+use Rattle.rules.specs.Hall.{Hall, hallOf, maxDesks, maxPositions, maxScreens}
 use Rattle.rules.specs.Steps.{inRange}
 use Rattle.board.proofs.OpenLaws.{bad-desks, bad-positions, bad-screens, opens, table-short}
 use Rattle.board.proofs.SoundLaws.{said-no, said-yes}
@@ -15,13 +15,13 @@ abbrev H : tie.Start → Hall
 H o = hallOf (o .args .desks) (o .args .screens) (o .args .positions)
 
 -- the three numbers are in range
-desks-in : (a : tie.Else1) → inRange (a .before .before .args .desks) mostDesks ≡ true
+desks-in : (a : tie.Else1) → inRange (a .before .before .args .desks) maxDesks ≡ true
 desks-in a = said-yes (a .before .in-range .ensures) (a .if1 .left)
 
-screens-in : (a : tie.Else2) → inRange (a .before .before .before .before .args .screens) mostScreens ≡ true
+screens-in : (a : tie.Else2) → inRange (a .before .before .before .before .args .screens) maxScreens ≡ true
 screens-in a = said-yes (a .before .in-range2 .ensures) (a .if2 .left)
 
-positions-in : (a : tie.Else3) → inRange (a .before .before .before .before .before .before .args .positions) mostPositions ≡ true
+positions-in : (a : tie.Else3) → inRange (a .before .before .before .before .before .before .args .positions) maxPositions ≡ true
 positions-in a = said-yes (a .before .in-range3 .ensures) (a .if3 .left)
 
 in-range-requires : tie.Need-in-range-requires

@@ -3,14 +3,14 @@ use Prim.Native.Nat.{_*_, _≤_}
 use native.Mathlib.Nat.{mul-le-mul}
 use native.Mathlib.Omega.{arith}
 use borrow.Author.Needs.{needs}
-use Rattle.rules.specs.Hall.{mostAllScreens, mostDesks}
+use Rattle.rules.specs.Hall.{maxAllScreens, maxDesks}
 use Rattle.rules.specs.Table.{widthFor}
 use Rattle.board.proofs.record_start.Statement.{statement}
 use Rattle.board.proofs.record_start.Tie as tie
 
 -- the records before it, at most all those of the largest hall
-before : (c : tie.Start) → c .args .d * widthFor (c .args .s) ≤ mostDesks * widthFor mostAllScreens
-before c = let h : widthFor (c .args .s) ≤ widthFor mostAllScreens = omega arith in mul-le-mul (c .pre .2) h
+before : (c : tie.Start) → c .args .d * widthFor (c .args .s) ≤ maxDesks * widthFor maxAllScreens
+before c = let h : widthFor (c .args .s) ≤ widthFor maxAllScreens = omega arith in mul-le-mul (c .pre .2) h
 
 add-result : tie.Need-add-result
 add-result c = search needs

@@ -2,17 +2,17 @@
 use native.Mathlib.Omega.{arith}
 use mathlib.Core.Path.{_≡_, refl}
 use borrow.Author.Needs.{needs}
-use Rattle.rules.specs.Table.{mostWords}
+use Rattle.rules.specs.Table.{maxWords}
 use Rattle.host.specs.Heard.{Seen}
 use Rattle.host.proofs.CallLaws.{step-heard}
 use Rattle.host.proofs.step_on_bytes.Statement.{statement}
 use Rattle.host.proofs.step_on_bytes.Tie as tie
 
 -- all words of the largest hall are there
-largest : (b : tie.Else2) → let m = b .before .before .before .before in Seen (m .before .before .before .args .table .now) (m .looked-at .result) mostWords
+largest : (b : tie.Else2) → let m = b .before .before .before .before in Seen (m .before .before .before .args .table .now) (m .looked-at .result) maxWords
 largest b =
     let s = b .before .before in
-    let all : s .seen .result ≡ mostWords = omega (arith, s .seen .ensures .fit, s .before .before .looked-at .ensures .most) in
+    let all : s .seen .result ≡ maxWords = omega (arith, s .seen .ensures .fit, s .before .before .looked-at .ensures .most) in
     rw all at (s .seen .ensures)
 
 looked-at-requires : tie.Need-looked-at-requires

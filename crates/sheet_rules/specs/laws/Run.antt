@@ -12,7 +12,7 @@ use Rattle.rules.specs.Table.{TableDone, openTable, openedTable, runTable, step
 use Rattle.rules.specs.Numbers.{Got, Refusal, got, refusalOf, refused}
 use Rattle.rules.specs.laws.Effect.{in-range}
 use Rattle.rules.specs.laws.TableSteps.{accepted-open}
-use Rattle.sheet_rules.specs.Sheet.{Record, Records, callOf, callsIn, codeOf, complete, headed, headerAt, isCode, lentTable, more, mostBytes, onward}
+use Rattle.sheet_rules.specs.Sheet.{Record, Records, callOf, callsIn, codeOf, complete, headed, headerAt, isCode, lentTable, more, maxBytes, onward}
 use Rattle.sheet_rules.specs.Sheet.{opened, openedIf, openingNumber, reading, recordAt, recordFor, recordsAt, stop, unopened}
 use Rattle.sheet_rules.specs.Tally.{Tally, counted, countsIn, tallied, zeros}
 use Rattle.sheet_rules.specs.Lines.{answerLine, endLine, endingLine, eventLines, line, linesFrom, linesOf, printed}
@@ -30,7 +30,7 @@ unopened-not-opened e = let z : _≡_ {A = ℕ} 0 1 = cc in omega arith
 
 opened-from : (sheet : List ℕ) (hall : Hall) (records : Records) → reading sheet ≡ opened hall records → Opened sheet hall records
 unfolding reading
-opened-from sheet hall records e = by-length (leb (length sheet) mostBytes) e
+opened-from sheet hall records e = by-length (leb (length sheet) maxBytes) e
   where
     by-number : (found : Hall) (next n : ℕ) → openingNumber found ≡ n
         → openedIf n found (recordsAt (length sheet) sheet next) ≡ opened hall records

@@ -1,6 +1,6 @@
 //! Reads a day sheet from standard input and prints its lines.
 
-use reference::sheet::{printed, MOST_BYTES};
+use reference::sheet::{printed, MAX_BYTES};
 use std::io::{self, Read, Write};
 use std::process::ExitCode;
 
@@ -16,7 +16,7 @@ fn main() -> ExitCode {
 
 /// One byte more than the longest sheet is enough to know that it is too long.
 fn run() -> io::Result<()> {
-    let mut sheet = Vec::with_capacity(MOST_BYTES + 1);
-    io::stdin().take(MOST_BYTES as u64 + 1).read_to_end(&mut sheet)?;
+    let mut sheet = Vec::with_capacity(MAX_BYTES + 1);
+    io::stdin().take(MAX_BYTES as u64 + 1).read_to_end(&mut sheet)?;
     io::stdout().write_all(&printed(&sheet))
 }

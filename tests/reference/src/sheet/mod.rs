@@ -14,7 +14,7 @@ use self::record::{read_fields, step};
 use super::{answer, open};
 
 /// The longest sheet that is read.
-pub const MOST_BYTES: usize = 65_536;
+pub const MAX_BYTES: usize = 65_536;
 
 /// The largest hall's need, 2,387 words: no opening of a sheet is refused
 /// with 4, and no step after it with 5.
@@ -56,7 +56,7 @@ impl Run {
     }
 
     fn whole(&mut self, sheet: &[u8]) -> Result<(), Stop> {
-        if sheet.len() > MOST_BYTES {
+        if sheet.len() > MAX_BYTES {
             return Err(stop_at(0)(Fault::SheetLong));
         }
         let mut reader = Reader::new(sheet);

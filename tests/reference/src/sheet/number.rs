@@ -11,7 +11,7 @@ pub enum Fault {
     SheetLong = 18,
 }
 
-const MOST_GROUPS: u32 = 3;
+const MAX_GROUPS: u32 = 3;
 
 pub struct Reader<'a> {
     rest: &'a [u8],
@@ -29,7 +29,7 @@ impl<'a> Reader<'a> {
     /// Zero groups at the high end are allowed, up to the third byte.
     pub fn number(&mut self) -> Result<u16, Fault> {
         let mut number = 0;
-        for group in 0..MOST_GROUPS {
+        for group in 0..MAX_GROUPS {
             let (&byte, rest) = self.rest.split_first().ok_or(Fault::SheetShort)?;
             self.rest = rest;
             number |= u32::from(byte & 0x7F) << (7 * group);
