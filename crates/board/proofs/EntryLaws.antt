@@ -11,12 +11,12 @@ use Rattle.rules.specs.Table.{hallIn, recordStart, recordWidth, sound, startFor
 use Rattle.rules.specs.laws.Effect.{in-range}
 use Rattle.rules.specs.laws.TableSteps.{Known, asked, known, record-within, refused-step, unsound-step}
 use Rattle.rules.specs.laws.Window.{deskIn}
+use Rattle.reply.specs.Answer.{told}
+use Rattle.board.specs.Entry.{entryOf, placeOf}
 use Rattle.reply.specs.declared.Reply.{Reply}
 use Rattle.reply.specs.declared.Reply.the-variants.{NoDesk, Unsound}
-use Rattle.reply.specs.Answer.{told}
 use Rattle.board.specs.declared.Place.{Place}
 use Rattle.board.specs.declared.Entry.the-variants.{At, No}
-use Rattle.board.specs.Entry.{entryOf, placeOf}
 
 -- the end of a record is the start of the next
 pub next-start : (H : Hall) (d : ℕ) → 1 ≤ d → startFor (H .positions) (allScreens H) d ≡ recordStart H d + recordWidth H

@@ -10,12 +10,12 @@ use borrow.Rule.Slice.PartMut.{mid-len, midOf, post-is, putMid}
 use Rattle.rules.specs.Hall.{Hall, hallLimits, maxDesks, maxPositions, maxScreens}
 use Rattle.rules.specs.Steps.{Answer, firstNo, inRange}
 use Rattle.rules.specs.Table.{headerWords, need, openQuestions, openTable}
-use Rattle.rules.specs.laws.Tables.{hall-opens}
 use Rattle.rules.specs.laws.TableSteps.{accepted-open, refused-open}
+use Rattle.rules.specs.laws.Tables.{hall-opens}
 use Rattle.rules.specs.laws.Words16.{by-open}
+use Rattle.reply.specs.Answer.{answerOf, told}
 use Rattle.reply.specs.declared.Reply.{Reply}
 use Rattle.reply.specs.declared.Reply.the-variants.{Accepted, BadDesks, BadPositions, BadScreens, TableShort}
-use Rattle.reply.specs.Answer.{answerOf, told}
 
 -- its questions, in order, about a table
 module _ (H : Hall) (t : List ℕ) where

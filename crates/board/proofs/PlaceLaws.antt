@@ -14,9 +14,9 @@ use Rattle.rules.specs.laws.Effect.{in-range}
 use Rattle.rules.specs.laws.ScreenIndex.{screen-in}
 use Rattle.rules.specs.laws.TableSteps.{desk-word, held-word, record-sound, shown-word}
 use Rattle.desk.specs.Record.{Encoded}
+use Rattle.board.specs.Entry.{screenFor}
 use Rattle.desk.proofs.DeskTie.{sound-encoded}
 use Rattle.board.specs.declared.Place.{Place}
-use Rattle.board.specs.Entry.{screenFor}
 use Rattle.board.proofs.EntryLaws.{Entered}
 
 -- ---- screen i of desk d, both from 1: its word is word a

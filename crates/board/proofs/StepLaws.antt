@@ -14,13 +14,13 @@ use Rattle.rules.specs.Hall.{Desk, Hall, allScreens, deskOf, hallLimits}
 use Rattle.rules.specs.Steps.{Call, Collect, Collected, Drop, Retire, Swap, Take, collect, collectSeeing, firstNo, inRange, nextScreens, perform, retire}
 use Rattle.rules.specs.Steps.{retireQuestions}
 use Rattle.rules.specs.Table.{decode, decodeDesk, encodeDesk, hallIn, headerWords, positionWord, putRecord, recordOf, scannedPlace, stepTable, written}
-use Rattle.rules.specs.laws.Tables.{some-screens}
 use Rattle.rules.specs.laws.TableSteps.{accepted-step, asked, collect-seeing, owed-word, refused-step, shown-at}
+use Rattle.rules.specs.laws.Tables.{some-screens}
+use Rattle.desk.specs.Record.{Retired}
+use Rattle.reply.specs.Answer.{answerOf, told}
 use Rattle.reply.specs.declared.Reply.{Reply}
 use Rattle.reply.specs.declared.Reply.the-variants.{Accepted, NoPosition, NoScreen, Owing, PositionEmpty, ScreenEmpty, ScreenFull}
-use Rattle.reply.specs.Answer.{answerOf, told}
 use Rattle.marks.proofs.Scan.{ended, rest}
-use Rattle.desk.specs.Record.{Retired}
 use Rattle.desk.proofs.DeskTie.{scanned-below}
 use Rattle.board.specs.declared.Place.{Place}
 use Rattle.board.proofs.EntryLaws.{Entered}

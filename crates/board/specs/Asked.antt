@@ -1,5 +1,5 @@
 -- The rules' call for each case of `Call`. Document 01, "The five steps".
-use Rattle.rules.specs.Steps.{Call as Asked, Take as take, Drop as drop, Swap as swap, Retire as retire, Collect as collect}
+use Rattle.rules.specs.Steps.{Call as Asked, Collect as collect, Drop as drop, Retire as retire, Swap as swap, Take as take}
 use Rattle.board.specs.declared.Call.{Call}
 use Rattle.board.specs.declared.Call.the-variants.{Take, Drop, Swap, Retire, Collect}
 

@@ -11,13 +11,14 @@ ghost use mathlib.Core.Path.{_≡_};
 ghost use Prim.Native.Nat.{_+_, _-_, _*_, _≤_, _<_};
 ghost use lib.ListN.{length, drop as dropWords};
 ghost use Rattle.rules.specs.Hall.{hallLimits, hallOf, maxAllScreens, maxDesks, maxPositions};
+ghost use Rattle.rules.specs.Lists.{chunks, every};
 ghost use Rattle.rules.specs.Steps.{Collect, Drop, Retire, Swap, Take, inRange};
-ghost use Rattle.rules.specs.Table.{everyRecord, inLimits, need as hallNeed, openTable, pieces, recordSound, sound as soundTable, stepTable};
-ghost use Rattle.rules.specs.Table.{headerWords, maxWords, startFor, widthFor};
+ghost use Rattle.rules.specs.Table.{headerWords, inLimits, maxWords, need as hallNeed, openTable, recordSound, sound as soundTable, startFor, stepTable};
+ghost use Rattle.rules.specs.Table.{widthFor};
 ghost use Rattle.rules.specs.laws.Window.{deskIn};
 ghost use Rattle.reply.specs.Answer.{answerOf, told};
-ghost use Rattle.board.specs.Entry.{entryOf, screenFor};
 ghost use Rattle.board.specs.Asked.{callOf};
+ghost use Rattle.board.specs.Entry.{entryOf, screenFor};
 ghost use Rattle.board.specs.Opening.{OpeningAnswer};
 
 // Where things stand in a table: P, the desks.
@@ -118,7 +119,7 @@ pub fn sound(t: &[u16]) -> bool
 // Whether the record of each desk is sound, in a table that is long enough.
 fn sound_records(t: &[u16], p: usize, l: usize, s: usize) -> bool
     requires { ⌜ (p ≤ maxDesks) × (l ≤ maxPositions) × (s ≤ maxAllScreens) × (startFor l s p ≤ length (now t)) ⌝ }
-    ensures { λ r. ⌜ r ≡ everyRecord (recordSound s) (pieces p (widthFor s) (dropWords (headerWords + l + s) (now (t .entry)))) ⌝ }
+    ensures { λ r. ⌜ r ≡ every (recordSound s) (chunks p (widthFor s) (dropWords (headerWords + l + s) (now (t .entry)))) ⌝ }
 {
     let size = LIST + 2 * s;
     let mut d = 0;

@@ -5,18 +5,18 @@ use mathlib.Core.List.{List, _++_}
 use mathlib.Core.Path.{_≡_, refl, sym, ap, _∙_}
 use lib.ListN.{length, take, drop}
 use lib.Seq.{length-take-le, take-at}
+use Rattle.rules.specs.Bytes.{IsBytes, Words16, laidOver, reply, stepBytes, wordsOfBytes}
 use Rattle.rules.specs.Hall.{hallLimits}
 use Rattle.rules.specs.Steps.{Call}
 use Rattle.rules.specs.Table.{TableDone, hallIn, stepTable}
-use Rattle.rules.specs.Bytes.{IsBytes, Words16, laidOver, reply, stepBytes, wordsOfBytes}
 use Rattle.rules.specs.laws.Bytes.{words-are-16}
 use Rattle.rules.specs.laws.Decoding.{small-take}
 use Rattle.rules.specs.laws.Front.{front-laid-back, step-on-front}
 use Rattle.rules.specs.laws.Window.{Rewritten, deskIn, step-rewritten}
 use Rattle.rules.specs.laws.Words16.{step-length, step-refused}
-use Rattle.reply.specs.declared.Reply.{Reply}
 use Rattle.reply.specs.Answer.{answerOf, told}
 use Rattle.host.specs.Heard.{Front, Seen, Told, heard}
+use Rattle.reply.specs.declared.Reply.{Reply}
 
 -- ---- the board was lent the first n words of a buffer, and left as many others in their place
 module _ (n : ℕ) (buffer after : List ℕ) (room : n ≤ length buffer) (as-long : length after ≡ length (take n buffer)) where

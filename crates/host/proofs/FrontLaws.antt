@@ -5,12 +5,12 @@ use mathlib.Core.Bool.{true}
 use mathlib.Core.List.{List, [], _∷_}
 use mathlib.Core.Path.{_≡_, refl}
 use lib.ListN.{length, getD}
+use Rattle.rules.specs.Bytes.{wordsOfBytes}
 use Rattle.rules.specs.Hall.{Hall, hallLimits}
 use Rattle.rules.specs.Table.{hallIn, headerWords, inLimits, need}
-use Rattle.rules.specs.Bytes.{wordsOfBytes}
-use Rattle.rules.specs.laws.Tables.{limits-fit}
-use Rattle.rules.specs.laws.Prefix.{need-at-most}
 use Rattle.rules.specs.laws.Bytes.{words-length}
+use Rattle.rules.specs.laws.Prefix.{need-at-most}
+use Rattle.rules.specs.laws.Tables.{limits-fit}
 use Rattle.host.specs.Heard.{Front}
 
 pub header-alone : (H : Hall) → (inLimits hallLimits H ≡ true → ⊥) → Front H headerWords

@@ -6,19 +6,19 @@ use mathlib.Core.Path.{_≡_, refl, sym, ap, ap₂, _∙_}
 use lib.ListN.{length, take, drop, replicate, length-replicate}
 use lib.Seq.{length-take-le}
 use borrow.Rule.Slice.PartMut.{mid-len, midOf, post-is, putMid}
+use Rattle.rules.specs.Bytes.{IsBytes, bytesOfWords, laidOver, openBytes, reply, wordsOfBytes}
 use Rattle.rules.specs.Hall.{Hall, hallLimits}
 use Rattle.rules.specs.Steps.{firstNo}
 use Rattle.rules.specs.Table.{TableDone, headerWords, maxWords, need, openQuestions, openTable}
-use Rattle.rules.specs.Bytes.{IsBytes, bytesOfWords, laidOver, openBytes, reply, wordsOfBytes}
 use Rattle.rules.specs.laws.Bytes.{laid-back, words-length}
 use Rattle.rules.specs.laws.Front.{laid-front}
 use Rattle.rules.specs.laws.Prefix.{need-at-most}
-use Rattle.rules.specs.laws.Tables.{hall-opens, limits-fit}
 use Rattle.rules.specs.laws.TableSteps.{accepted-open}
-use Rattle.reply.specs.declared.Reply.{Reply}
+use Rattle.rules.specs.laws.Tables.{hall-opens, limits-fit}
 use Rattle.reply.specs.Answer.{answerOf}
-use Rattle.board.proofs.OpenLaws.{is-opened, not-opened}
 use Rattle.host.specs.Heard.{heard}
+use Rattle.reply.specs.declared.Reply.{Reply}
+use Rattle.board.proofs.OpenLaws.{is-opened, not-opened}
 
 -- the header's three words
 abbrev pub header : Hall → List ℕ

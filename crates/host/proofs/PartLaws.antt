@@ -7,9 +7,9 @@ use mathlib.Core.Path.{_≡_, ap, _∙_}
 use lib.ListN.{length, take, drop, length-drop, drop-of-length-le}
 use lib.Seq.{length-take-le, take-take}
 use borrow.Rule.Slice.PartMut.{mid-len, midOf, putMid}
+use Rattle.rules.specs.Bytes.{IsBytes, laidOver, wordsOfBytes}
 use Rattle.rules.specs.Hall.{allScreens, maxAllScreens, maxDesks, maxPositions}
 use Rattle.rules.specs.Table.{hallIn, headerWords, recordStart, recordWidth, startFor}
-use Rattle.rules.specs.Bytes.{IsBytes, laidOver, wordsOfBytes}
 use Rattle.rules.specs.laws.TableSteps.{record-within}
 use Rattle.rules.specs.laws.Window.{Rewritten, partLaid, rewritten-laid}
 use Rattle.board.proofs.EntryLaws.{next-start}

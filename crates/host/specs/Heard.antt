@@ -4,10 +4,10 @@ use mathlib.Core.Bool.{true}
 use mathlib.Core.List.{List}
 use mathlib.Core.Path.{_≡_}
 use lib.ListN.{length, take}
+use Rattle.rules.specs.Bytes.{BytesDone, laidOver, reply, wordsOfBytes}
 use Rattle.rules.specs.Hall.{Hall, hallLimits}
 use Rattle.rules.specs.Steps.{Call}
 use Rattle.rules.specs.Table.{headerWords, inLimits, maxWords, need, stepTable}
-use Rattle.rules.specs.Bytes.{BytesDone, laidOver, reply, wordsOfBytes}
 
 -- the words of a small buffer
 abbrev pub fewWords : ℕ

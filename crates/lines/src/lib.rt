@@ -1,6 +1,6 @@
 ghost use mathlib.Core.List.{[], _∷_, _++_};
+ghost use Rattle.sheet_rules.specs.Lines.{decimal, endLine, line};
 ghost use Rattle.sheet_rules.specs.Tally.{tallyOf};
-ghost use Rattle.sheet_rules.specs.Lines.{decimal, line, endLine};
 ghost use Rattle.lines.specs.Put.{Fits, Put};
 
 // Each function puts bytes at a place of the buffer that its caller lends, and answers the place after them.

@@ -5,8 +5,8 @@ ghost use mathlib.Core.Path.{_≡_};
 ghost use mathlib.Core.Bool.{true};
 ghost use Prim.Native.Nat.{_≤_};
 ghost use lib.ListN.{length};
-ghost use Rattle.sheet_rules.specs.Sheet.{lentTable};
 ghost use Rattle.sheet.specs.Turn.{recordRoom, sheetTable};
+ghost use Rattle.sheet_rules.specs.Sheet.{lentTable};
 
 // Standard output.
 const OUTPUT: i32 = 1;

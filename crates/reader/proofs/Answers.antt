@@ -2,8 +2,8 @@
 use Prim.Native.Nat.{ℕ}
 use mathlib.Core.Path.{_≡_, sym, ap, _∙_}
 use Rattle.rules.specs.Numbers.{Got, andThen}
-use Rattle.reader.specs.declared.Number.{Number}
 use Rattle.reader.specs.Told.{toldNumber}
+use Rattle.reader.specs.declared.Number.{Number}
 
 -- what was found, from the contract and the answer that was matched
 pub found : {answer matched : Number} {reading : Got ℕ} → toldNumber answer ≡ reading → answer ≡ matched → reading ≡ toldNumber matched

@@ -1,8 +1,8 @@
 ghost use mathlib.Core.Path.{_≡_};
 ghost use Prim.Native.Nat.{_≤_, _<_};
-ghost use Rattle.rules.specs.Numbers.{number, withinLimit, maxNumber};
-ghost use Rattle.sheet_rules.specs.Sheet.{follows as followsCode, fieldAt, fieldsAt, withCode, recordAt, headerAt};
-ghost use Rattle.reader.specs.Told.{numberOf, toldNumber, toldRecord, toldHeader};
+ghost use Rattle.rules.specs.Numbers.{maxNumber, number, withinLimit};
+ghost use Rattle.sheet_rules.specs.Sheet.{fieldAt, fieldsAt, follows as followsCode, headerAt, recordAt, withCode};
+ghost use Rattle.reader.specs.Told.{numberOf, toldHeader, toldNumber, toldRecord};
 
 // Why a number is refused.
 pub enum Fault {

@@ -6,19 +6,19 @@ use mathlib.Core.Bool.{false}
 use mathlib.Core.List.{List, _++_, append-nil}
 use lib.ListN.{length}
 use Rattle.rules.specs.Hall.{Hall, hallLimits}
+use Rattle.rules.specs.Numbers.{got, refusalOf}
 use Rattle.rules.specs.Steps.{Answer}
 use Rattle.rules.specs.Table.{TableDone, openIf, openTable}
-use Rattle.rules.specs.Numbers.{got, refusalOf}
+use Rattle.lines.specs.Put.{Put}
 use Rattle.reply.specs.Answer.{answerOf, told}
-use Rattle.reply.specs.declared.Reply.{Reply}
+use Rattle.sheet_rules.specs.Lines.{answerLine, endLine, line, linesFrom, linesOf, printed}
 use Rattle.sheet_rules.specs.Sheet.{headerAt, lentTable, maxBytes, opened, openedIf, openingNumber, reading, recordsAt, unopened}
 use Rattle.sheet_rules.specs.Tally.{zeros}
-use Rattle.sheet_rules.specs.Lines.{answerLine, endLine, line, linesFrom, linesOf, printed}
 use Rattle.sheet_rules.specs.laws.Sheet.{header-got, opening-answer, short-enough}
-use Rattle.lines.specs.Put.{Put}
+use Rattle.sheet.specs.Turn.{Started, callsOf, finishedAt, startTable}
+use Rattle.reply.specs.declared.Reply.{Reply}
 use Rattle.tally.specs.declared.Tally.{Tally}
 use Rattle.sheet.specs.declared.State.{State}
-use Rattle.sheet.specs.Turn.{Started, callsOf, finishedAt, startTable}
 use Rattle.sheet.proofs.TurnLaws.{put-first, put-rest, put-within}
 
 -- before anything is read, and at the first record

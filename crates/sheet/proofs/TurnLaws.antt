@@ -9,23 +9,23 @@ use mathlib.Core.List.{List, [], _∷_, _++_, append-nil}
 use lib.ListN.{length, take, drop, length-append}
 use lib.Seq.{take-at, drop-at}
 use Rattle.rules.specs.Hall.{hallLimits}
+use Rattle.rules.specs.Numbers.{got, refusalOf, refused}
 use Rattle.rules.specs.Steps.{Answer}
 use Rattle.rules.specs.Table.{TableDone, stepTable}
-use Rattle.rules.specs.Numbers.{got, refusalOf, refused}
-use Rattle.reply.specs.Answer.{answerOf, told}
-use Rattle.reply.specs.declared.Reply.{Reply}
-use Rattle.sheet_rules.specs.Sheet.{Record, Records, callOf, callsIn, complete, more, recordAt, recordsAt, stop}
-use Rattle.sheet_rules.specs.Tally.{counted}
-use Rattle.sheet_rules.specs.Lines.{answerLine, endLine, line, linesFrom}
-use Rattle.sheet_rules.specs.laws.Sheet.{record-got, records-end, records-more, records-stop}
-use Rattle.sheet_rules.specs.laws.Tally.{counted-by-code}
 use Rattle.lines.specs.Put.{Put, laid}
 use Rattle.lines.specs.laws.Put.{put-none, put-on}
+use Rattle.reply.specs.Answer.{answerOf, told}
+use Rattle.sheet_rules.specs.Lines.{answerLine, endLine, line, linesFrom}
+use Rattle.sheet_rules.specs.Sheet.{Record, Records, callOf, callsIn, complete, more, recordAt, recordsAt, stop}
+use Rattle.sheet_rules.specs.Tally.{counted}
+use Rattle.sheet_rules.specs.laws.Sheet.{record-got, records-end, records-more, records-stop}
+use Rattle.sheet_rules.specs.laws.Tally.{counted-by-code}
 use Rattle.tally.specs.Count.{eventOf, tallyIs}
-use Rattle.tally.specs.declared.Tally.{Tally}
-use Rattle.sheet.specs.declared.State.{State}
 use Rattle.sheet.specs.Turn.{Filling, Onward, Turn, callsToCome, finishedAt, recordRoom, toCome, turnsLeft}
 use Rattle.sheet.specs.laws.Turns.{piece-none, piece-on}
+use Rattle.reply.specs.declared.Reply.{Reply}
+use Rattle.tally.specs.declared.Tally.{Tally}
+use Rattle.sheet.specs.declared.State.{State}
 
 -- ---- Bytes put at the start of a buffer.
 module _ {out outAfter bytes : List ℕ} {next : ℕ} (put : Put out outAfter 0 bytes next) where

@@ -8,9 +8,9 @@ use lib.ListN.{length, take, drop}
 use Rattle.rules.specs.Hall.{hallLimits}
 use Rattle.rules.specs.Steps.{Call}
 use Rattle.rules.specs.Table.{endTable, openTable}
-use Rattle.sheet_rules.specs.Sheet.{Reading, callsIn, lentTable, opened, reading, recordsAt, unopened}
-use Rattle.sheet_rules.specs.Lines.{linesFrom, printed}
 use Rattle.lines.specs.Put.{Put}
+use Rattle.sheet_rules.specs.Lines.{linesFrom, printed}
+use Rattle.sheet_rules.specs.Sheet.{Reading, callsIn, lentTable, opened, reading, recordsAt, unopened}
 use Rattle.tally.specs.Count.{tallyIs}
 use Rattle.sheet.specs.declared.State.{State}
 

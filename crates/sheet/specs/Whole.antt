@@ -6,9 +6,9 @@ use mathlib.Core.List.{List, _++_}
 use lib.ListN.{length, take}
 use native.Mathlib.Omega.{arith}
 use Rattle.sheet_rules.specs.Lines.{printed}
-use Rattle.sheet.specs.declared.State.{State}
 use Rattle.sheet.specs.Turn.{Left, Started, Turns, bytesOf, lastState, lastTable, sheetTable}
 use Rattle.sheet.specs.laws.Turns.{all-printed, left-at-most, table-at-end, table-at-start, table-kept, turns-few, turns-piece}
+use Rattle.sheet.specs.declared.State.{State}
 
 module _ (sheet out : List ℕ) (first : State) (table outAfter : List ℕ) (put : ℕ) (started : Started sheet out first table outAfter put)
     (turns : List Left) (each : Turns sheet first table turns) where

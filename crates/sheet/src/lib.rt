@@ -24,11 +24,11 @@ ghost use Prim.Native.Nat.{_+_, _≤_};
 ghost use lib.ListN.{length};
 ghost use Rattle.rules.specs.Hall.{hallLimits};
 ghost use Rattle.rules.specs.Table.{stepTable};
-ghost use Rattle.reply.specs.Answer.{told};
-ghost use Rattle.sheet_rules.specs.Sheet.{callOf, lentTable};
-ghost use Rattle.sheet_rules.specs.Lines.{line, endLine};
-ghost use Rattle.reader.specs.Told.{recordOf};
 ghost use Rattle.lines.specs.Put.{Put};
+ghost use Rattle.reader.specs.Told.{recordOf};
+ghost use Rattle.reply.specs.Answer.{told};
+ghost use Rattle.sheet_rules.specs.Lines.{endLine, line};
+ghost use Rattle.sheet_rules.specs.Sheet.{callOf, lentTable};
 ghost use Rattle.tally.specs.Count.{tallyIs};
 ghost use Rattle.sheet.specs.Turn.{Filling, Onward, Started, Turn, endRoom, finishedAt, recordRoom};
 

@@ -10,8 +10,8 @@ use Rattle.rules.specs.Steps.{inRange}
 use Rattle.rules.specs.Table.{hallIn, sound, startFor}
 use Rattle.rules.specs.laws.Effect.{in-range}
 use Rattle.rules.specs.laws.TableSteps.{known}
-use Rattle.board.specs.declared.Entry.{Entry}
 use Rattle.board.specs.Entry.{entryOf}
+use Rattle.board.specs.declared.Entry.{Entry}
 use Rattle.board.proofs.SoundLaws.{said-no, said-yes}
 use Rattle.board.proofs.enter.Statement.{statement}
 use Rattle.board.proofs.enter.Tie as tie

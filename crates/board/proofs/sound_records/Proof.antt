@@ -8,14 +8,15 @@ use mathlib.Core.List.{List}
 use mathlib.Core.Path.{_≡_, sym, _∙_, ap}
 use lib.ListN.{take, drop}
 use borrow.Author.Needs.{needs}
-use Rattle.rules.specs.Table.{everyRecord, headerWords, pieces, recordSound, widthFor}
+use Rattle.rules.specs.Lists.{chunks, every}
+use Rattle.rules.specs.Table.{headerWords, recordSound, widthFor}
 use Rattle.board.proofs.SoundLaws.{one-bad, one-more, record-at, said-no, said-yes}
 use Rattle.board.proofs.sound_records.Statement.{statement}
 use Rattle.board.proofs.sound_records.Tie as tie
 
 -- the records before d are sound
 abbrev Inv-loop : tie.InvT-loop
-Inv-loop t p l s size d₀ d = (d ≤ p) × (everyRecord (recordSound s) (pieces d (widthFor s) (drop (headerWords + l + s) t)) ≡ true)
+Inv-loop t p l s size d₀ d = (d ≤ p) × (every (recordSound s) (chunks d (widthFor s) (drop (headerWords + l + s) t)) ≡ true)
 
 abbrev μ-loop : tie.MeasureT-loop
 μ-loop t p l s size d₀ d = p - d

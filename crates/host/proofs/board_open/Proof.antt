@@ -4,8 +4,8 @@ use native.Mathlib.Omega.{arith}
 use mathlib.Core.List.{List}
 use mathlib.Core.Path.{_≡_, _∙_}
 use borrow.Author.Needs.{needs}
-use Rattle.rules.specs.Hall.{Hall, hallLimits, hallOf}
 use Rattle.rules.specs.Bytes.{wordsOfBytes}
+use Rattle.rules.specs.Hall.{Hall, hallLimits, hallOf}
 use Rattle.rules.specs.Table.{openTable}
 use Rattle.reply.specs.Answer.{answerOf}
 use Rattle.host.proofs.OpenLaws.{Room, opened-heard, refusal-heard, room}

@@ -5,8 +5,8 @@ use mathlib.Core.Bool.{Bool, true, false, cond}
 use mathlib.Core.List.{List, [], _∷_, _++_}
 use lib.ListN.{length, length-append}
 use lib.Dec.{ltb}
-use Rattle.sheet_rules.specs.Tally.{Tally}
 use Rattle.sheet_rules.specs.Lines.{decimal, digits, endLine, line, spaced}
+use Rattle.sheet_rules.specs.Tally.{Tally}
 
 digits-length : (most value : ℕ) → length (digits most value) ≤ most
 digits-length zero value = omega arith

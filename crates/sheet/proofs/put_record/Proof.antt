@@ -4,9 +4,9 @@ use mathlib.Core.Path.{_≡_, sym, ap, _∙_}
 use Prim.Native.Nat.{ℕ}
 use borrow.Author.Needs.{needs}
 use Rattle.rules.specs.Numbers.{got, refusalOf, refused}
-use Rattle.sheet_rules.specs.Sheet.{recordAt}
-use Rattle.reader.specs.Told.{recordOf, toldRecord}
 use Rattle.lines.specs.laws.Longest.{line-length}
+use Rattle.reader.specs.Told.{recordOf, toldRecord}
+use Rattle.sheet_rules.specs.Sheet.{recordAt}
 use Rattle.sheet.proofs.TurnLaws.{ended, finished-onward, ran, ran-onward, stopped}
 use Rattle.sheet.proofs.put_record.Statement.{statement}
 use Rattle.sheet.proofs.put_record.Tie as tie

@@ -2,8 +2,8 @@
 use native.Mathlib.Omega.{arith}
 use mathlib.Core.Logic.{⊎-elim}
 use borrow.Author.Needs.{needs}
-use Rattle.sheet_rules.specs.laws.Sheet.{asks-collect}
 use Rattle.reader.specs.Told.{recordOf}
+use Rattle.sheet_rules.specs.laws.Sheet.{asks-collect}
 use Rattle.sheet.proofs.CallLaws.{is-drop, is-retire, is-swap, is-take}
 use Rattle.sheet.proofs.run_record.Statement.{statement}
 use Rattle.sheet.proofs.run_record.Tie as tie

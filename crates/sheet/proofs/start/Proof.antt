@@ -6,11 +6,11 @@ use borrow.Author.Needs.{needs}
 use Rattle.rules.specs.Hall.{hallLimits}
 use Rattle.rules.specs.Numbers.{got, refusalOf, refused}
 use Rattle.rules.specs.Table.{openTable}
+use Rattle.lines.specs.laws.Longest.{line-length}
+use Rattle.reader.specs.Told.{headerOf, toldHeader}
 use Rattle.reply.specs.Answer.{told}
 use Rattle.sheet_rules.specs.Sheet.{headerAt, lentTable}
 use Rattle.sheet_rules.specs.laws.Sheet.{short-enough, too-long}
-use Rattle.reader.specs.Told.{headerOf, toldHeader}
-use Rattle.lines.specs.laws.Longest.{line-length}
 use Rattle.sheet.proofs.StartLaws.{started-opened, started-refused, started-stopped}
 use Rattle.sheet.proofs.start.Statement.{statement}
 use Rattle.sheet.proofs.start.Tie as tie

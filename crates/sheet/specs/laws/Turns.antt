@@ -8,8 +8,8 @@ use lib.ListN.{length}
 use Rattle.rules.specs.Hall.{hallLimits}
 use Rattle.rules.specs.Steps.{Call}
 use Rattle.rules.specs.Table.{endTable, stepTable}
-use Rattle.sheet.specs.declared.State.{State}
 use Rattle.sheet.specs.Turn.{Left, Onward, Piece, Started, Turns, bytesOf, callsToCome, lastState, lastTable, sheetTable, toCome, turnsLeft}
+use Rattle.sheet.specs.declared.State.{State}
 
 end-on : (table : List ℕ) (calls more : List Call) → endTable hallLimits table (calls ++ more) ≡ endTable hallLimits (endTable hallLimits table calls) more
 end-on table [] more = refl

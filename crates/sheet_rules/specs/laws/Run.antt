@@ -7,15 +7,15 @@ use mathlib.Core.List.{List, _++_, append-assoc}
 use lib.ListN.{length}
 use lib.Dec.{leb, ltb}
 use Rattle.rules.specs.Hall.{Hall, hallLimits}
+use Rattle.rules.specs.Numbers.{Got, Refusal, got, refusalOf, refused}
 use Rattle.rules.specs.Steps.{Event}
 use Rattle.rules.specs.Table.{TableDone, openTable, openedTable, runTable, stepTable}
-use Rattle.rules.specs.Numbers.{Got, Refusal, got, refusalOf, refused}
 use Rattle.rules.specs.laws.Effect.{in-range}
 use Rattle.rules.specs.laws.TableSteps.{accepted-open}
-use Rattle.sheet_rules.specs.Sheet.{Record, Records, callOf, callsIn, codeOf, complete, headed, headerAt, isCode, lentTable, more, maxBytes, onward}
+use Rattle.sheet_rules.specs.Lines.{answerLine, endLine, endingLine, eventLines, line, linesFrom, linesOf, printed}
+use Rattle.sheet_rules.specs.Sheet.{Record, Records, callOf, callsIn, codeOf, complete, headed, headerAt, isCode, lentTable, maxBytes, more, onward}
 use Rattle.sheet_rules.specs.Sheet.{opened, openedIf, openingNumber, reading, recordAt, recordFor, recordsAt, stop, unopened}
 use Rattle.sheet_rules.specs.Tally.{Tally, counted, countsIn, tallied, zeros}
-use Rattle.sheet_rules.specs.Lines.{answerLine, endLine, endingLine, eventLines, line, linesFrom, linesOf, printed}
 use Rattle.sheet_rules.specs.laws.Sheet.{record-got}
 use Rattle.sheet_rules.specs.laws.Tally.{tally-from-zeros}
 
