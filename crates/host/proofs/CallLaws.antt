@@ -5,13 +5,13 @@ use mathlib.Core.List.{List, _++_}
 use mathlib.Core.Path.{_≡_, refl, sym, ap, _∙_}
 use lib.ListN.{length, take, drop}
 use lib.Seq.{length-take-le, take-at}
-use Rattle.rules.specs.Bytes.{IsBytes, Words16, laidOver, reply, stepBytes, wordsOfBytes}
+use Rattle.rules.specs.Bytes.{IsBytes, Words16, overwriteWords, reply, stepBytes, wordsOfBytes}
 use Rattle.rules.specs.Hall.{hallLimits}
 use Rattle.rules.specs.Steps.{Call}
 use Rattle.rules.specs.Table.{TableDone, hallIn, stepTable}
 use Rattle.rules.specs.laws.Bytes.{words-are-16}
 use Rattle.rules.specs.laws.Decoding.{small-take}
-use Rattle.rules.specs.laws.Front.{front-laid-back, step-on-front}
+use Rattle.rules.specs.laws.Front.{front-overwritten-back, step-on-front}
 use Rattle.rules.specs.laws.Window.{Rewritten, deskIn, step-rewritten}
 use Rattle.rules.specs.laws.Words16.{step-length, step-refused}
 use Rattle.reply.specs.Answer.{answerOf, told}
@@ -44,12 +44,12 @@ module _ (n : ℕ) (call : Call) (buffer bytes after : List ℕ) (r : Reply) (e 
         let done = step-rewritten hallLimits (take n buffer) (small-take n buffer small) call (sym number-is ∙ accepted) in
         rw (lent-length n buffer after room as-long, lent-is n buffer after room as-long, is, ← read, ap (λ (s : TableDone). s .after) e) done
 
-    pub step-told : {number : ℕ} → number ≡ reply (answerOf r) → {out : List ℕ} → out ≡ laidOver (take n (after ++ drop n buffer)) bytes
+    pub step-told : {number : ℕ} → number ≡ reply (answerOf r) → {out : List ℕ} → out ≡ overwriteWords (take n (after ++ drop n buffer)) bytes
         → Told number call (take n buffer) bytes out
-    step-told answer laid =
+    step-told answer overwriteAt =
         record {
           answer = answer ∙ reply-is;
-          written = λ _. laid ∙ ap (λ (words : List ℕ). laidOver words bytes) (lent-is n buffer after room as-long ∙ ap (λ (d : TableDone). d .after) e);
+          written = λ _. overwriteAt ∙ ap (λ (words : List ℕ). overwriteWords words bytes) (lent-is n buffer after room as-long ∙ ap (λ (d : TableDone). d .after) e);
           refused = λ no-step. absurd (no-step (sym number-is ∙ accepted));
         }
 
@@ -64,8 +64,8 @@ step-heard {m} {n} {number} {bytes} {words} {out} {call} are front seen read don
     (λ i. heard (done .answer i) (left (step .answer .number) refl i))
     ∙ step-on-front hallLimits m bytes are step long (front .header) (front .enough) call (ap (λ (w : List ℕ). stepTable hallLimits w call) lent)
   where
-    left : (k : ℕ) → stepTable hallLimits words call .answer .number ≡ k → out ≡ laidOver (stepTable hallLimits words call .after) bytes
+    left : (k : ℕ) → stepTable hallLimits words call .answer .number ≡ k → out ≡ overwriteWords (stepTable hallLimits words call .after) bytes
     left zero q = done .written q
     left (suc k) q =
         done .refused (λ z. absurd (omega (arith, q, z)))
-        ∙ sym (ap (λ (w : List ℕ). laidOver w bytes) (step-refused hallLimits words call k q .2 ∙ read ∙ seen .front) ∙ front-laid-back m bytes are)
+        ∙ sym (ap (λ (w : List ℕ). overwriteWords w bytes) (step-refused hallLimits words call k q .2 ∙ read ∙ seen .front) ∙ front-overwritten-back m bytes are)

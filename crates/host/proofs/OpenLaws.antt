@@ -6,12 +6,12 @@ use mathlib.Core.Path.{_≡_, refl, sym, ap, ap₂, _∙_}
 use lib.ListN.{length, take, drop, replicate, length-replicate}
 use lib.Seq.{length-take-le}
 use borrow.Rule.Slice.PartMut.{mid-len, midOf, post-is, putMid}
-use Rattle.rules.specs.Bytes.{IsBytes, bytesOfWords, laidOver, openBytes, reply, wordsOfBytes}
+use Rattle.rules.specs.Bytes.{IsBytes, bytesOfWords, overwriteWords, openBytes, reply, wordsOfBytes}
 use Rattle.rules.specs.Hall.{Hall, hallLimits}
 use Rattle.rules.specs.Steps.{firstNo}
 use Rattle.rules.specs.Table.{TableDone, headerWords, maxWords, need, openQuestions, openTable}
-use Rattle.rules.specs.laws.Bytes.{laid-back, words-length}
-use Rattle.rules.specs.laws.Front.{laid-front}
+use Rattle.rules.specs.laws.Bytes.{overwrite-back, words-length}
+use Rattle.rules.specs.laws.Front.{overwrite-front}
 use Rattle.rules.specs.laws.Prefix.{need-at-most}
 use Rattle.rules.specs.laws.TableSteps.{accepted-open}
 use Rattle.rules.specs.laws.Tables.{hall-opens, limits-fit}
@@ -53,14 +53,14 @@ module _ (H : Hall) (bytes : List ℕ) (r : Reply) (e : answerOf r ≡ openTable
     pub refusal-heard : (answerOf r .number ≡ 0 → ⊥) → heard number bytes ≡ openBytes hallLimits H bytes
     unfolding openBytes
     refusal-heard no-opening =
-        let same = ap (λ (d : TableDone). laidOver (d .after) bytes) (not-opened H (wordsOfBytes bytes) r e no-opening) in
-        λ i. heard ((answer ∙ ap reply e) i) ((sym (laid-back bytes are) ∙ same) i)
+        let same = ap (λ (d : TableDone). overwriteWords (d .after) bytes) (not-opened H (wordsOfBytes bytes) r e no-opening) in
+        λ i. heard ((answer ∙ ap reply e) i) ((sym (overwrite-back bytes are) ∙ same) i)
 
     -- the header was laid over the bytes, and then zeros up to the need
-    pub opened-heard : answerOf r .number ≡ 0 → {n : ℕ} → n ≡ need H → {headed zeros : List ℕ} → headed ≡ laidOver (header H) bytes
+    pub opened-heard : answerOf r .number ≡ 0 → {n : ℕ} → n ≡ need H → {headed zeros : List ℕ} → headed ≡ overwriteWords (header H) bytes
         → zeros ≡ replicate (length (midOf (2 * headerWords) (2 * n - 2 * headerWords) headed)) 0
         → heard number (putMid (2 * headerWords) (2 * n - 2 * headerWords) headed zeros) ≡ openBytes hallLimits H bytes
-    unfolding openBytes laidOver
+    unfolding openBytes overwriteWords
     opened-heard z {n} is {headed} {zeros} h q =
         let place = room z in
         let words : List ℕ = H .desks ∷ H .screens ∷ H .positions ∷ replicate (need H - headerWords) 0 in
@@ -71,8 +71,8 @@ module _ (H : Hall) (bytes : List ℕ) (r : Reply) (e : answerOf r ≡ openTable
         let end : 2 * n ≡ 2 * length words = omega (arith, long) in
         let behind : drop (2 * n - 2 * headerWords) (drop (2 * headerWords) bytes) ≡ drop (2 * length words) bytes =
         post-is (2 * headerWords) (2 * n) bytes (omega (arith, place .least)) ∙ ap (λ (k : ℕ). drop k bytes) end in
-        let laid : putMid (2 * headerWords) (2 * n - 2 * headerWords) headed zeros ≡ laidOver words bytes =
+        let overwriteAt : putMid (2 * headerWords) (2 * n - 2 * headerWords) headed zeros ≡ overwriteWords words bytes =
         rw h (ap₂ {C = List ℕ} (λ x y. bytesOfWords (header H) ++ (x ++ y)) cleared behind) in
         let all : length words ≡ length (take (need H) (wordsOfBytes bytes)) = long ∙ sym (length-take-le (need H) (wordsOfBytes bytes) (place .words)) in
-        let opened = ap (λ (d : TableDone). laidOver (d .after) bytes) (sym (accepted-open hallLimits H (wordsOfBytes bytes) (place .asked))) in
-        λ i. heard ((answer ∙ ap reply e) i) ((laid ∙ laid-front (need H) bytes words are all ∙ opened) i)
+        let opened = ap (λ (d : TableDone). overwriteWords (d .after) bytes) (sym (accepted-open hallLimits H (wordsOfBytes bytes) (place .asked))) in
+        λ i. heard ((answer ∙ ap reply e) i) ((overwriteAt ∙ overwrite-front (need H) bytes words are all ∙ opened) i)

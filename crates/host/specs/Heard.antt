@@ -4,7 +4,7 @@ use mathlib.Core.Bool.{true}
 use mathlib.Core.List.{List}
 use mathlib.Core.Path.{_≡_}
 use lib.ListN.{length, take}
-use Rattle.rules.specs.Bytes.{BytesDone, laidOver, reply, wordsOfBytes}
+use Rattle.rules.specs.Bytes.{BytesDone, overwriteWords, reply, wordsOfBytes}
 use Rattle.rules.specs.Hall.{Hall, hallLimits}
 use Rattle.rules.specs.Steps.{Call}
 use Rattle.rules.specs.Table.{headerWords, inLimits, maxWords, need, stepTable}
@@ -32,5 +32,5 @@ pub record Seen (bytes : List ℕ) (m n : ℕ) : Type 0 where
 -- the number that answers a step on these words of a table, and what it leaves of the bytes: nothing is written where it is refused
 pub record Told (number : ℕ) (call : Call) (words bytes after : List ℕ) : Type 0 where
   pub answer : number ≡ reply (stepTable hallLimits words call .answer)
-  pub written : stepTable hallLimits words call .answer .number ≡ 0 → after ≡ laidOver (stepTable hallLimits words call .after) bytes
+  pub written : stepTable hallLimits words call .answer .number ≡ 0 → after ≡ overwriteWords (stepTable hallLimits words call .after) bytes
   pub refused : (stepTable hallLimits words call .answer .number ≡ 0 → ⊥) → after ≡ bytes

@@ -11,11 +11,11 @@ use reply::packed;
 ghost use mathlib.Core.Path.{_≡_};
 ghost use Prim.Native.Nat.{_+_, _*_, _<_, _≤_};
 ghost use lib.ListN.{length, getD, replicate, take as takeWords};
-ghost use Rattle.rules.specs.Bytes.{laidOver, openBytes, stepBytes, wordsOfBytes};
+ghost use Rattle.rules.specs.Bytes.{overwriteWords, openBytes, stepBytes, wordsOfBytes};
 ghost use Rattle.rules.specs.Hall.{hallLimits, hallOf};
 ghost use Rattle.rules.specs.Steps.{Collect, Drop, Retire, Swap, Take};
 ghost use Rattle.rules.specs.Table.{hallIn, maxWords};
-ghost use Rattle.rules.specs.laws.Window.{Rewritten, partLaid};
+ghost use Rattle.rules.specs.laws.Window.{Rewritten, overwriteRange};
 ghost use Rattle.board.specs.Asked.{callOf};
 ghost use Rattle.host.specs.Heard.{Front, Seen, Told, fewWords, heard};
 
@@ -77,7 +77,7 @@ fn decode(bytes: &[u8], n: usize, words: &mut [u16])
 // The first n words, written over the first bytes. It requires that both are long enough.
 fn encode(words: &[u16], n: usize, bytes: &mut [u8])
     requires { ⌜ (n ≤ length (now words)) × (2 * n ≤ length (now bytes)) ⌝ }
-    ensures { λ _. ⌜ now (bytes .exit) ≡ laidOver (takeWords n (now (words .entry))) (now (bytes .entry)) ⌝ }
+    ensures { λ _. ⌜ now (bytes .exit) ≡ overwriteWords (takeWords n (now (words .entry))) (now (bytes .entry)) ⌝ }
 {
     let mut i = 0;
     while i < n {
@@ -91,7 +91,7 @@ fn encode(words: &[u16], n: usize, bytes: &mut [u8])
 // The words from place a up to e, written over their own bytes. It requires that both are long enough.
 fn encode_part(words: &[u16], a: usize, e: usize, bytes: &mut [u8])
     requires { ⌜ (a ≤ e) × (e ≤ length (now words)) × (2 * e ≤ length (now bytes)) ⌝ }
-    ensures { λ _. ⌜ now (bytes .exit) ≡ partLaid a e (now (words .entry)) (now (bytes .entry)) ⌝ }
+    ensures { λ _. ⌜ now (bytes .exit) ≡ overwriteRange a e (now (words .entry)) (now (bytes .entry)) ⌝ }
 {
     encode(&words[a..e], e - a, &mut bytes[2 * a..2 * e]);
 }
@@ -101,7 +101,7 @@ fn encode_part(words: &[u16], a: usize, e: usize, bytes: &mut [u8])
 // every accepted step.
 fn write_back(words: &[u16], desk: u16, table: &mut [u8])
     requires { ⌜ Rewritten desk (takeWords (length (now words)) (wordsOfBytes (now table))) (now words) × (2 * length (now words) ≤ length (now table)) ⌝ }
-    ensures { λ _. ⌜ now (table .exit) ≡ laidOver (now (words .entry)) (now (table .entry)) ⌝ }
+    ensures { λ _. ⌜ now (table .exit) ≡ overwriteWords (now (words .entry)) (now (table .entry)) ⌝ }
 {
     let l = words[2] as usize;
     let s = words[0] as usize * words[1] as usize;

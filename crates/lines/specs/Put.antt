@@ -9,10 +9,10 @@ abbrev pub Fits : List ℕ → ℕ → List ℕ → Type 0
 Fits out at bytes = at + length bytes ≤ length out
 
 -- the buffer with the bytes from a place on, and all else as it was
-unfoldable pub laid : List ℕ → ℕ → List ℕ → List ℕ
-laid out at bytes = take at out ++ (bytes ++ drop (at + length bytes) out)
+unfoldable pub overwriteAt : List ℕ → ℕ → List ℕ → List ℕ
+overwriteAt out at bytes = take at out ++ (bytes ++ drop (at + length bytes) out)
 
 -- the buffer before and after, and the place after the bytes
 pub record Put (before after : List ℕ) (at : ℕ) (bytes : List ℕ) (next : ℕ) : Type 0 where
-  pub written : after ≡ laid before at bytes
+  pub written : after ≡ overwriteAt before at bytes
   pub place : next ≡ at + length bytes

@@ -12,7 +12,7 @@ use Rattle.rules.specs.Hall.{hallLimits}
 use Rattle.rules.specs.Numbers.{got, refusalOf, refused}
 use Rattle.rules.specs.Steps.{Answer}
 use Rattle.rules.specs.Table.{TableDone, stepTable}
-use Rattle.lines.specs.Put.{Put, laid}
+use Rattle.lines.specs.Put.{Put, overwriteAt}
 use Rattle.lines.specs.laws.Put.{put-none, put-on}
 use Rattle.reply.specs.Answer.{answerOf, told}
 use Rattle.sheet_rules.specs.Lines.{answerLine, endLine, line, linesFrom}
@@ -30,7 +30,7 @@ use Rattle.sheet.specs.declared.State.{State}
 -- ---- Bytes put at the start of a buffer.
 module _ {out outAfter bytes : List ℕ} {next : ℕ} (put : Put out outAfter 0 bytes next) where
   front : outAfter ≡ bytes ++ drop next out
-  unfolding laid
+  unfolding overwriteAt
   front = put .written ∙ ap (λ (n : ℕ). bytes ++ drop n out) (sym (put .place))
 
   long : length bytes ≡ next

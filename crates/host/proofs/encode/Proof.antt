@@ -4,19 +4,19 @@ use native.Mathlib.Omega.{arith}
 use mathlib.Core.Path.{_≡_, refl}
 use lib.ListN.{length, take, length-set}
 use borrow.Author.Needs.{needs}
-use Rattle.rules.specs.Bytes.{laidOver}
-use Rattle.host.proofs.WordLaws.{nothing-laid, write-more}
+use Rattle.rules.specs.Bytes.{overwriteWords}
+use Rattle.host.proofs.WordLaws.{nothing-overwritten, write-more}
 use Rattle.host.proofs.encode.Statement.{statement}
 use Rattle.host.proofs.encode.Tie as tie
 
 abbrev Inv-loop : tie.InvT-loop
-Inv-loop words n bytes₀ i₀ bytes i = (i ≤ n) × (length bytes ≡ length bytes₀) × (bytes ≡ laidOver (take i words) bytes₀)
+Inv-loop words n bytes₀ i₀ bytes i = (i ≤ n) × (length bytes ≡ length bytes₀) × (bytes ≡ overwriteWords (take i words) bytes₀)
 
 abbrev μ-loop : tie.MeasureT-loop
 μ-loop words n bytes₀ i₀ bytes i = n - i
 
 loop-holds : tie.Need-loop-holds Inv-loop μ-loop
-loop-holds c = (omega arith, refl, nothing-laid (c .args .bytes .now))
+loop-holds c = (omega arith, refl, nothing-overwritten (c .args .bytes .now))
 
 mul-word : tie.Need-mul-word Inv-loop μ-loop
 mul-word c = search needs

@@ -1,7 +1,7 @@
 -- `host::write_back` meets its contract.
 use native.Mathlib.Omega.{arith}
 use borrow.Author.Needs.{needs}
-use Rattle.host.proofs.PartLaws.{Parts, parts, parts-laid}
+use Rattle.host.proofs.PartLaws.{Parts, parts, parts-overwritten}
 use Rattle.host.proofs.write_back.Statement.{statement}
 use Rattle.host.proofs.write_back.Tie as tie
 
@@ -61,7 +61,7 @@ returns c =
     let e = f .before .before in
     let o = e .before .before .before .before .before .before .before .before in
     let are = e .before .before .before .before .before .before .slice-known .given in
-    parts-laid (o .args .desk) (o .args .words .now) (o .args .table .now) (o .pre .0) (λ j. are j .fits) (o .pre .1)
+    parts-overwritten (o .args .desk) (o .args .words .now) (o .args .table .now) (o .pre .0) (λ j. are j .fits) (o .pre .1)
     (e .before .before .record-start .ensures .0) (e .before .record-start2 .ensures .0) (e .record-start3 .ensures .0)
     (f .encode-part .ensures) (c .before .before .encode-part2 .ensures)
 

@@ -7,62 +7,62 @@ use mathlib.Core.Path.{_≡_, refl, sym, ap, _∙_}
 use mathlib.Core.List.{List, [], _∷_, _++_, append-assoc, append-nil}
 use lib.ListN.{length, take, drop, set, length-append, take-append-drop, drop-of-length-le}
 use lib.Seq.{length-take-le, take-all, take-at, drop-at, drop-drop, set-split}
-use Rattle.lines.specs.Put.{Put, laid}
+use Rattle.lines.specs.Put.{Put, overwriteAt}
 
 -- ---- The buffer with bytes laid in it, at any place: so that whoever puts bytes after bytes need not show again that they fit.
 
 -- past its end they are joined to it
-laid-past : (out : List ℕ) (at : ℕ) (bytes : List ℕ) → length out ≤ at → laid out at bytes ≡ out ++ bytes
-unfolding laid
-laid-past out at bytes past =
+overwrite-past : (out : List ℕ) (at : ℕ) (bytes : List ℕ) → length out ≤ at → overwriteAt out at bytes ≡ out ++ bytes
+unfolding overwriteAt
+overwrite-past out at bytes past =
     let past-bytes : length out ≤ at + length bytes = omega arith in
     simp (take-all at out past, drop-of-length-le out past-bytes, append-nil)
 
 module _ (out : List ℕ) (at : ℕ) (bytes : List ℕ) where
-  in-two : laid out at bytes ≡ (take at out ++ bytes) ++ drop (at + length bytes) out
-  unfolding laid
+  in-two : overwriteAt out at bytes ≡ (take at out ++ bytes) ++ drop (at + length bytes) out
+  unfolding overwriteAt
   in-two = sym (append-assoc (take at out) bytes (drop (at + length bytes) out))
 
   module _ (inside : at ≤ length out) where
     front-length : length (take at out ++ bytes) ≡ at + length bytes
     front-length = omega (arith, length-append (take at out) bytes, length-take-le at out inside)
 
-    take-laid : take (at + length bytes) (laid out at bytes) ≡ take at out ++ bytes
-    take-laid = ap (take (at + length bytes)) in-two ∙ take-at (take at out ++ bytes) (drop (at + length bytes) out) (at + length bytes) front-length
+    take-overwritten : take (at + length bytes) (overwriteAt out at bytes) ≡ take at out ++ bytes
+    take-overwritten = ap (take (at + length bytes)) in-two ∙ take-at (take at out ++ bytes) (drop (at + length bytes) out) (at + length bytes) front-length
 
-    drop-laid : drop (at + length bytes) (laid out at bytes) ≡ drop (at + length bytes) out
-    drop-laid = ap (drop (at + length bytes)) in-two ∙ drop-at (take at out ++ bytes) (drop (at + length bytes) out) (at + length bytes) front-length
+    drop-overwritten : drop (at + length bytes) (overwriteAt out at bytes) ≡ drop (at + length bytes) out
+    drop-overwritten = ap (drop (at + length bytes)) in-two ∙ drop-at (take at out ++ bytes) (drop (at + length bytes) out) (at + length bytes) front-length
 
-  laid-on : (more : List ℕ) → laid (laid out at bytes) (at + length bytes) more ≡ laid out at (bytes ++ more)
-  unfolding laid
-  laid-on more = by-place (decLe at (length out))
+  overwrite-on : (more : List ℕ) → overwriteAt (overwriteAt out at bytes) (at + length bytes) more ≡ overwriteAt out at (bytes ++ more)
+  unfolding overwriteAt
+  overwrite-on more = by-place (decLe at (length out))
     where
       same-place : at + length bytes + length more ≡ at + length (bytes ++ more)
       same-place = omega (arith, length-append bytes more)
 
-      by-place : Dec (at ≤ length out) → laid (laid out at bytes) (at + length bytes) more ≡ laid out at (bytes ++ more)
+      by-place : Dec (at ≤ length out) → overwriteAt (overwriteAt out at bytes) (at + length bytes) more ≡ overwriteAt out at (bytes ++ more)
       by-place (yes inside) =
-          (λ i. take-laid inside i ++ (more ++ same-end i))
+          (λ i. take-overwritten inside i ++ (more ++ same-end i))
           ∙ append-assoc (take at out) bytes (more ++ drop (at + length (bytes ++ more)) out)
           ∙ ap (λ (rest : List ℕ). take at out ++ rest) (sym (append-assoc bytes more (drop (at + length (bytes ++ more)) out)))
         where
-          same-end : drop (at + length bytes + length more) (laid out at bytes) ≡ drop (at + length (bytes ++ more)) out
+          same-end : drop (at + length bytes + length more) (overwriteAt out at bytes) ≡ drop (at + length (bytes ++ more)) out
           same-end =
-              sym (drop-drop (length more) (at + length bytes) (laid out at bytes))
-              ∙ ap (drop (length more)) (drop-laid inside)
+              sym (drop-drop (length more) (at + length bytes) (overwriteAt out at bytes))
+              ∙ ap (drop (length more)) (drop-overwritten inside)
               ∙ drop-drop (length more) (at + length bytes) out
               ∙ ap (λ (n : ℕ). drop n out) same-place
       by-place (no past) =
-          ap (λ (words : List ℕ). laid words (at + length bytes) more) (laid-past out at bytes (omega arith))
-          ∙ laid-past (out ++ bytes) (at + length bytes) more (omega (arith, length-append out bytes))
+          ap (λ (words : List ℕ). overwriteAt words (at + length bytes) more) (overwrite-past out at bytes (omega arith))
+          ∙ overwrite-past (out ++ bytes) (at + length bytes) more (omega (arith, length-append out bytes))
           ∙ append-assoc out bytes more
-          ∙ sym (laid-past out at (bytes ++ more) (omega arith))
+          ∙ sym (overwrite-past out at (bytes ++ more) (omega arith))
 
 -- ---- What callers use.
 
 -- nothing put
 pub put-none : (out : List ℕ) (at : ℕ) → Put out out at [] at
-unfolding laid
+unfolding overwriteAt
 put-none out at =
     let same : at + 0 ≡ at = omega arith in
     record {
@@ -72,7 +72,7 @@ put-none out at =
 
 -- one byte stored
 pub put-one : (out : List ℕ) (at byte : ℕ) → at < length out → Put out (set out at byte) at (byte ∷ []) (at + 1)
-unfolding laid
+unfolding overwriteAt
 put-one out at byte inside =
     record {
       written = set-split out at byte inside ∙ ap (λ (n : ℕ). take at out ++ (byte ∷ drop n out)) (sym (add-one at));
@@ -85,6 +85,6 @@ pub put-on : {before middle after : List ℕ} {at between next : ℕ} {bytes mor
     → Put before after at (bytes ++ more) next
 put-on {before} {middle} {after} {at} {between} {next} {bytes} {more} first second =
     record {
-      written = second .written ∙ (λ i. laid (first .written i) (first .place i) more) ∙ laid-on before at bytes more;
+      written = second .written ∙ (λ i. overwriteAt (first .written i) (first .place i) more) ∙ overwrite-on before at bytes more;
       place = omega (arith, second .place, first .place, length-append bytes more);
     }
