@@ -13,7 +13,7 @@ use borrow.Rule.Slice.PartMut.{put-same}
 use Rattle.rules.specs.Hall.{Desk, Hall, allScreens, deskOf, hallLimits}
 use Rattle.rules.specs.Steps.{Call, Collect, Collected, Drop, Retire, Swap, Take, collect, collectSeeing, firstNo, inRange, nextScreens, perform, retire}
 use Rattle.rules.specs.Steps.{retireQuestions}
-use Rattle.rules.specs.Table.{decode, decodeDesk, encodeDesk, hallIn, headerWords, positionWord, putRecord, recordOf, scannedPlace, stepTable, written}
+use Rattle.rules.specs.Table.{decode, decodeDesk, encodeDesk, hallIn, headerWords, positionWord, putRecord, recordOf, scannedOffset, stepTable, written}
 use Rattle.rules.specs.laws.TableSteps.{accepted-step, asked, collect-seeing, owed-word, refused-step, shown-at}
 use Rattle.rules.specs.laws.Tables.{some-screens}
 use Rattle.desk.specs.Record.{Retired}
@@ -22,11 +22,11 @@ use Rattle.reply.specs.declared.Reply.{Reply}
 use Rattle.reply.specs.declared.Reply.the-variants.{Accepted, NoPosition, NoScreen, Owing, PositionEmpty, ScreenEmpty, ScreenFull}
 use Rattle.marks.proofs.Scan.{ended, rest}
 use Rattle.desk.proofs.DeskTie.{scanned-below}
-use Rattle.board.specs.declared.Place.{Place}
-use Rattle.board.proofs.EntryLaws.{Entered}
-use Rattle.board.proofs.PlaceLaws.{AtPosition, AtScreen, Lent, lentRecord, withRecord}
+use Rattle.board.specs.declared.Location.{Location}
+use Rattle.board.proofs.AdmissionLaws.{Admitted}
+use Rattle.board.proofs.LocationLaws.{AtPosition, AtScreen, Lent, lentRecord, withRecord}
 
-module _ {t : List ℕ} {d : ℕ} {p : Place} (e : Entered t d p) where
+module _ {t : List ℕ} {d : ℕ} {p : Location} (e : Admitted t d p) where
   -- a step of the rules, by the number that its questions give
   refuse : (n : ℕ) (c : Call) → asked t c ≡ suc n → record { answer = record { number = suc n; session = 0 }; after = t } ≡ stepTable hallLimits t c
   refuse n c q = sym (refused-step hallLimits t c n (e .yes-sound) q)
@@ -132,7 +132,7 @@ module _ {t : List ℕ} {d : ℕ} {p : Place} (e : Entered t d p) where
         ∙ accept (Collect d) (rw (e .yes-desk))
 
 -- the screens that a collect reads
-scanned-word : (r : List ℕ) → getD r scannedPlace 0 ≡ decodeDesk r .scanned
+scanned-word : (r : List ℕ) → getD r scannedOffset 0 ≡ decodeDesk r .scanned
 unfolding decodeDesk
 scanned-word r = refl
 
@@ -142,7 +142,7 @@ two l k h = rw (rest l k (omega arith), rest l (k + 1) h)
 one : (l : List ℕ) (k : ℕ) → k + 1 ≡ length l → take 2 (drop k l) ≡ getD l k 0 ∷ []
 one l k h = rw (rest l k (omega arith), ended l (k + 1) (omega arith))
 
-pub record Reads (t : List ℕ) (p : Place) (k : ℕ) : Type 0 where
+pub record Reads (t : List ℕ) (p : Location) (k : ℕ) : Type 0 where
   pub scanned-is : k ≡ decodeDesk (lentRecord t p) .scanned
   pub below : k < p .all
   pub there : headerWords + p .positions + p .all < length t
@@ -150,15 +150,15 @@ pub record Reads (t : List ℕ) (p : Place) (k : ℕ) : Type 0 where
       → let at = headerWords + p .positions + k in getD t at 0 ∷ getD t (at + 1) 0 ∷ [] ≡ nextScreens (decode (hallIn t) t .shown) (decodeDesk (lentRecord t p))
   pub see-one : p .all ≤ k + 1 → getD t (headerWords + p .positions + k) 0 ∷ [] ≡ nextScreens (decode (hallIn t) t .shown) (decodeDesk (lentRecord t p))
 
-pub reads : {t : List ℕ} {d k : ℕ} {p : Place} → Entered t d p → Lent t d p → k ≡ getD t (p .start + scannedPlace) 0 → Reads t p k
+pub reads : {t : List ℕ} {d k : ℕ} {p : Location} → Admitted t d p → Lent t d p → k ≡ getD t (p .start + scannedOffset) 0 → Reads t p k
 reads {t} {d} {k} {p} e l is =
     let H : Hall = hallIn t in
     let s = p .all in
     let a = p .start in
     let shown : List ℕ = decode H t .shown in
     let n = p .end - p .start in
-    let word : k ≡ getD (lentRecord t p) scannedPlace 0 =
-    is ∙ sym (getD-take n (drop a t) scannedPlace 0 (omega (arith, e .end-is)) ∙ getD-drop a t scannedPlace 0) in
+    let word : k ≡ getD (lentRecord t p) scannedOffset 0 =
+    is ∙ sym (getD-take n (drop a t) scannedOffset 0 (omega (arith, e .end-is)) ∙ getD-drop a t scannedOffset 0) in
     let scanned : k ≡ decodeDesk (lentRecord t p) .scanned = word ∙ scanned-word (lentRecord t p) in
     let below : k < s = omega (arith, word, scanned-below s (lentRecord t p) (omega (arith, e .all-is, some-screens H (e .facts .fits))) (l .sound)) in
     let room : allScreens H ≤ length (drop (H .positions) (drop headerWords t)) = simp length-drop (omega (arith, e .facts .long)) in

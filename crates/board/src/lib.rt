@@ -18,7 +18,7 @@ ghost use Rattle.rules.specs.Table.{widthFor};
 ghost use Rattle.rules.specs.laws.Window.{deskIn};
 ghost use Rattle.reply.specs.Answer.{answerOf, told};
 ghost use Rattle.board.specs.Asked.{callOf};
-ghost use Rattle.board.specs.Entry.{entryOf, screenFor};
+ghost use Rattle.board.specs.Admission.{admissionOf, screenFor};
 ghost use Rattle.board.specs.Opening.{OpeningAnswer};
 
 // Where things stand in a table: P, the desks.
@@ -136,7 +136,7 @@ fn sound_records(t: &[u16], p: usize, l: usize, s: usize) -> bool
 
 // Where a desk's things stand in a sound table: the counts of positions, of screens per desk and of all screens, and the
 // start and the end of the desk's record.
-struct Place {
+struct Location {
     pub positions: usize,
     pub screens: usize,
     pub all: usize,
@@ -145,21 +145,21 @@ struct Place {
 }
 
 // What the first questions of a step answer: a refusal, or the place of the desk.
-enum Entry {
+enum Admission {
     No(Reply),
-    At(Place),
+    At(Location),
 }
 
 // What every step asks first: is the table sound, is the desk 1 to P.
-fn enter(t: &[u16], desk: u16) -> Entry
-    ensures { λ r. ⌜ r ≡ entryOf (now (t .entry)) desk ⌝ }
+fn admit(t: &[u16], desk: u16) -> Admission
+    ensures { λ r. ⌜ r ≡ admissionOf (now (t .entry)) desk ⌝ }
 {
     if !sound(t) {
-        return Entry::No(Reply::Unsound);
+        return Admission::No(Reply::Unsound);
     }
     let p = word(t, DESKS);
     if !in_range(desk, p) {
-        return Entry::No(Reply::NoDesk);
+        return Admission::No(Reply::NoDesk);
     }
     let c = word(t, SCREENS);
     let l = word(t, POSITIONS);
@@ -167,7 +167,7 @@ fn enter(t: &[u16], desk: u16) -> Entry
     let d = desk as usize;
     let a = record_start(l, s, d - 1);
     let e = record_start(l, s, d);
-    Entry::At(Place {
+    Admission::At(Location {
         positions: l,
         screens: c,
         all: s,
@@ -215,12 +215,12 @@ pub fn open(t: &mut [u16], desks: u16, screens: u16, positions: u16) -> Reply
 pub fn take(t: &mut [u16], desk: u16, screen: u16, position: u16) -> Reply
     ensures { λ r. ⌜ told r (now (t .exit)) ≡ stepTable hallLimits (now (t .entry)) (Take desk screen position) ⌝ }
 {
-    let entry = enter(t, desk);
-    match entry {
-        Entry::No(reply) => reply,
-        Entry::At(place) => {
-            let c = place.screens;
-            let l = place.positions;
+    let admission = admit(t, desk);
+    match admission {
+        Admission::No(reply) => reply,
+        Admission::At(location) => {
+            let c = location.screens;
+            let l = location.positions;
             if !in_range(screen, c) {
                 return Reply::NoScreen;
             }
@@ -246,12 +246,12 @@ pub fn take(t: &mut [u16], desk: u16, screen: u16, position: u16) -> Reply
 pub fn drop(t: &mut [u16], desk: u16, screen: u16) -> Reply
     ensures { λ r. ⌜ told r (now (t .exit)) ≡ stepTable hallLimits (now (t .entry)) (Drop desk screen) ⌝ }
 {
-    let entry = enter(t, desk);
-    match entry {
-        Entry::No(reply) => reply,
-        Entry::At(place) => {
-            let c = place.screens;
-            let l = place.positions;
+    let admission = admit(t, desk);
+    match admission {
+        Admission::No(reply) => reply,
+        Admission::At(location) => {
+            let c = location.screens;
+            let l = location.positions;
             if !in_range(screen, c) {
                 return Reply::NoScreen;
             }
@@ -270,12 +270,12 @@ pub fn drop(t: &mut [u16], desk: u16, screen: u16) -> Reply
 pub fn swap(t: &mut [u16], desk: u16, position: u16, session: u16) -> Reply
     ensures { λ r. ⌜ told r (now (t .exit)) ≡ stepTable hallLimits (now (t .entry)) (Swap desk position session) ⌝ }
 {
-    let entry = enter(t, desk);
-    match entry {
-        Entry::No(reply) => reply,
-        Entry::At(place) => {
-            let l = place.positions;
-            let a = place.start;
+    let admission = admit(t, desk);
+    match admission {
+        Admission::No(reply) => reply,
+        Admission::At(location) => {
+            let l = location.positions;
+            let a = location.start;
             if !in_range(position, l) {
                 return Reply::NoPosition;
             }
@@ -296,13 +296,13 @@ pub fn swap(t: &mut [u16], desk: u16, position: u16, session: u16) -> Reply
 pub fn retire(t: &mut [u16], desk: u16) -> Reply
     ensures { λ r. ⌜ told r (now (t .exit)) ≡ stepTable hallLimits (now (t .entry)) (Retire desk) ⌝ }
 {
-    let entry = enter(t, desk);
-    match entry {
-        Entry::No(reply) => reply,
-        Entry::At(place) => {
-            let s = place.all;
-            let a = place.start;
-            let e = place.end;
+    let admission = admit(t, desk);
+    match admission {
+        Admission::No(reply) => reply,
+        Admission::At(location) => {
+            let s = location.all;
+            let a = location.start;
+            let e = location.end;
             retire_record(&mut t[a..e], s)
         }
     }
@@ -312,15 +312,15 @@ pub fn retire(t: &mut [u16], desk: u16) -> Reply
 pub fn collect(t: &mut [u16], desk: u16) -> Reply
     ensures { λ r. ⌜ told r (now (t .exit)) ≡ stepTable hallLimits (now (t .entry)) (Collect desk) ⌝ }
 {
-    let entry = enter(t, desk);
-    match entry {
-        Entry::No(reply) => reply,
-        Entry::At(place) => {
-            let s = place.all;
-            let a = place.start;
-            let e = place.end;
+    let admission = admit(t, desk);
+    match admission {
+        Admission::No(reply) => reply,
+        Admission::At(location) => {
+            let s = location.all;
+            let a = location.start;
+            let e = location.end;
             let k = word(t, a + SCANNED);
-            let at = HEADER + place.positions + k;
+            let at = HEADER + location.positions + k;
             let x = t[at];
             if k + 1 < s {
                 let y = t[at + 1];

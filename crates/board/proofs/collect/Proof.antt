@@ -5,9 +5,9 @@ use mathlib.Core.List.{List}
 use mathlib.Core.Path.{sym, _∙_}
 use borrow.Author.Needs.{needs}
 use Rattle.rules.specs.Steps.{Collect}
-use Rattle.board.specs.declared.Place.{Place}
-use Rattle.board.proofs.EntryLaws.{Entered, entered, refused}
-use Rattle.board.proofs.PlaceLaws.{Lent, lent}
+use Rattle.board.specs.declared.Location.{Location}
+use Rattle.board.proofs.AdmissionLaws.{Admitted, admitted, refused}
+use Rattle.board.proofs.LocationLaws.{Lent, lent}
 use Rattle.board.proofs.StepLaws.{Reads, collect-told, reads}
 use Rattle.board.proofs.collect.Statement.{statement}
 use Rattle.board.proofs.collect.Tie as tie
@@ -19,11 +19,11 @@ start a = a .before .before .before .before .before .before
 abbrev T : tie.After-known-told2 → List ℕ
 T a = start a .args .t .now
 
-abbrev P : tie.After-known-told2 → Place
-P a = a .before .entry2 .given .0 .0
+abbrev P : tie.After-known-told2 → Location
+P a = a .before .admission2 .given .0 .0
 
-here : (a : tie.After-known-told2) → Entered (T a) (start a .args .desk) (P a)
-here a = entered (sym (a .before .entry2 .given .1) ∙ a .before .before .before .enter .ensures)
+here : (a : tie.After-known-told2) → Admitted (T a) (start a .args .desk) (P a)
+here a = admitted (sym (a .before .admission2 .given .1) ∙ a .before .before .before .admit .ensures)
 
 record-lent : (a : tie.After-known-told2) → Lent (T a) (start a .args .desk) (P a)
 record-lent a = lent (here a) (λ i. a .before .before .before .before .before .slice-known .given i .fits)
@@ -32,14 +32,14 @@ record-lent a = lent (here a) (λ i. a .before .before .before .before .before .
 reading : (b : tie.After-struct-known) → let a = b .before .before .before in Reads (T a) (P a) (b .before .word .result)
 reading b = let a = b .before .before .before in reads (here a) (record-lent a) (b .before .word .ensures .0)
 
-enter-requires : tie.Need-enter-requires
-enter-requires c κs = search needs
+admit-requires : tie.Need-admit-requires
+admit-requires c κs = search needs
 
-enum-known-entry : tie.Need-enum-known-entry
-enum-known-entry c = search needs
+enum-known-admission : tie.Need-enum-known-admission
+enum-known-admission c = search needs
 
-enum-known-entry-2 : tie.Need-enum-known-entry-2
-enum-known-entry-2 c = search needs
+enum-known-admission-2 : tie.Need-enum-known-admission-2
+enum-known-admission-2 c = search needs
 
 add-word : tie.Need-add-word
 add-word c = let e = here (c .before) in omega arith
@@ -110,7 +110,7 @@ same-length : tie.Need-same-length
 same-length c = search needs
 
 returns : tie.Need-returns
-returns c = refused (Collect _) (sym (c .before .entry .given .1) ∙ c .before .before .before .enter .ensures)
+returns c = refused (Collect _) (sym (c .before .admission .given .1) ∙ c .before .before .before .admit .ensures)
 
 same-length-2 : tie.Need-same-length-2
 same-length-2 c = search needs
@@ -134,4 +134,4 @@ returns-3 c =
 
 pub collect-spec : {M : Type 1} → statement M
 collect-spec =
-    tie.close (tie.spec enter-requires enum-known-entry enum-known-entry-2 add-word word-requires add-at add-at-2 mul-x slice-read-x add-if1 add-y mul-y slice-read-y mul-collect-record sub-collect-record part-collect-record-start part-collect-record-end collect-record-requires mul-collect-record-2 sub-collect-record-2 part-collect-record-start-2 part-collect-record-end-2 collect-record-requires-2 same-length returns same-length-2 returns-2 same-length-3 returns-3)
+    tie.close (tie.spec admit-requires enum-known-admission enum-known-admission-2 add-word word-requires add-at add-at-2 mul-x slice-read-x add-if1 add-y mul-y slice-read-y mul-collect-record sub-collect-record part-collect-record-start part-collect-record-end collect-record-requires mul-collect-record-2 sub-collect-record-2 part-collect-record-start-2 part-collect-record-end-2 collect-record-requires-2 same-length returns same-length-2 returns-2 same-length-3 returns-3)

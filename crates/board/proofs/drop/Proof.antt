@@ -6,9 +6,9 @@ use mathlib.Core.List.{List}
 use mathlib.Core.Path.{_≡_, refl, sym, _∙_}
 use borrow.Author.Needs.{needs}
 use Rattle.rules.specs.Steps.{Drop, inRange}
-use Rattle.board.specs.declared.Place.{Place}
-use Rattle.board.proofs.EntryLaws.{Entered, entered, refused}
-use Rattle.board.proofs.PlaceLaws.{AtScreen, at-screen}
+use Rattle.board.specs.declared.Location.{Location}
+use Rattle.board.proofs.AdmissionLaws.{Admitted, admitted, refused}
+use Rattle.board.proofs.LocationLaws.{AtScreen, at-screen}
 use Rattle.board.proofs.SoundLaws.{said-no, said-yes}
 use Rattle.board.proofs.StepLaws.{drop-accepted, drop-no-screen, drop-screen-empty}
 use Rattle.board.proofs.drop.Statement.{statement}
@@ -21,11 +21,11 @@ start a = a .before .before .before .before .before .before
 abbrev T : tie.After-known-told2 → List ℕ
 T a = start a .args .t .now
 
-abbrev P : tie.After-known-told2 → Place
-P a = a .before .entry2 .given .0 .0
+abbrev P : tie.After-known-told2 → Location
+P a = a .before .admission2 .given .0 .0
 
-here : (a : tie.After-known-told2) → Entered (T a) (start a .args .desk) (P a)
-here a = entered (sym (a .before .entry2 .given .1) ∙ a .before .before .before .enter .ensures)
+here : (a : tie.After-known-told2) → Admitted (T a) (start a .args .desk) (P a)
+here a = admitted (sym (a .before .admission2 .given .1) ∙ a .before .before .before .admit .ensures)
 
 -- its screen, where it is in range
 own : (b : tie.Else1) → let a = b .before .before in inRange (start a .args .screen) (P a .screens) ≡ true
@@ -34,14 +34,14 @@ own b = said-yes (b .before .in-range .ensures) (b .if1 .left)
 screen : (w : tie.After-screen-at) → let a = w .before .before .before in AtScreen (T a) (start a .args .desk) (start a .args .screen) (w .screen-at .result)
 screen w = at-screen (here (w .before .before .before)) (own (w .before)) (w .screen-at .ensures)
 
-enter-requires : tie.Need-enter-requires
-enter-requires c κs = search needs
+admit-requires : tie.Need-admit-requires
+admit-requires c κs = search needs
 
-enum-known-entry : tie.Need-enum-known-entry
-enum-known-entry c = search needs
+enum-known-admission : tie.Need-enum-known-admission
+enum-known-admission c = search needs
 
-enum-known-entry-2 : tie.Need-enum-known-entry-2
-enum-known-entry-2 c = search needs
+enum-known-admission-2 : tie.Need-enum-known-admission-2
+enum-known-admission-2 c = search needs
 
 in-range-requires : tie.Need-in-range-requires
 in-range-requires c κs = search needs
@@ -77,7 +77,7 @@ same-length-3 : tie.Need-same-length-3
 same-length-3 c = search needs
 
 returns-3 : tie.Need-returns-3
-returns-3 c = refused (Drop _ _) (sym (c .before .entry .given .1) ∙ c .before .before .before .enter .ensures)
+returns-3 c = refused (Drop _ _) (sym (c .before .admission .given .1) ∙ c .before .before .before .admit .ensures)
 
 same-length-4 : tie.Need-same-length-4
 same-length-4 c = search needs
@@ -87,4 +87,4 @@ returns-4 c = let w = c .before .before in drop-accepted (here (w .before .befor
 
 pub drop-spec : {M : Type 1} → statement M
 drop-spec =
-    tie.close (tie.spec enter-requires enum-known-entry enum-known-entry-2 in-range-requires same-length returns screen-at-requires mul-shown slice-read-shown same-length-2 returns-2 mul-t slice-write-t same-length-3 returns-3 same-length-4 returns-4)
+    tie.close (tie.spec admit-requires enum-known-admission enum-known-admission-2 in-range-requires same-length returns screen-at-requires mul-shown slice-read-shown same-length-2 returns-2 mul-t slice-write-t same-length-3 returns-3 same-length-4 returns-4)

@@ -5,9 +5,9 @@ use mathlib.Core.List.{List}
 use mathlib.Core.Path.{sym, _∙_}
 use borrow.Author.Needs.{needs}
 use Rattle.rules.specs.Steps.{Retire}
-use Rattle.board.specs.declared.Place.{Place}
-use Rattle.board.proofs.EntryLaws.{Entered, entered, refused}
-use Rattle.board.proofs.PlaceLaws.{Lent, lent}
+use Rattle.board.specs.declared.Location.{Location}
+use Rattle.board.proofs.AdmissionLaws.{Admitted, admitted, refused}
+use Rattle.board.proofs.LocationLaws.{Lent, lent}
 use Rattle.board.proofs.StepLaws.{retire-told}
 use Rattle.board.proofs.retire.Statement.{statement}
 use Rattle.board.proofs.retire.Tie as tie
@@ -19,23 +19,23 @@ start a = a .before .before .before .before .before .before
 abbrev T : tie.After-known-told2 → List ℕ
 T a = start a .args .t .now
 
-abbrev P : tie.After-known-told2 → Place
-P a = a .before .entry2 .given .0 .0
+abbrev P : tie.After-known-told2 → Location
+P a = a .before .admission2 .given .0 .0
 
-here : (a : tie.After-known-told2) → Entered (T a) (start a .args .desk) (P a)
-here a = entered (sym (a .before .entry2 .given .1) ∙ a .before .before .before .enter .ensures)
+here : (a : tie.After-known-told2) → Admitted (T a) (start a .args .desk) (P a)
+here a = admitted (sym (a .before .admission2 .given .1) ∙ a .before .before .before .admit .ensures)
 
 record-lent : (a : tie.After-known-told2) → Lent (T a) (start a .args .desk) (P a)
 record-lent a = lent (here a) (λ i. a .before .before .before .before .before .slice-known .given i .fits)
 
-enter-requires : tie.Need-enter-requires
-enter-requires c κs = search needs
+admit-requires : tie.Need-admit-requires
+admit-requires c κs = search needs
 
-enum-known-entry : tie.Need-enum-known-entry
-enum-known-entry c = search needs
+enum-known-admission : tie.Need-enum-known-admission
+enum-known-admission c = search needs
 
-enum-known-entry-2 : tie.Need-enum-known-entry-2
-enum-known-entry-2 c = search needs
+enum-known-admission-2 : tie.Need-enum-known-admission-2
+enum-known-admission-2 c = search needs
 
 mul-retire-record : tie.Need-mul-retire-record
 mul-retire-record c = let e = here c in omega arith
@@ -56,7 +56,7 @@ same-length : tie.Need-same-length
 same-length c = search needs
 
 returns : tie.Need-returns
-returns c = refused (Retire _) (sym (c .before .entry .given .1) ∙ c .before .before .before .enter .ensures)
+returns c = refused (Retire _) (sym (c .before .admission .given .1) ∙ c .before .before .before .admit .ensures)
 
 same-length-2 : tie.Need-same-length-2
 same-length-2 c = search needs
@@ -69,4 +69,4 @@ returns-2 c =
 
 pub retire-spec : {M : Type 1} → statement M
 retire-spec =
-    tie.close (tie.spec enter-requires enum-known-entry enum-known-entry-2 mul-retire-record sub-retire-record part-retire-record-start part-retire-record-end retire-record-requires same-length returns same-length-2 returns-2)
+    tie.close (tie.spec admit-requires enum-known-admission enum-known-admission-2 mul-retire-record sub-retire-record part-retire-record-start part-retire-record-end retire-record-requires same-length returns same-length-2 returns-2)

@@ -6,9 +6,9 @@ use mathlib.Core.Path.{sym, _∙_}
 use lib.ListN.{length-set}
 use borrow.Author.Needs.{needs}
 use Rattle.rules.specs.Steps.{Swap}
-use Rattle.board.specs.declared.Place.{Place}
-use Rattle.board.proofs.EntryLaws.{Entered, entered, refused}
-use Rattle.board.proofs.PlaceLaws.{AtPosition, at-position}
+use Rattle.board.specs.declared.Location.{Location}
+use Rattle.board.proofs.AdmissionLaws.{Admitted, admitted, refused}
+use Rattle.board.proofs.LocationLaws.{AtPosition, at-position}
 use Rattle.board.proofs.SoundLaws.{said-no, said-yes}
 use Rattle.board.proofs.StepLaws.{swap-accepted, swap-no-position, swap-owing}
 use Rattle.board.proofs.swap.Statement.{statement}
@@ -21,24 +21,24 @@ start a = a .before .before .before .before .before .before
 abbrev T : tie.After-known-told2 → List ℕ
 T a = start a .args .t .now
 
-abbrev P : tie.After-known-told2 → Place
-P a = a .before .entry2 .given .0 .0
+abbrev P : tie.After-known-told2 → Location
+P a = a .before .admission2 .given .0 .0
 
-here : (a : tie.After-known-told2) → Entered (T a) (start a .args .desk) (P a)
-here a = entered (sym (a .before .entry2 .given .1) ∙ a .before .before .before .enter .ensures)
+here : (a : tie.After-known-told2) → Admitted (T a) (start a .args .desk) (P a)
+here a = admitted (sym (a .before .admission2 .given .1) ∙ a .before .before .before .admit .ensures)
 
 -- its position, where it is in range
 position : (c : tie.Else1) → let a = c .before .before in AtPosition (T a) (start a .args .position)
 position c = at-position (here (c .before .before)) (said-yes (c .before .in-range .ensures) (c .if1 .left))
 
-enter-requires : tie.Need-enter-requires
-enter-requires c κs = search needs
+admit-requires : tie.Need-admit-requires
+admit-requires c κs = search needs
 
-enum-known-entry : tie.Need-enum-known-entry
-enum-known-entry c = search needs
+enum-known-admission : tie.Need-enum-known-admission
+enum-known-admission c = search needs
 
-enum-known-entry-2 : tie.Need-enum-known-entry-2
-enum-known-entry-2 c = search needs
+enum-known-admission-2 : tie.Need-enum-known-admission-2
+enum-known-admission-2 c = search needs
 
 in-range-requires : tie.Need-in-range-requires
 in-range-requires c κs = search needs
@@ -89,7 +89,7 @@ same-length-3 : tie.Need-same-length-3
 same-length-3 c = search needs
 
 returns-3 : tie.Need-returns-3
-returns-3 c = refused (Swap _ _ _) (sym (c .before .entry .given .1) ∙ c .before .before .before .enter .ensures)
+returns-3 c = refused (Swap _ _ _) (sym (c .before .admission .given .1) ∙ c .before .before .before .admit .ensures)
 
 same-length-4 : tie.Need-same-length-4
 same-length-4 c = search needs
@@ -99,4 +99,4 @@ returns-4 c = let b = c .before .before .before in swap-accepted (here (b .befor
 
 pub swap-spec : {M : Type 1} → statement M
 swap-spec =
-    tie.close (tie.spec enter-requires enum-known-entry enum-known-entry-2 in-range-requires same-length returns mul-if2 slice-read-if2 same-length-2 returns-2 sub-at add-at mul-old slice-read-old mul-t slice-write-t mul-t-2 slice-write-t-2 same-length-3 returns-3 same-length-4 returns-4)
+    tie.close (tie.spec admit-requires enum-known-admission enum-known-admission-2 in-range-requires same-length returns mul-if2 slice-read-if2 same-length-2 returns-2 sub-at add-at mul-old slice-read-old mul-t slice-write-t mul-t-2 slice-write-t-2 same-length-3 returns-3 same-length-4 returns-4)

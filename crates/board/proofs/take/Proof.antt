@@ -6,9 +6,9 @@ use mathlib.Core.List.{List}
 use mathlib.Core.Path.{_≡_, refl, sym, _∙_}
 use borrow.Author.Needs.{needs}
 use Rattle.rules.specs.Steps.{Take, inRange}
-use Rattle.board.specs.declared.Place.{Place}
-use Rattle.board.proofs.EntryLaws.{Entered, entered, refused}
-use Rattle.board.proofs.PlaceLaws.{AtPosition, AtScreen, at-position, at-screen}
+use Rattle.board.specs.declared.Location.{Location}
+use Rattle.board.proofs.AdmissionLaws.{Admitted, admitted, refused}
+use Rattle.board.proofs.LocationLaws.{AtPosition, AtScreen, at-position, at-screen}
 use Rattle.board.proofs.SoundLaws.{said-no, said-yes}
 use Rattle.board.proofs.StepLaws.{take-accepted, take-no-position, take-no-screen, take-position-empty, take-screen-full}
 use Rattle.board.proofs.take.Statement.{statement}
@@ -21,11 +21,11 @@ start a = a .before .before .before .before .before .before
 abbrev T : tie.After-known-told2 → List ℕ
 T a = start a .args .t .now
 
-abbrev P : tie.After-known-told2 → Place
-P a = a .before .entry2 .given .0 .0
+abbrev P : tie.After-known-told2 → Location
+P a = a .before .admission2 .given .0 .0
 
-here : (a : tie.After-known-told2) → Entered (T a) (start a .args .desk) (P a)
-here a = entered (sym (a .before .entry2 .given .1) ∙ a .before .before .before .enter .ensures)
+here : (a : tie.After-known-told2) → Admitted (T a) (start a .args .desk) (P a)
+here a = admitted (sym (a .before .admission2 .given .1) ∙ a .before .before .before .admit .ensures)
 
 -- its screen and its position, where they are in range
 own : (b : tie.Else1) → let a = b .before .before in inRange (start a .args .screen) (P a .screens) ≡ true
@@ -38,14 +38,14 @@ screen w = let b = w .before .before .before in at-screen (here (b .before .befo
 position : (b : tie.Else2) → let a = b .before .before .before .before in AtPosition (T a) (start a .args .position)
 position b = at-position (here (b .before .before .before .before)) (said-yes (b .before .in-range2 .ensures) (b .if2 .left))
 
-enter-requires : tie.Need-enter-requires
-enter-requires c κs = search needs
+admit-requires : tie.Need-admit-requires
+admit-requires c κs = search needs
 
-enum-known-entry : tie.Need-enum-known-entry
-enum-known-entry c = search needs
+enum-known-admission : tie.Need-enum-known-admission
+enum-known-admission c = search needs
 
-enum-known-entry-2 : tie.Need-enum-known-entry-2
-enum-known-entry-2 c = search needs
+enum-known-admission-2 : tie.Need-enum-known-admission-2
+enum-known-admission-2 c = search needs
 
 in-range-requires : tie.Need-in-range-requires
 in-range-requires c κs = search needs
@@ -118,7 +118,7 @@ same-length-5 : tie.Need-same-length-5
 same-length-5 c = search needs
 
 returns-5 : tie.Need-returns-5
-returns-5 c = refused (Take _ _ _) (sym (c .before .entry .given .1) ∙ c .before .before .before .enter .ensures)
+returns-5 c = refused (Take _ _ _) (sym (c .before .admission .given .1) ∙ c .before .before .before .admit .ensures)
 
 same-length-6 : tie.Need-same-length-6
 same-length-6 c = search needs
@@ -130,4 +130,4 @@ returns-6 c =
 
 pub take-spec : {M : Type 1} → statement M
 take-spec =
-    tie.close (tie.spec enter-requires enum-known-entry enum-known-entry-2 in-range-requires same-length returns in-range-requires-2 same-length-2 returns-2 screen-at-requires mul-if3 slice-read-if3 same-length-3 returns-3 sub-held add-held mul-held slice-read-held same-length-4 returns-4 mul-t slice-write-t same-length-5 returns-5 same-length-6 returns-6)
+    tie.close (tie.spec admit-requires enum-known-admission enum-known-admission-2 in-range-requires same-length returns in-range-requires-2 same-length-2 returns-2 screen-at-requires mul-if3 slice-read-if3 same-length-3 returns-3 sub-held add-held mul-held slice-read-held same-length-4 returns-4 mul-t slice-write-t same-length-5 returns-5 same-length-6 returns-6)

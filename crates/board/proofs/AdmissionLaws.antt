@@ -1,4 +1,4 @@
--- What `enter` answers, taken apart: a refusal, or a sound table with the desk's place in it.
+-- What `admit` answers, taken apart: a refusal, or a sound table with the desk's place in it.
 use Prim.Native.Nat.{ℕ, _+_, _-_, _≤_}
 use native.Mathlib.Omega.{arith}
 use mathlib.Core.Bool.{Bool, true, false}
@@ -12,18 +12,18 @@ use Rattle.rules.specs.laws.Effect.{in-range}
 use Rattle.rules.specs.laws.TableSteps.{Known, asked, known, record-within, refused-step, unsound-step}
 use Rattle.rules.specs.laws.Window.{deskIn}
 use Rattle.reply.specs.Answer.{told}
-use Rattle.board.specs.Entry.{entryOf, placeOf}
+use Rattle.board.specs.Admission.{admissionOf, locationOf}
 use Rattle.reply.specs.declared.Reply.{Reply}
 use Rattle.reply.specs.declared.Reply.the-variants.{NoDesk, Unsound}
-use Rattle.board.specs.declared.Place.{Place}
-use Rattle.board.specs.declared.Entry.the-variants.{At, No}
+use Rattle.board.specs.declared.Location.{Location}
+use Rattle.board.specs.declared.Admission.the-variants.{At, No}
 
 -- the end of a record is the start of the next
 pub next-start : (H : Hall) (d : ℕ) → 1 ≤ d → startFor (H .positions) (allScreens H) d ≡ recordStart H d + recordWidth H
 next-start H d h = let e : d ≡ 1 + (d - 1) = omega arith in ap (startFor (H .positions) (allScreens H)) e ∙ omega arith
 
 -- ---- accepted
-pub record Entered (t : List ℕ) (desk : ℕ) (p : Place) : Type 0 where
+pub record Admitted (t : List ℕ) (desk : ℕ) (p : Location) : Type 0 where
   pub yes-sound : sound hallLimits t ≡ true
   pub yes-desk : inRange desk (hallIn t .desks) ≡ true
   pub facts : Known t
@@ -36,24 +36,24 @@ pub record Entered (t : List ℕ) (desk : ℕ) (p : Place) : Type 0 where
   pub most : p .all ≤ maxAllScreens
   pub room : p .end ≤ length t
 
-pub entered : {t : List ℕ} {desk : ℕ} {p : Place} → At p ≡ entryOf t desk → Entered t desk p
-unfolding entryOf
-entered {t} {desk} {p} q = go (sound hallLimits t) (inRange desk (hallIn t .desks)) refl refl
+pub admitted : {t : List ℕ} {desk : ℕ} {p : Location} → At p ≡ admissionOf t desk → Admitted t desk p
+unfolding admissionOf
+admitted {t} {desk} {p} q = go (sound hallLimits t) (inRange desk (hallIn t .desks)) refl refl
   where
-    here : sound hallLimits t ≡ true → inRange desk (hallIn t .desks) ≡ true → p ≡ placeOf t desk → Entered t desk p
+    here : sound hallLimits t ≡ true → inRange desk (hallIn t .desks) ≡ true → p ≡ locationOf t desk → Admitted t desk p
     here e g is =
         let f = known hallLimits t e in
         let r = in-range desk (hallIn t .desks) g in
-        let all = ap (λ (x : Place). x .all) is in
-        let start = ap (λ (x : Place). x .start) is in
-        let end : p .end ≡ recordStart (hallIn t) desk + recordWidth (hallIn t) = ap (λ (x : Place). x .end) is ∙ next-start (hallIn t) desk (r .0) in
+        let all = ap (λ (x : Location). x .all) is in
+        let start = ap (λ (x : Location). x .start) is in
+        let end : p .end ≡ recordStart (hallIn t) desk + recordWidth (hallIn t) = ap (λ (x : Location). x .end) is ∙ next-start (hallIn t) desk (r .0) in
         record {
           yes-sound = e;
           yes-desk = g;
           facts = f;
           range = r;
-          positions-is = ap (λ (x : Place). x .positions) is;
-          screens-is = ap (λ (x : Place). x .screens) is;
+          positions-is = ap (λ (x : Location). x .positions) is;
+          screens-is = ap (λ (x : Location). x .screens) is;
           all-is = all;
           start-is = start;
           end-is = omega (arith, all, start, end);
@@ -61,8 +61,8 @@ entered {t} {desk} {p} q = go (sound hallLimits t) (inRange desk (hallIn t .desk
           room = omega (arith, end, f .long, record-within (hallIn t) desk (r .0) (r .1));
         }
 
-    go : (a b : Bool) → sound hallLimits t ≡ a → inRange desk (hallIn t .desks) ≡ b → Entered t desk p
-    go true true e g = let z : At p ≡ At (placeOf t desk) = rw (e, g) at q in here e g (cc)
+    go : (a b : Bool) → sound hallLimits t ≡ a → inRange desk (hallIn t .desks) ≡ b → Admitted t desk p
+    go true true e g = let z : At p ≡ At (locationOf t desk) = rw (e, g) at q in here e g (cc)
     go true false e g = let z : At p ≡ No NoDesk = rw (e, g) at q in let never : _≡_ {A = ℕ} 0 1 = cc in absurd (omega arith)
     go false b e g = let z : At p ≡ No Unsound = rw e at q in let never : _≡_ {A = ℕ} 0 1 = cc in absurd (omega arith)
 
@@ -74,12 +74,12 @@ no-desk t (Swap d q v) out = rw out
 no-desk t (Retire d) out = rw out
 no-desk t (Collect d) out = rw out
 
-pub refused : {t : List ℕ} {x : Reply} (c : Call) → No x ≡ entryOf t (deskIn c) → told x t ≡ stepTable hallLimits t c
-unfolding entryOf
+pub refused : {t : List ℕ} {x : Reply} (c : Call) → No x ≡ admissionOf t (deskIn c) → told x t ≡ stepTable hallLimits t c
+unfolding admissionOf
 refused {t} {x} c q = go (sound hallLimits t) (inRange (deskIn c) (hallIn t .desks)) refl refl
   where
     go : (a b : Bool) → sound hallLimits t ≡ a → inRange (deskIn c) (hallIn t .desks) ≡ b → told x t ≡ stepTable hallLimits t c
-    go true true e g = let z : No x ≡ At (placeOf t (deskIn c)) = rw (e, g) at q in let never : _≡_ {A = ℕ} 0 1 = cc in absurd (omega arith)
+    go true true e g = let z : No x ≡ At (locationOf t (deskIn c)) = rw (e, g) at q in let never : _≡_ {A = ℕ} 0 1 = cc in absurd (omega arith)
     go true false e g =
         let z : No x ≡ No NoDesk = rw (e, g) at q in
         let y : x ≡ NoDesk = cc in

@@ -14,10 +14,10 @@ use Rattle.rules.specs.laws.Effect.{in-range}
 use Rattle.rules.specs.laws.ScreenIndex.{screen-in}
 use Rattle.rules.specs.laws.TableSteps.{desk-word, held-word, record-sound, shown-word}
 use Rattle.desk.specs.Record.{Encoded}
-use Rattle.board.specs.Entry.{screenFor}
+use Rattle.board.specs.Admission.{screenFor}
 use Rattle.desk.proofs.DeskTie.{sound-encoded}
-use Rattle.board.specs.declared.Place.{Place}
-use Rattle.board.proofs.EntryLaws.{Entered}
+use Rattle.board.specs.declared.Location.{Location}
+use Rattle.board.proofs.AdmissionLaws.{Admitted}
 
 -- ---- screen i of desk d, both from 1: its word is word a
 pub record AtScreen (t : List ℕ) (d i a : ℕ) : Type 0 where
@@ -29,7 +29,7 @@ pub record AtScreen (t : List ℕ) (d i a : ℕ) : Type 0 where
   pub there : a < length t
   pub shows : getD (decode (hallIn t) t .shown) (screenIndex (hallIn t) d i) 0 ≡ getD t a 0
 
-pub at-screen : {t : List ℕ} {d i a : ℕ} {p : Place} → Entered t d p → inRange i (p .screens) ≡ true
+pub at-screen : {t : List ℕ} {d i a : ℕ} {p : Location} → Admitted t d p → inRange i (p .screens) ≡ true
     → a ≡ screenFor (p .positions) (p .screens) d i → AtScreen t d i a
 at-screen {t} {d} {i} {a} {p} e inside at =
     let H : Hall = hallIn t in
@@ -55,27 +55,27 @@ pub record AtPosition (t : List ℕ) (q : ℕ) : Type 0 where
   pub there : positionWord q < length t
   pub holds : getD (decode (hallIn t) t .held) (q - 1) 0 ≡ getD t (positionWord q) 0
 
-pub at-position : {t : List ℕ} {d q : ℕ} {p : Place} → Entered t d p → inRange q (p .positions) ≡ true → AtPosition t q
+pub at-position : {t : List ℕ} {d q : ℕ} {p : Location} → Admitted t d p → inRange q (p .positions) ≡ true → AtPosition t q
 at-position {t} {d} {q} e inside =
     let yes-position : inRange q (hallIn t .positions) ≡ true = ap (inRange q) (sym (e .positions-is)) ∙ inside in
     let r = in-range q (hallIn t .positions) yes-position in
     record { first = r .0; yes-position = yes-position; there = omega (arith, r .1, r .0, e .facts .long); holds = held-word t q (r .0) (r .1) }
 
 -- ---- the record of the desk, as the code lends it and as it comes back
-abbrev pub lentRecord : List ℕ → Place → List ℕ
+abbrev pub lentRecord : List ℕ → Location → List ℕ
 lentRecord t p = midOf (p .start) (p .end - p .start) t
 
-abbrev pub withRecord : List ℕ → Place → List ℕ → List ℕ
+abbrev pub withRecord : List ℕ → Location → List ℕ → List ℕ
 withRecord t p ys = putMid (p .start) (p .end - p .start) t ys
 
-pub record Lent (t : List ℕ) (d : ℕ) (p : Place) : Type 0 where
+pub record Lent (t : List ℕ) (d : ℕ) (p : Location) : Type 0 where
   pub part : lentRecord t p ≡ recordOf (hallIn t) t d
   pub sound : recordSound (p .all) (lentRecord t p) ≡ true
   pub encoded : Encoded (p .all) (lentRecord t p)
   pub desk-is : decodeDesk (lentRecord t p) ≡ deskOf (decode (hallIn t) t) d
   pub put : (ys : List ℕ) → withRecord t p ys ≡ putRecord (hallIn t) t d ys
 
-pub lent : {t : List ℕ} {d : ℕ} {p : Place} → Entered t d p → ((i : ℕ) → getD t i 0 < 2 ^ 16) → Lent t d p
+pub lent : {t : List ℕ} {d : ℕ} {p : Location} → Admitted t d p → ((i : ℕ) → getD t i 0 < 2 ^ 16) → Lent t d p
 lent {t} {d} {p} e small =
     let n : ℕ = p .end - p .start in
     let wide : n ≡ widthFor (p .all) = omega (arith, e .end-is) in

@@ -1,4 +1,4 @@
--- `board::enter` meets its contract.
+-- `board::admit` meets its contract.
 use Prim.Native.Nat.{ℕ, _-_, _*_, _≤_}
 use native.Mathlib.Omega.{arith}
 use mathlib.Core.Bool.{true}
@@ -10,11 +10,11 @@ use Rattle.rules.specs.Steps.{inRange}
 use Rattle.rules.specs.Table.{hallIn, sound, startFor}
 use Rattle.rules.specs.laws.Effect.{in-range}
 use Rattle.rules.specs.laws.TableSteps.{known}
-use Rattle.board.specs.Entry.{entryOf}
-use Rattle.board.specs.declared.Entry.{Entry}
+use Rattle.board.specs.Admission.{admissionOf}
+use Rattle.board.specs.declared.Admission.{Admission}
 use Rattle.board.proofs.SoundLaws.{said-no, said-yes}
-use Rattle.board.proofs.enter.Statement.{statement}
-use Rattle.board.proofs.enter.Tie as tie
+use Rattle.board.proofs.admit.Statement.{statement}
+use Rattle.board.proofs.admit.Tie as tie
 
 -- the call, and the table that it is lent
 abbrev start : tie.Else1 → tie.Start
@@ -41,7 +41,7 @@ sound-requires : tie.Need-sound-requires
 sound-requires c κs = search needs
 
 returns : tie.Need-returns
-unfolding entryOf
+unfolding admissionOf
 returns c = rw (said-no (c .before .sound .ensures) (c .if1 .taken))
 
 word-requires : tie.Need-word-requires
@@ -51,7 +51,7 @@ in-range-requires : tie.Need-in-range-requires
 in-range-requires c κs = search needs
 
 returns-2 : tie.Need-returns-2
-unfolding entryOf
+unfolding admissionOf
 returns-2 c =
     let w = c .before .before in
     rw (is-sound (w .before), ← w .word .ensures .0, said-no (c .before .in-range .ensures) (c .if2 .taken))
@@ -82,7 +82,7 @@ record-start-requires-2 c κs =
     omega (arith, all-is w, w .word3 .ensures .0, desk-range (w .before .before))
 
 returns-3 : tie.Need-returns-3
-unfolding entryOf
+unfolding admissionOf
 returns-3 c =
     let w = c .before .before in
     let b = w .before .before in
@@ -91,8 +91,8 @@ returns-3 c =
     let s = all-is w in
     let at = c .before .record-start .ensures .0 ∙ ap₂ (λ (x y : ℕ). startFor x y (start a .args .desk - 1)) l s in
     let to = c .record-start2 .ensures .0 ∙ ap₂ (λ (x y : ℕ). startFor x y (start a .args .desk)) l s in
-    rw (is-sound a, is-desk b) (λ i. Entry.At (record { positions = l i; screens = w .before .word2 .ensures .0 i; all = s i; start = at i; end = to i }))
+    rw (is-sound a, is-desk b) (λ i. Admission.At (record { positions = l i; screens = w .before .word2 .ensures .0 i; all = s i; start = at i; end = to i }))
 
-pub enter-spec : {M : Type 1} → statement M
-enter-spec =
+pub admit-spec : {M : Type 1} → statement M
+admit-spec =
     tie.close (tie.spec sound-requires returns word-requires in-range-requires returns-2 word-requires-2 word-requires-3 mul-s sub-record-start record-start-requires record-start-requires-2 returns-3)
