@@ -8,9 +8,9 @@ use lib.ListN.{length}
 use Rattle.rules.specs.Hall.{Hall, allScreens, hallLimits, maxAllScreens}
 use Rattle.rules.specs.Steps.{Call, Collect, Drop, Retire, Swap, Take, inRange}
 use Rattle.rules.specs.Table.{hallIn, recordStart, recordWidth, sound, startFor, stepTable, widthFor}
-use Rattle.rules.specs.laws.Effect.{in-range}
-use Rattle.rules.specs.laws.TableSteps.{Known, asked, known, record-within, refused-step, unsound-step}
-use Rattle.rules.specs.laws.Window.{deskIn}
+use Rattle.rules.specs.laws.history.StepEffects.{in-range}
+use Rattle.rules.specs.laws.table.TableSteps.{Known, asked, known, record-within, refused-step, unsound-step}
+use Rattle.rules.specs.laws.table.Window.{deskIn}
 use Rattle.reply.specs.Answer.{told}
 use Rattle.board.specs.Admission.{admissionOf, locationOf}
 use Rattle.reply.specs.declared.Reply.{Reply}

@@ -9,10 +9,10 @@ use borrow.Rule.Slice.PartMut.{mid-len, midOf, putMid}
 use Rattle.rules.specs.Hall.{Hall, allScreens, deskOf, screenIndex}
 use Rattle.rules.specs.Steps.{inRange}
 use Rattle.rules.specs.Table.{decode, decodeDesk, hallIn, maxWords, positionWord, putRecord, recordOf, recordSound, screenWord, widthFor}
-use Rattle.rules.specs.laws.Decoding.{small-drop, small-take}
-use Rattle.rules.specs.laws.Effect.{in-range}
-use Rattle.rules.specs.laws.ScreenIndex.{screen-in}
-use Rattle.rules.specs.laws.TableSteps.{desk-word, held-word, record-sound, shown-word}
+use Rattle.rules.specs.laws.desk.Decoding.{small-drop, small-take}
+use Rattle.rules.specs.laws.history.ScreenIndex.{screen-in}
+use Rattle.rules.specs.laws.history.StepEffects.{in-range}
+use Rattle.rules.specs.laws.table.TableSteps.{desk-word, held-word, record-sound, shown-word}
 use Rattle.desk.specs.Record.{Encoded}
 use Rattle.board.specs.Admission.{screenFor}
 use Rattle.desk.proofs.DeskTie.{sound-encoded}

@@ -10,9 +10,9 @@ use borrow.Rule.Slice.PartMut.{mid-len, midOf, post-is, putMid}
 use Rattle.rules.specs.Hall.{Hall, hallLimits, maxDesks, maxPositions, maxScreens}
 use Rattle.rules.specs.Steps.{Answer, firstNo, inRange}
 use Rattle.rules.specs.Table.{headerWords, need, openQuestions, openTable}
-use Rattle.rules.specs.laws.TableSteps.{accepted-open, refused-open}
-use Rattle.rules.specs.laws.Tables.{hall-opens}
-use Rattle.rules.specs.laws.Words16.{by-open}
+use Rattle.rules.specs.laws.table.EncodedStep.{hall-opens}
+use Rattle.rules.specs.laws.table.TableSteps.{accepted-open, refused-open}
+use Rattle.rules.specs.laws.table.WordBounds.{by-open}
 use Rattle.reply.specs.Answer.{answerOf, told}
 use Rattle.reply.specs.declared.Reply.{Reply}
 use Rattle.reply.specs.declared.Reply.the-variants.{Accepted, BadDesks, BadPositions, BadScreens, TableShort}

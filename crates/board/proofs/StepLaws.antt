@@ -14,8 +14,8 @@ use Rattle.rules.specs.Hall.{Desk, Hall, allScreens, deskOf, hallLimits}
 use Rattle.rules.specs.Steps.{Call, Collect, Collected, Drop, Retire, Swap, Take, collect, collectSeeing, firstNo, inRange, nextScreens, perform, retire}
 use Rattle.rules.specs.Steps.{retireQuestions}
 use Rattle.rules.specs.Table.{decode, decodeDesk, encodeDesk, hallIn, headerWords, positionWord, putRecord, recordOf, scannedOffset, stepTable, written}
-use Rattle.rules.specs.laws.TableSteps.{accepted-step, asked, collect-seeing, owed-word, refused-step, shown-at}
-use Rattle.rules.specs.laws.Tables.{some-screens}
+use Rattle.rules.specs.laws.table.EncodedStep.{some-screens}
+use Rattle.rules.specs.laws.table.TableSteps.{accepted-step, asked, collect-seeing, owed-word, refused-step, shown-at}
 use Rattle.desk.specs.Record.{Retired}
 use Rattle.reply.specs.Answer.{answerOf, told}
 use Rattle.reply.specs.declared.Reply.{Reply}

@@ -15,10 +15,10 @@ ghost use Rattle.rules.specs.Lists.{chunks, every};
 ghost use Rattle.rules.specs.Steps.{Collect, Drop, Retire, Swap, Take, inRange};
 ghost use Rattle.rules.specs.Table.{headerWords, inLimits, maxWords, need as hallNeed, openTable, recordSound, sound as soundTable, startFor, stepTable};
 ghost use Rattle.rules.specs.Table.{widthFor};
-ghost use Rattle.rules.specs.laws.Window.{deskIn};
+ghost use Rattle.rules.specs.laws.table.Window.{deskIn};
 ghost use Rattle.reply.specs.Answer.{answerOf, told};
-ghost use Rattle.board.specs.Asked.{callOf};
 ghost use Rattle.board.specs.Admission.{admissionOf, screenFor};
+ghost use Rattle.board.specs.Asked.{callOf};
 ghost use Rattle.board.specs.Opening.{OpeningAnswer};
 
 // Where things stand in a table: P, the desks.

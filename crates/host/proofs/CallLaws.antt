@@ -9,11 +9,11 @@ use Rattle.rules.specs.Bytes.{IsBytes, Words16, overwriteWords, reply, stepByte
 use Rattle.rules.specs.Hall.{hallLimits}
 use Rattle.rules.specs.Steps.{Call}
 use Rattle.rules.specs.Table.{TableDone, hallIn, stepTable}
-use Rattle.rules.specs.laws.Bytes.{words-are-16}
-use Rattle.rules.specs.laws.Decoding.{small-take}
-use Rattle.rules.specs.laws.Front.{front-overwritten-back, step-on-front}
-use Rattle.rules.specs.laws.Window.{Rewritten, deskIn, step-rewritten}
-use Rattle.rules.specs.laws.Words16.{step-length, step-refused}
+use Rattle.rules.specs.laws.bytes.Bytes.{words-are-16}
+use Rattle.rules.specs.laws.bytes.Front.{front-overwritten-back, step-on-front}
+use Rattle.rules.specs.laws.desk.Decoding.{small-take}
+use Rattle.rules.specs.laws.table.Window.{Rewritten, deskIn, step-rewritten}
+use Rattle.rules.specs.laws.table.WordBounds.{step-length, step-refused}
 use Rattle.reply.specs.Answer.{answerOf, told}
 use Rattle.host.specs.Heard.{Front, Seen, Told, heard}
 use Rattle.reply.specs.declared.Reply.{Reply}

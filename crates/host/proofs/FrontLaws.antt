@@ -8,9 +8,9 @@ use lib.ListN.{length, getD}
 use Rattle.rules.specs.Bytes.{wordsOfBytes}
 use Rattle.rules.specs.Hall.{Hall, hallLimits}
 use Rattle.rules.specs.Table.{hallIn, headerWords, inLimits, need}
-use Rattle.rules.specs.laws.Bytes.{words-length}
-use Rattle.rules.specs.laws.Prefix.{need-at-most}
-use Rattle.rules.specs.laws.Tables.{limits-fit}
+use Rattle.rules.specs.laws.bytes.Bytes.{words-length}
+use Rattle.rules.specs.laws.table.EncodedStep.{limits-fit}
+use Rattle.rules.specs.laws.table.NeedSuffices.{need-at-most}
 use Rattle.host.specs.Heard.{Front}
 
 pub header-alone : (H : Hall) → (inLimits hallLimits H ≡ true → ⊥) → Front H headerWords

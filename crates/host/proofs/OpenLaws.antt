@@ -6,15 +6,15 @@ use mathlib.Core.Path.{_≡_, refl, sym, ap, ap₂, _∙_}
 use lib.ListN.{length, take, drop, replicate, length-replicate}
 use lib.Seq.{length-take-le}
 use borrow.Rule.Slice.PartMut.{mid-len, midOf, post-is, putMid}
-use Rattle.rules.specs.Bytes.{IsBytes, bytesOfWords, overwriteWords, openBytes, reply, wordsOfBytes}
+use Rattle.rules.specs.Bytes.{IsBytes, bytesOfWords, openBytes, overwriteWords, reply, wordsOfBytes}
 use Rattle.rules.specs.Hall.{Hall, hallLimits}
 use Rattle.rules.specs.Steps.{firstNo}
 use Rattle.rules.specs.Table.{TableDone, headerWords, maxWords, need, openQuestions, openTable}
-use Rattle.rules.specs.laws.Bytes.{overwrite-back, words-length}
-use Rattle.rules.specs.laws.Front.{overwrite-front}
-use Rattle.rules.specs.laws.Prefix.{need-at-most}
-use Rattle.rules.specs.laws.TableSteps.{accepted-open}
-use Rattle.rules.specs.laws.Tables.{hall-opens, limits-fit}
+use Rattle.rules.specs.laws.bytes.Bytes.{overwrite-back, words-length}
+use Rattle.rules.specs.laws.bytes.Front.{overwrite-front}
+use Rattle.rules.specs.laws.table.EncodedStep.{hall-opens, limits-fit}
+use Rattle.rules.specs.laws.table.NeedSuffices.{need-at-most}
+use Rattle.rules.specs.laws.table.TableSteps.{accepted-open}
 use Rattle.reply.specs.Answer.{answerOf}
 use Rattle.host.specs.Heard.{heard}
 use Rattle.reply.specs.declared.Reply.{Reply}

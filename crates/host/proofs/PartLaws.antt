@@ -10,8 +10,8 @@ use borrow.Rule.Slice.PartMut.{mid-len, midOf, putMid}
 use Rattle.rules.specs.Bytes.{IsBytes, overwriteWords, wordsOfBytes}
 use Rattle.rules.specs.Hall.{allScreens, maxAllScreens, maxDesks, maxPositions}
 use Rattle.rules.specs.Table.{hallIn, headerWords, recordStart, recordWidth, startFor}
-use Rattle.rules.specs.laws.TableSteps.{record-within}
-use Rattle.rules.specs.laws.Window.{Rewritten, overwriteRange, rewritten-overwritten}
+use Rattle.rules.specs.laws.table.TableSteps.{record-within}
+use Rattle.rules.specs.laws.table.Window.{Rewritten, overwriteRange, rewritten-overwritten}
 use Rattle.board.proofs.EntryLaws.{next-start}
 
 -- words laid over a part of the bytes that is as long

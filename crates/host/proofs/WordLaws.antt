@@ -8,7 +8,7 @@ use mathlib.Core.Path.{_≡_, refl, ap}
 use lib.ListN.{length, getD, set, take}
 use lib.Seq.{take-suc, take-suc-set}
 use Rattle.rules.specs.Bytes.{overwriteWords, wordsOfBytes}
-use Rattle.rules.specs.laws.Bytes.{words-length}
+use Rattle.rules.specs.laws.bytes.Bytes.{words-length}
 
 -- word k is made of the bytes 2k and 2k + 1
 pub word-at : (bytes : List ℕ) (k : ℕ) → 2 * k + 1 < length bytes → getD bytes (2 * k) 0 + 256 * getD bytes (2 * k + 1) 0 ≡ getD (wordsOfBytes bytes) k 0

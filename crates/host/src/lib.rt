@@ -11,11 +11,11 @@ use reply::packed;
 ghost use mathlib.Core.Path.{_≡_};
 ghost use Prim.Native.Nat.{_+_, _*_, _<_, _≤_};
 ghost use lib.ListN.{length, getD, replicate, take as takeWords};
-ghost use Rattle.rules.specs.Bytes.{overwriteWords, openBytes, stepBytes, wordsOfBytes};
+ghost use Rattle.rules.specs.Bytes.{openBytes, overwriteWords, stepBytes, wordsOfBytes};
 ghost use Rattle.rules.specs.Hall.{hallLimits, hallOf};
 ghost use Rattle.rules.specs.Steps.{Collect, Drop, Retire, Swap, Take};
 ghost use Rattle.rules.specs.Table.{hallIn, maxWords};
-ghost use Rattle.rules.specs.laws.Window.{Rewritten, overwriteRange};
+ghost use Rattle.rules.specs.laws.table.Window.{Rewritten, overwriteRange};
 ghost use Rattle.board.specs.Asked.{callOf};
 ghost use Rattle.host.specs.Heard.{Front, Seen, Told, fewWords, heard};
 

@@ -8,8 +8,8 @@ use borrow.Author.Needs.{needs}
 use Rattle.rules.specs.Hall.{allScreens, hallLimits}
 use Rattle.rules.specs.Steps.{inRange}
 use Rattle.rules.specs.Table.{hallIn, sound, startFor}
-use Rattle.rules.specs.laws.Effect.{in-range}
-use Rattle.rules.specs.laws.TableSteps.{known}
+use Rattle.rules.specs.laws.history.StepEffects.{in-range}
+use Rattle.rules.specs.laws.table.TableSteps.{known}
 use Rattle.board.specs.Admission.{admissionOf}
 use Rattle.board.specs.declared.Admission.{Admission}
 use Rattle.board.proofs.SoundLaws.{said-no, said-yes}

@@ -9,7 +9,7 @@ use borrow.Rule.Slice.PartMut.{putMid, same-len-mid}
 use Rattle.rules.specs.Hall.{Hall, hallLimits, hallOf}
 use Rattle.rules.specs.Steps.{firstNo}
 use Rattle.rules.specs.Table.{headerWords, need, openQuestions}
-use Rattle.rules.specs.laws.Tables.{hall-opens}
+use Rattle.rules.specs.laws.table.EncodedStep.{hall-opens}
 use Rattle.board.proofs.OpenLaws.{is-opened, not-opened, opened}
 use Rattle.board.proofs.open.Statement.{statement}
 use Rattle.board.proofs.open.Tie as tie

@@ -8,7 +8,7 @@ use mathlib.Core.Path.{_≡_, sym}
 use borrow.Author.Needs.{needs}
 use Rattle.rules.specs.Hall.{hallLimits}
 use Rattle.rules.specs.Table.{hallIn, inLimits}
-use Rattle.rules.specs.laws.Tables.{Fits, limits-fit}
+use Rattle.rules.specs.laws.table.EncodedStep.{Fits, limits-fit}
 use Rattle.board.proofs.SoundLaws.{by-records, not-long, outside, said-no, said-yes}
 use Rattle.board.proofs.sound.Statement.{statement}
 use Rattle.board.proofs.sound.Tie as tie

@@ -5,7 +5,7 @@ use mathlib.Core.Path.{_≡_}
 use lib.ListN.{length, take, length-set}
 use borrow.Author.Needs.{needs}
 use Rattle.rules.specs.Bytes.{wordsOfBytes}
-use Rattle.rules.specs.laws.Bytes.{words-length}
+use Rattle.rules.specs.laws.bytes.Bytes.{words-length}
 use Rattle.host.proofs.WordLaws.{read-more, word-at}
 use Rattle.host.proofs.decode.Statement.{statement}
 use Rattle.host.proofs.decode.Tie as tie

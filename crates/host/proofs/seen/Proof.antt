@@ -6,7 +6,7 @@ use lib.ListN.{length}
 use lib.Seq.{take-all}
 use borrow.Author.Needs.{needs}
 use Rattle.rules.specs.Bytes.{wordsOfBytes}
-use Rattle.rules.specs.laws.Bytes.{words-length}
+use Rattle.rules.specs.laws.bytes.Bytes.{words-length}
 use Rattle.host.proofs.seen.Statement.{statement}
 use Rattle.host.proofs.seen.Tie as tie
 

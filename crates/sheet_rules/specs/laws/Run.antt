@@ -10,8 +10,8 @@ use Rattle.rules.specs.Hall.{Hall, hallLimits}
 use Rattle.rules.specs.Numbers.{Got, Refusal, got, refusalOf, refused}
 use Rattle.rules.specs.Steps.{Event}
 use Rattle.rules.specs.Table.{TableDone, openTable, openedTable, runTable, stepTable}
-use Rattle.rules.specs.laws.Effect.{in-range}
-use Rattle.rules.specs.laws.TableSteps.{accepted-open}
+use Rattle.rules.specs.laws.history.StepEffects.{in-range}
+use Rattle.rules.specs.laws.table.TableSteps.{accepted-open}
 use Rattle.sheet_rules.specs.Lines.{answerLine, endLine, endingLine, eventLines, line, linesFrom, linesOf, printed}
 use Rattle.sheet_rules.specs.Sheet.{Record, Records, callOf, callsIn, codeOf, complete, headed, headerAt, isCode, lentTable, maxBytes, more, onward}
 use Rattle.sheet_rules.specs.Sheet.{opened, openedIf, openingNumber, reading, recordAt, recordFor, recordsAt, stop, unopened}

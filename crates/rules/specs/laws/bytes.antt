@@ -1,0 +1,4 @@
+-- Calls on bytes, and lists of them.
+pub mod Bytes
+pub mod ByteHistories
+pub mod Front

@@ -1,0 +1,111 @@
+-- The words of a desk: its record, read back, is the desk.
+use Prim.Native.Nat.{ℕ, zero, suc, _+_, _*_, _-_, _/_, _%_, _≤_}
+use native.Mathlib.Omega.{arith}
+use mathlib.Core.Path.{_≡_, refl, ap, ap₂, _∙_}
+use mathlib.Core.Bool.{Bool, true, false}
+use mathlib.Core.List.{List, [], _∷_, _++_, append-assoc}
+use lib.ListN.{length, take, drop, replicate, length-append, length-replicate, length-drop, take-append-drop}
+use lib.Seq.{take-at, drop-at, take-append-seam, drop-append-seam, length-take-le, drop-append-add}
+use lib.Dec.{eqb}
+use borrow.Author.Tests.{eq-eqb, ne-eqb}
+use Rattle.rules.specs.Hall.{Desk, TestedSlot, marked, unmarked}
+use Rattle.rules.specs.Lists.{toNat}
+use Rattle.rules.specs.Table.{allMarks, bitsOfWord, bitsOfWords, decodeDesk, encodeDesk, listOf, markWords, marksOf, ones, sessionsOf, slotsOf}
+use Rattle.rules.specs.Table.{wordOfBits, wordsOfBits}
+use Rattle.rules.specs.laws.desk.Marks.{markCount}
+
+bits-of-word-of-bits : (n : ℕ) (bs : List Bool) → length bs ≡ n → bitsOfWord n (wordOfBits bs) ≡ bs
+bits-of-word-of-bits zero [] h = refl
+bits-of-word-of-bits zero (b ∷ bs) h = absurd (omega arith)
+bits-of-word-of-bits (suc n) [] h = absurd (omega arith)
+bits-of-word-of-bits (suc n) (b ∷ bs) h = λ i. low b i ∷ (ap (bitsOfWord n) (half b) ∙ bits-of-word-of-bits n bs (omega arith)) i
+  where
+    low : (b : Bool) → eqb ((toNat b + 2 * wordOfBits bs) % 2) 1 ≡ b
+    low true = eq-eqb ((1 + 2 * wordOfBits bs) % 2) 1 (omega arith)
+    low false = ne-eqb ((0 + 2 * wordOfBits bs) % 2) 1 (λ q. omega arith)
+
+    half : (b : Bool) → (toNat b + 2 * wordOfBits bs) / 2 ≡ wordOfBits bs
+    half true = omega arith
+    half false = omega arith
+
+bits-of-words-of-bits : (n : ℕ) (bs : List Bool) → length bs ≡ n * 16 → bitsOfWords (wordsOfBits n bs) ≡ bs
+bits-of-words-of-bits zero [] h = refl
+bits-of-words-of-bits zero (b ∷ bs) h = absurd (omega arith)
+bits-of-words-of-bits (suc n) bs h =
+    ap₂ {C = List Bool} (λ x y. x ++ y) (bits-of-word-of-bits 16 (take 16 bs) (length-take-le 16 bs (omega arith)))
+    (bits-of-words-of-bits n (drop 16 bs) (omega (arith, length-drop 16 bs)))
+    ∙ take-append-drop 16 bs
+
+pub length-sessions : (ps : List TestedSlot) → length (sessionsOf ps) ≡ length ps
+length-sessions [] = refl
+length-sessions (unmarked x ∷ ps) = ap suc (length-sessions ps)
+length-sessions (marked x ∷ ps) = ap suc (length-sessions ps)
+
+pub length-marks : (ps : List TestedSlot) → length (marksOf ps) ≡ length ps
+length-marks [] = refl
+length-marks (unmarked x ∷ ps) = ap suc (length-marks ps)
+length-marks (marked x ∷ ps) = ap suc (length-marks ps)
+
+pub slots-of-parts : (ps : List TestedSlot) → slotsOf (sessionsOf ps) (marksOf ps) ≡ ps
+slots-of-parts [] = refl
+slots-of-parts (unmarked x ∷ ps) = ap {B = List TestedSlot} (λ r. unmarked x ∷ r) (slots-of-parts ps)
+slots-of-parts (marked x ∷ ps) = ap {B = List TestedSlot} (λ r. marked x ∷ r) (slots-of-parts ps)
+
+pub ones-marks : (ps : List TestedSlot) → ones (marksOf ps) ≡ markCount ps
+ones-marks [] = refl
+ones-marks (unmarked x ∷ ps) = omega (arith, ones-marks ps)
+ones-marks (marked x ∷ ps) = omega (arith, ones-marks ps)
+
+-- a list of three parts and what stands behind them
+module _ {A : Type 0} (a b c z : List A) where
+  first-part : take (length a) ((a ++ (b ++ c)) ++ z) ≡ a
+  first-part = ap (take (length a)) (append-assoc a (b ++ c) z) ∙ take-append-seam a ((b ++ c) ++ z)
+
+  second-part : (n : ℕ) → length b ≡ n → take n (drop (length a) ((a ++ (b ++ c)) ++ z)) ≡ b
+  second-part n h =
+      ap (λ (l : List A). take n (drop (length a) l)) (append-assoc a (b ++ c) z) ∙ ap (take n) (drop-append-seam a ((b ++ c) ++ z))
+      ∙ ap (take n) (append-assoc b c z) ∙ take-at b (c ++ z) n h
+
+  third-part : (n : ℕ) → length b ≡ n → take (length c) (drop (length a + n) ((a ++ (b ++ c)) ++ z)) ≡ c
+  third-part n h =
+      ap (λ (l : List A). take (length c) (drop (length a + n) l)) (append-assoc a (b ++ c) z)
+      ∙ ap (take (length c)) (drop-append-add a ((b ++ c) ++ z) n) ∙ ap (λ (l : List A). take (length c) (drop n l)) (append-assoc b c z)
+      ∙ ap (take (length c)) (drop-at b (c ++ z) n h) ∙ take-append-seam c z
+
+-- the bits of a record's mark words
+abbrev pub markBits : List TestedSlot → List Bool
+markBits T = marksOf T ++ replicate (allMarks - length T) false
+
+pub marks-read-back : (T : List TestedSlot) → length T ≤ allMarks → bitsOfWords (wordsOfBits markWords (markBits T)) ≡ markBits T
+marks-read-back T h =
+    bits-of-words-of-bits markWords (markBits T) (omega (
+      arith,
+      length-append (marksOf T) (replicate (allMarks - length T) false),
+      length-marks T,
+      length-replicate {A = Bool} (allMarks - length T) false,
+    ))
+
+pub desk-read-back : (S : ℕ) (D : Desk) → length (D .tested) ≤ allMarks → decodeDesk (encodeDesk S D) ≡ D
+unfolding encodeDesk decodeDesk
+desk-read-back S D h = λ i. record { owed = D .owed; scanned = D .scanned; ready = ready i; tested = tested i; waiting = waiting i }
+  where
+    ready : decodeDesk (encodeDesk S D) .ready ≡ D .ready
+    ready = first-part (D .ready) (sessionsOf (D .tested)) (D .waiting) (replicate (2 * S - length (listOf D)) 0)
+
+    marks : take (length (D .tested)) (bitsOfWords (wordsOfBits markWords (markBits (D .tested)))) ≡ marksOf (D .tested)
+    marks =
+        ap (take (length (D .tested))) (marks-read-back (D .tested) h)
+        ∙ take-at (marksOf (D .tested)) (replicate (allMarks - length (D .tested)) false) (length (D .tested)) (length-marks (D .tested))
+
+    tested : decodeDesk (encodeDesk S D) .tested ≡ D .tested
+    tested =
+        ap₂ slotsOf
+        (second-part (D .ready) (sessionsOf (D .tested)) (D .waiting) (replicate (2 * S - length (listOf D)) 0) (length (D .tested))
+        (length-sessions (D .tested)))
+        marks
+        ∙ slots-of-parts (D .tested)
+
+    waiting : decodeDesk (encodeDesk S D) .waiting ≡ D .waiting
+    waiting =
+        third-part (D .ready) (sessionsOf (D .tested)) (D .waiting) (replicate (2 * S - length (listOf D)) 0) (length (D .tested))
+        (length-sessions (D .tested))

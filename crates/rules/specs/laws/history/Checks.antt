@@ -1,0 +1,145 @@
+-- Computed tests from which a history is seen to meet the premises of a theorem.
+use Prim.Native.Nat.{ℕ, zero, suc, _+_, _≤_}
+use native.Mathlib.Omega.{arith}
+use native.Mathlib.Decide.{decLe}
+use mathlib.Core.Path.{_≡_, refl, ap, _∙_, sym, subst}
+use mathlib.Core.Bool.{cond, Bool, true, false, not, _&&_, true≢false}
+use mathlib.Core.List.{List, [], _∷_}
+use lib.Dec.{eqb}
+use borrow.Author.Tests.{eq-eqb, eqb-true}
+use Rattle.rules.specs.History.{CollectsBetweenRetires, Deed, Unshown, collects, deed, deedAt, deedsOf, drops, handsBack, isCollect, isRetireAttempt}
+use Rattle.rules.specs.History.{lacksRoom, nothing, own, retires, swaps, takes}
+use Rattle.rules.specs.Lists.{occurrences, toNat}
+use Rattle.rules.specs.Steps.{Event}
+use Rattle.rules.specs.laws.history.DeskInvariants.{CollectBefore, Spaced}
+use Rattle.rules.specs.laws.lists.Lists.{indicator, indicator-same}
+
+-- ---- The discipline.
+abbrev pub collectsBetween : Bool → List Deed → Bool
+collectsBetween pending [] = true
+collectsBetween pending (D ∷ deeds) =
+    cond (isRetireAttempt D) (not pending && collectsBetween true deeds)
+    (cond (isCollect D) (collectsBetween false deeds) (collectsBetween pending deeds))
+
+module _ (d : ℕ) where
+  -- what holds of the later events, with one more before them
+  later-collect : (e : Event) (es : List Event) (j : ℕ) → CollectBefore d es j → CollectBefore d (e ∷ es) (suc j)
+  later-collect e es j c = record { index = suc (c .index); before = omega (arith, c .before); here = c .here }
+
+  later-between : (e : Event) (es : List Event) → CollectsBetweenRetires (deedAt es) d
+      → ((j : ℕ) → isRetireAttempt (own d (deedAt (e ∷ es) 0)) ≡ true → isRetireAttempt (own d (deedAt es j)) ≡ true → CollectBefore d es j)
+      → CollectsBetweenRetires (deedAt (e ∷ es)) d
+  later-between e es between first zero zero l a b = absurd (omega arith)
+  later-between e es between first (suc i) zero l a b = absurd (omega arith)
+  later-between e es between first zero (suc j) l a b =
+      let c = first j a b in record { index = suc (c .index); after = omega arith; before = omega (arith, c .before); here = c .here }
+  later-between e es between first (suc i) (suc j) l a b =
+      let c = between i j (omega arith) a b in
+      record { index = suc (c .index); after = omega (arith, c .after); before = omega (arith, c .before); here = c .here }
+
+  spaced-by-test : (es : List Event) (f : Bool) → collectsBetween f (deedsOf d es) ≡ true → Spaced d f es
+  spaced-by-test [] f q = record {
+    between = λ i j l a b. absurd (true≢false (cc));
+    since = λ q j a. absurd (true≢false (cc));
+  }
+  spaced-by-test (e ∷ es) f q =
+      by-cases (isRetireAttempt (own d (deedAt (e ∷ es) 0))) (isCollect (own d (deedAt (e ∷ es) 0))) refl refl f q (spaced-by-test es)
+    where
+      by-cases : (a c : Bool) → isRetireAttempt (own d (deedAt (e ∷ es) 0)) ≡ a → isCollect (own d (deedAt (e ∷ es) 0)) ≡ c → (f : Bool)
+          → cond a (not f && collectsBetween true (deedsOf d es)) (cond c (collectsBetween false (deedsOf d es)) (collectsBetween f (deedsOf d es))) ≡ true
+          → ((f : Bool) → collectsBetween f (deedsOf d es) ≡ true → Spaced d f es) → Spaced d f (e ∷ es)
+      by-cases true c at ct true q ih = absurd (true≢false (cc))
+      by-cases true c at ct false q ih =
+          let s = ih true q in
+          record {
+            between = later-between e es (s .between) (λ j x y. s .since refl j y);
+            since = λ z. absurd (true≢false (cc));
+          }
+      by-cases false true at ct f q ih =
+          let s = ih false q in
+          record { between = later-between e es (s .between) (λ j x y. absurd (true≢false (cc))); since = since }
+        where
+          since : f ≡ true → (j : ℕ) → isRetireAttempt (own d (deedAt (e ∷ es) j)) ≡ true → CollectBefore d (e ∷ es) j
+          since z zero x = absurd (true≢false (cc))
+          since z (suc j) x = record { index = 0; before = omega arith; here = ct }
+      by-cases false false at ct f q ih =
+          let s = ih f q in
+          record {
+            between = later-between e es (s .between) (λ j x y. absurd (true≢false (cc)));
+            since = since (s .since);
+          }
+        where
+          since : (f ≡ true → (j : ℕ) → isRetireAttempt (own d (deedAt es j)) ≡ true → CollectBefore d es j) → f ≡ true → (j : ℕ)
+              → isRetireAttempt (own d (deedAt (e ∷ es) j)) ≡ true → CollectBefore d (e ∷ es) j
+          since s z zero x = absurd (true≢false (cc))
+          since s z (suc j) x = later-collect e es j (s z j x)
+
+  pub collects-between-retires : (es : List Event) → collectsBetween false (deedsOf d es) ≡ true → CollectsBetweenRetires (deedAt es) d
+  collects-between-retires es q = spaced-by-test es false q .between
+
+-- ---- The places of the deeds that pass a test, from place n on.
+abbrev pub indicesWhere : (Deed → Bool) → ℕ → List Event → List ℕ
+indicesWhere test n [] = []
+indicesWhere test n (e ∷ es) =
+    cond (test (deed (e .call) (e .answer .number) (e .answer .session))) (n ∷ indicesWhere test (suc n) es) (indicesWhere test (suc n) es)
+
+pub index-listed : (test : Deed → Bool) → test nothing ≡ false → (es : List Event) (n m : ℕ) → test (deedAt es m) ≡ true
+    → 1 ≤ occurrences (n + m) (indicesWhere test n es)
+index-listed test none [] n m t = absurd (true≢false (cc))
+index-listed test none (e ∷ es) n zero t =
+    let here : n + 0 ≡ n = omega arith in
+    rw t (omega (arith, ap (λ (k : ℕ). indicator k n) here, indicator-same n))
+index-listed test none (e ∷ es) n (suc m) t =
+    by-cases (test (deedAt (e ∷ es) 0)) (ap (λ (k : ℕ). occurrences k (indicesWhere test (suc n) es)) next) (index-listed test none es (suc n) m t)
+  where
+    next : suc n + m ≡ n + suc m
+    next = omega arith
+
+    by-cases : (b : Bool) → occurrences (suc n + m) (indicesWhere test (suc n) es) ≡ occurrences (n + suc m) (indicesWhere test (suc n) es)
+        → 1 ≤ occurrences (suc n + m) (indicesWhere test (suc n) es)
+        → 1 ≤ occurrences (n + suc m) (cond b (n ∷ indicesWhere test (suc n) es) (indicesWhere test (suc n) es))
+    by-cases true q ih = omega arith
+    by-cases false q ih = omega arith
+
+pub index-among : (test : Deed → Bool) → test nothing ≡ false → (es : List Event) (indices : List ℕ) → indicesWhere test 0 es ≡ indices → (m : ℕ)
+    → test (deedAt es m) ≡ true → 1 ≤ occurrences m indices
+index-among test none es indices q m t =
+    let here : 0 + m ≡ m = omega arith in
+    omega (arith, index-listed test none es 0 m t, ap (λ (k : ℕ). occurrences k (indicesWhere test 0 es)) here, ap (occurrences m) q)
+
+-- nowhere, and at one place or two
+pub nowhere : (test : Deed → Bool) → test nothing ≡ false → (es : List Event) → indicesWhere test 0 es ≡ [] → (m : ℕ) → test (deedAt es m) ≡ true → ⊥
+nowhere test none es q m t = omega (arith, index-among test none es [] q m t)
+
+listed-is : (m r : ℕ) → 1 ≤ indicator m r → m ≡ r
+listed-is m r h = by-cases (eqb m r) refl h
+  where
+    by-cases : (b : Bool) → eqb m r ≡ b → 1 ≤ toNat b → m ≡ r
+    by-cases true q h = eqb-true m r q
+    by-cases false q h = absurd (omega arith)
+
+pub only-at : (test : Deed → Bool) → test nothing ≡ false → (es : List Event) (r : ℕ) → indicesWhere test 0 es ≡ r ∷ [] → (m : ℕ)
+    → test (deedAt es m) ≡ true → m ≡ r
+only-at test none es r q m t = listed-is m r (omega (arith, index-among test none es (r ∷ []) q m t))
+
+pub one-of-two : (P : ℕ → Type 0) (test : Deed → Bool) → test nothing ≡ false → (es : List Event) (r r′ : ℕ) → indicesWhere test 0 es ≡ r ∷ r′ ∷ []
+    → P r → P r′ → (m : ℕ) → test (deedAt es m) ≡ true → P m
+one-of-two P test none es r r′ q p p′ m t = by-cases (decLe 1 (indicator m r))
+  where
+    by-cases : Dec (1 ≤ indicator m r) → P m
+    by-cases (yes h) = subst P (sym (listed-is m r h)) p
+    by-cases (no h) = subst P (sym (listed-is m r′ (omega (arith, index-among test none es (r ∷ r′ ∷ []) q m t)))) p′
+
+abbrev pub isTakeOf : ℕ → Deed → Bool
+isTakeOf s (takes d c p session) = eqb s session
+isTakeOf s (drops d c) = false
+isTakeOf s (swaps d p) = false
+isTakeOf s (retires d session) = false
+isTakeOf s (lacksRoom d) = false
+isTakeOf s (collects d) = false
+isTakeOf s (handsBack d session) = false
+isTakeOf s nothing = false
+
+-- a session that is never taken is never shown
+pub never-shown : (s : ℕ) (es : List Event) → indicesWhere (isTakeOf s) 0 es ≡ [] → (from upTo : ℕ) → Unshown (deedAt es) s from upTo
+never-shown s es q from upTo n d c a b shows = nowhere (isTakeOf s) refl es q (shows .takenAt) (ap (isTakeOf s) (shows .take) ∙ eq-eqb s s refl)

@@ -1,0 +1,126 @@
+-- The guarantee of Definition 2.1, of every list of calls from the opening on: the pairings of all desks and sessions together.
+use Prim.Native.Nat.{ℕ, _+_, _≤_, _<_}
+use native.Mathlib.Omega.{arith}
+use native.Mathlib.Decide.{ℕ-discrete, decLe}
+use mathlib.Core.Path.{_≡_, sym, ap, _∙_, subst}
+use mathlib.Core.Bool.{true≢false}
+use mathlib.Core.List.{List, []}
+use lib.ListN.{length, getD-replicate}
+use Rattle.rules.specs.Demands.{Guarantee}
+use Rattle.rules.specs.Hall.{Hall, allScreens, deskOf, fresh, screenIndex}
+use Rattle.rules.specs.History.{Deed, collects, deedAt, drops, handsBack, lacksRoom, nothing, retires, swaps, takes}
+use Rattle.rules.specs.Steps.{Call, end, run}
+use Rattle.rules.specs.laws.history.InitialState.{fresh-copies, fresh-formed, fresh-sound}
+use Rattle.rules.specs.laws.history.RunSplitting.{deed-within, range-run, tells-itself}
+use Rattle.rules.specs.laws.history.StepEffects.{Range}
+use Rattle.rules.specs.laws.pairing.Links.{ScreensAgree, link, unlinked}
+use Rattle.rules.specs.laws.pairing.Pairing.{Guard, MayPair, guard-along, takes-find-unlinked}
+
+-- A pairing for one desk and one session.
+record Pairs (f : ℕ → Deed) (d s : ℕ) (p : ℕ → ℕ) : Type 0 where
+  good : (a : ℕ) → f a ≡ handsBack d s → MayPair f d s a (p a)
+  once : (a b : ℕ) → f a ≡ handsBack d s → f b ≡ handsBack d s → p a ≡ p b → a ≡ b
+
+module _ (H : Hall) (some : 1 ≤ allScreens H) (cs : List Call) where
+  abbrev f : ℕ → Deed
+  f = deedAt (run H (fresh H) cs)
+
+  fresh-agree : ScreensAgree H f 0 (fresh H)
+  fresh-agree x h = getD-replicate (allScreens H) x 0 0 h
+
+  in-hall : (m : ℕ) → Range H (f m)
+  in-hall = range-run H cs (fresh H)
+
+  finds-free : (i x c p v : ℕ) → f i ≡ takes x c p v → link H f (screenIndex H x c) i ≡ unlinked
+  finds-free i x c p v t =
+      let e : 0 + i ≡ i = omega arith in
+      subst (λ (k : ℕ). link H f (screenIndex H x c) k ≡ unlinked) e
+      (takes-find-unlinked H f cs (fresh H) 0 (tells-itself (run H (fresh H) cs)) (fresh-formed H) fresh-agree i x c p v (ap f e ∙ t))
+
+  guard : (d s : ℕ) → 1 ≤ d → (s ≡ 0 → ⊥) → Guard H f d s (0 + length cs) (deskOf (end H (fresh H) cs) d)
+  guard d s h hs =
+      guard-along H f in-hall finds-free some d s h hs cs (fresh H) 0 (tells-itself (run H (fresh H) cs)) (fresh-formed H) (fresh-sound H d)
+      fresh-agree
+      (record {
+        count = λ r. 0;
+        tokens = record {
+          old = [];
+          new = [];
+          same = λ r. omega arith;
+          held = record { sum = omega (arith, fresh-copies H d s); tests = omega arith; marks = omega arith; waits = omega arith };
+        };
+        single = λ r. omega arith;
+        mine = λ r q. absurd (omega arith);
+        pair = λ a. 0;
+        good = λ a q. absurd (omega arith);
+        once = λ a b q. absurd (omega arith);
+        unused = λ a r q. absurd (omega arith);
+      })
+
+  within-end : (a d s : ℕ) → f a ≡ handsBack d s → a < 0 + length cs
+  within-end a d s q =
+      omega (
+        arith,
+        deed-within H cs (fresh H) a (λ e. true≢false (cc)),
+      )
+
+  -- the pairing that the guard built; there is no desk 0 and no session 0
+  choose : (d s : ℕ) → Dec (1 ≤ d) → Dec (s ≡ 0) → ℕ → ℕ
+  choose d s (yes h) (no z) = guard d s h z .pair
+  choose d s (yes h) (yes z) = λ a. 0
+  choose d s (no h) e = λ a. 0
+
+  pairOf : ℕ → ℕ → ℕ → ℕ
+  pairOf d s = choose d s (decLe 1 d) (ℕ-discrete s 0)
+
+  works : (d s : ℕ) → 1 ≤ d → (s ≡ 0 → ⊥) → Pairs f d s (pairOf d s)
+  unfolding pairOf choose
+  works d s h hs = by-cases (decLe 1 d) (ℕ-discrete s 0)
+    where
+      by-cases : (x : Dec (1 ≤ d)) (z : Dec (s ≡ 0)) → Pairs f d s (choose d s x z)
+      by-cases (yes x) (no z) =
+          let g = guard d s x z in
+          record {
+            good = λ a q. g .good a (within-end a d s q) q;
+            once = λ a b q q′. g .once a b (within-end a d s q) (within-end b d s q′) q q′;
+          }
+      by-cases (yes x) (yes z) = absurd (hs z)
+      by-cases (no x) z = absurd (x h)
+
+  partner : ℕ → Deed → ℕ
+  partner a (takes d c p v) = 0
+  partner a (drops d c) = 0
+  partner a (swaps d p) = 0
+  partner a (retires d s) = 0
+  partner a (lacksRoom d) = 0
+  partner a (collects d) = 0
+  partner a (handsBack d s) = pairOf d s a
+  partner a nothing = 0
+
+  -- at a hand-back
+  found : (a d s : ℕ) → f a ≡ handsBack d s → partner a (f a) ≡ pairOf d s a
+  unfolding partner
+  found a d s q = ap (partner a) q
+
+  is-good : (a d s : ℕ) → f a ≡ handsBack d s → MayPair f d s a (partner a (f a))
+  is-good a d s q =
+      let r = subst (Range H) q (in-hall a) in subst (λ (m : ℕ). MayPair f d s a m) (sym (found a d s q)) (works d s (r .0) (r .2) .good a q)
+
+  is-once : (a d s b d′ s′ : ℕ) → f a ≡ handsBack d s → f b ≡ handsBack d′ s′ → partner a (f a) ≡ partner b (f b) → a ≡ b
+  is-once a d s b d′ s′ q q′ e =
+      let k : retires d s ≡ retires d′ s′ = sym (is-good a d s q .same) ∙ ap f e ∙ is-good b d′ s′ q′ .same in
+      let dd : d′ ≡ d = cc in
+      let ss : s′ ≡ s = cc in
+      let qb : f b ≡ handsBack d s = q′ ∙ (λ i. handsBack (dd i) (ss i)) in
+      let r = subst (Range H) q (in-hall a) in
+      works d s (r .0) (r .2) .once a b q qb (sym (found a d s q) ∙ e ∙ found b d s qb)
+
+  -- The guarantee of Definition 2.1.
+  pub guaranteed : Guarantee (deedAt (run H (fresh H) cs))
+  guaranteed = record {
+    pair = λ a. partner a (f a);
+    earlier = λ a d s q. is-good a d s q .earlier;
+    same = λ a d s q. is-good a d s q .same;
+    once = is-once;
+    dropped = λ a d s i q. is-good a d s q .dropped i;
+  }

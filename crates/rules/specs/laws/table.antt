@@ -1,0 +1,9 @@
+-- Calls on tables of words: encoding and decoding, histories, word bounds, demand 1, and what lies past the need.
+pub mod EncodedStep
+pub mod TableSteps
+pub mod DecodeStepEncode
+pub mod TableHistories
+pub mod WordBounds
+pub mod Demand1
+pub mod NeedSuffices
+pub mod Window

@@ -1,0 +1,264 @@
+-- Demand 1 of one call on a table: a refused call writes nothing, an accepted one only the words that its step names,
+-- and a sound table stays sound.
+use Prim.Native.Nat.{ℕ, _+_, _-_, _≤_, zero, suc, _*_, _<_}
+use native.Mathlib.Omega.{arith}
+use mathlib.Core.Path.{_≡_, refl, sym, ap, _∙_, subst}
+use mathlib.Core.Bool.{Bool, true, false, not, _&&_, _||_}
+use mathlib.Core.List.{List, [], _∷_, _++_, append-assoc}
+use lib.ListN.{length, take, getD, drop, set, replicate, length-replicate, length-drop, length-set}
+use lib.Seq.{getD-set-same, getD-set-other, length-take-le, getD-drop, getD-take}
+use lib.Dec.{eqb, ltb}
+use borrow.Author.Tests.{eqb-true, eqb-false, lt-ltb, ltb-false}
+use Rattle.rules.specs.Bytes.{Words16}
+use Rattle.rules.specs.Demands.{Demand1, OpeningDemand1, names, openingRefusals}
+use Rattle.rules.specs.Hall.{Desk, Hall, Limits, State, allScreens, deskOf, usedSlots}
+use Rattle.rules.specs.History.{numberAt}
+use Rattle.rules.specs.Lists.{occurrences}
+use Rattle.rules.specs.Steps.{Call, Collect, Done, Drop, Retire, Swap, Take, collect, decide, firstNo, isSession, perform, questions, retire}
+use Rattle.rules.specs.Table.{TableDone, allMarks, decode, decodeDesk, encodeDesk, endTable, hallIn, headerWords, listOf, listOffset, markWords, marksOf}
+use Rattle.rules.specs.Table.{need, openQuestions, openedTable, positionWord, putRecord, recordOf, recordSound, recordStart, recordWidth, runTable}
+use Rattle.rules.specs.Table.{screenWord, sessionsOf, sound, stepTable, usedIn, waitingOffset, wordsOfBits, written}
+use Rattle.rules.specs.laws.desk.Collect.{owed-collect}
+use Rattle.rules.specs.laws.desk.Decoding.{record-again, small-drop, small-take}
+use Rattle.rules.specs.laws.desk.Sound.{Sound, collect-sound, length-list, retire-sound}
+use Rattle.rules.specs.laws.history.InitialState.{get-same}
+use Rattle.rules.specs.laws.history.StepEffects.{desk-fact, retire-facts, retire-room-fact, swap-facts}
+use Rattle.rules.specs.laws.lists.ListSlices.{get-past, put-is}
+use Rattle.rules.specs.laws.table.DecodeStepEncode.{desk-sound, encoded, valid}
+use Rattle.rules.specs.laws.table.EncodedStep.{Valid, encode-is-sound, hall-opens, length-encoded, some-screens, sound-table, valid-step}
+use Rattle.rules.specs.laws.table.TableHistories.{counts-encoded}
+use Rattle.rules.specs.laws.table.TableSteps.{Known, accepted-step, asked, desk-word, known, known-inside, owed-word, record-sound, record-within}
+use Rattle.rules.specs.laws.table.TableSteps.{refused-step}
+use Rattle.rules.specs.laws.table.WordBounds.{by-open, by-step, first-no-is-asked, open-length, step-length, step-refused}
+
+-- ---- What a retire leaves of its record.
+get-behind : (a x y : List ℕ) (i : ℕ) → ((j : ℕ) → length a + j ≡ i → getD x j 0 ≡ getD y j 0) → getD (a ++ x) i 0 ≡ getD (a ++ y) i 0
+get-behind [] x y i h = h i (omega arith)
+get-behind (v ∷ a) x y zero h = refl
+get-behind (v ∷ a) x y (suc i) h = get-behind a x y i (λ j e. h j (omega arith))
+
+-- one more session on the list, in the place of a zero
+list-longer : (l : List ℕ) (v n m i : ℕ) → (i ≡ length l → ⊥) → getD ((l ++ (v ∷ [])) ++ replicate n 0) i 0 ≡ getD (l ++ replicate m 0) i 0
+list-longer l v n m i ne =
+    ap (λ (x : List ℕ). getD x i 0) (append-assoc l (v ∷ []) (replicate n 0)) ∙ get-behind l (v ∷ replicate n 0) (replicate m 0) i after
+  where
+    after : (j : ℕ) → length l + j ≡ i → getD (v ∷ replicate n 0) j 0 ≡ getD (replicate m 0) j 0
+    after zero e = absurd (ne (omega arith))
+    after (suc j) e = get-same n j 0 ∙ sym (get-same m (suc j) 0)
+
+-- the words of a record, with the owed word, the count of waiting and the list changed
+words-kept : (o o′ k r t w w′ : ℕ) (m x y : List ℕ) (j : ℕ) → (j ≡ 0 → ⊥) → (j ≡ 4 → ⊥) → ((i : ℕ) → 5 + (length m + i) ≡ j → getD x i 0 ≡ getD y i 0)
+    → getD (o ∷ k ∷ r ∷ t ∷ w ∷ (m ++ x)) j 0 ≡ getD (o′ ∷ k ∷ r ∷ t ∷ w′ ∷ (m ++ y)) j 0
+words-kept o o′ k r t w w′ m x y zero n0 n4 h = absurd (n0 refl)
+words-kept o o′ k r t w w′ m x y (suc zero) n0 n4 h = refl
+words-kept o o′ k r t w w′ m x y (suc (suc zero)) n0 n4 h = refl
+words-kept o o′ k r t w w′ m x y (suc (suc (suc zero))) n0 n4 h = refl
+words-kept o o′ k r t w w′ m x y (suc (suc (suc (suc zero)))) n0 n4 h = absurd (n4 refl)
+words-kept o o′ k r t w w′ m x y (suc (suc (suc (suc (suc j))))) n0 n4 h = get-behind m x y j (λ i e. h i (omega arith))
+
+retire-list : (D : Desk) → listOf (retire D) ≡ listOf D ++ (D .owed ∷ [])
+retire-list D =
+    sym
+    (append-assoc (D .ready) (sessionsOf (D .tested) ++ D .waiting) (D .owed ∷ []) ∙ ap (λ (l : List ℕ). D .ready ++ l) (append-assoc (sessionsOf (D .tested)) (D .waiting) (D .owed ∷ [])))
+
+retire-keeps : (S : ℕ) (D : Desk) (j : ℕ) → (j ≡ 0 → ⊥) → (j ≡ 4 → ⊥) → (j ≡ listOffset + usedSlots D → ⊥)
+    → getD (encodeDesk S (retire D)) j 0 ≡ getD (encodeDesk S D) j 0
+unfolding encodeDesk
+retire-keeps S D j n0 n4 nl =
+    words-kept 0 (D .owed) (D .scanned) (length (D .ready)) (length (D .tested)) (length (D .waiting ++ (D .owed ∷ []))) (length (D .waiting))
+    (wordsOfBits markWords (marksOf (D .tested) ++ replicate (allMarks - length (D .tested)) false))
+    (listOf (retire D) ++ replicate (2 * S - length (listOf (retire D))) 0) (listOf D ++ replicate (2 * S - length (listOf D)) 0) j n0 n4
+    (λ i e. ap (λ (l : List ℕ). getD (l ++ replicate (2 * S - length (listOf (retire D))) 0) i 0) (retire-list D)
+    ∙ list-longer (listOf D) (D .owed) (2 * S - length (listOf (retire D))) (2 * S - length (listOf D)) i (λ q. nl (omega (arith, length-list D))))
+
+owed-first : (S : ℕ) (D : Desk) → getD (encodeDesk S D) 0 0 ≡ D .owed
+unfolding encodeDesk
+owed-first S D = refl
+
+or-no : (a b : Bool) → a || b ≡ false → (a ≡ false) × (b ≡ false)
+or-no true b e = let z : _≡_ {A = ℕ} 0 1 = cc in absurd (omega arith)
+or-no false b e = (refl, e)
+
+-- ---- An accepted step on a sound table of 16-bit words.
+module _ (limits : Limits) (t : List ℕ) (small : Words16 t) (s : sound limits t ≡ true) where
+  k : Known t
+  k = known limits t s
+
+  v : Valid (hallIn t) (decode (hallIn t) t)
+  v = valid t (known limits t s)
+
+  module _ (d : ℕ) (r : (1 ≤ d) × (d ≤ hallIn t .desks)) where
+    fits : recordStart (hallIn t) d + recordWidth (hallIn t) ≤ length t
+    fits = omega (arith, record-within (hallIn t) d (r .0) (r .1), k .long)
+
+    wide : length (recordOf (hallIn t) t d) ≡ recordWidth (hallIn t)
+    wide = length-take-le (recordWidth (hallIn t)) (drop (recordStart (hallIn t) d) t) (omega (arith, fits, length-drop (recordStart (hallIn t) d) t))
+
+    passes : recordSound (allScreens (hallIn t)) (recordOf (hallIn t) t d) ≡ true
+    passes = record-sound t d k (r .0) (r .1)
+
+    desk-is-sound : Sound (allScreens (hallIn t)) (decodeDesk (recordOf (hallIn t) t d))
+    desk-is-sound = desk-sound (allScreens (hallIn t)) (recordOf (hallIn t) t d) wide (k .most) passes
+
+    again : encodeDesk (allScreens (hallIn t)) (decodeDesk (recordOf (hallIn t) t d)) ≡ recordOf (hallIn t) t d
+    again =
+        record-again (allScreens (hallIn t)) (recordOf (hallIn t) t d) wide (k .most)
+        (small-take (recordWidth (hallIn t)) (drop (recordStart (hallIn t) d) t) (small-drop (recordStart (hallIn t) d) t small)) passes
+
+    word-inside : (j : ℕ) → j < recordWidth (hallIn t)
+        → getD (encodeDesk (allScreens (hallIn t)) (decodeDesk (recordOf (hallIn t) t d))) j 0 ≡ getD t (recordStart (hallIn t) d + j) 0
+    word-inside j h =
+        ap (λ (l : List ℕ). getD l j 0) again ∙ getD-take (recordWidth (hallIn t)) (drop (recordStart (hallIn t) d) t) j 0 h
+        ∙ getD-drop (recordStart (hallIn t) d) t j 0
+
+    -- the record is written anew
+    record-kept : (E : Desk) → Sound (allScreens (hallIn t)) E → (i : ℕ)
+        → ((j : ℕ) → j < recordWidth (hallIn t) → recordStart (hallIn t) d + j ≡ i → getD (encodeDesk (allScreens (hallIn t)) E) j 0 ≡ getD (encodeDesk (allScreens (hallIn t)) (decodeDesk (recordOf (hallIn t) t d))) j 0)
+        → getD (putRecord (hallIn t) t d (encodeDesk (allScreens (hallIn t)) E)) i 0 ≡ getD t i 0
+    record-kept E sE i h =
+        put-is t (encodeDesk (allScreens (hallIn t)) E) (recordStart (hallIn t) d) (recordWidth (hallIn t)) fits
+        (length-encoded (hallIn t) (k .fits) E sE) i (getD t i 0)
+        (λ j l e. h j l e ∙ word-inside j l ∙ ap (λ (n : ℕ). getD t n 0) e) (λ _. refl)
+
+  written-keeps : (c : Call) → asked t c ≡ 0 → (i : ℕ) → names t c i ≡ false → getD (written t c) i 0 ≡ getD t i 0
+  written-keeps (Take d c p) e i q =
+      getD-set-other t (screenWord (hallIn t) d c) i (getD t (positionWord p) 0) 0 (λ z. eqb-false i (screenWord (hallIn t) d c) q z)
+  written-keeps (Drop d c) e i q = getD-set-other t (screenWord (hallIn t) d c) i 0 0 (λ z. eqb-false i (screenWord (hallIn t) d c) q z)
+  written-keeps (Swap d p new) e i q = by-cases (eqb i (recordStart (hallIn t) d)) refl
+    where
+      facts : (1 ≤ d) × (d ≤ hallIn t .desks) × (1 ≤ p) × (deskOf (decode (hallIn t) t) d .owed ≡ 0)
+      facts = swap-facts (hallIn t) (decode (hallIn t) t) d p new e
+
+      parts : (eqb i (positionWord p) ≡ false) × (eqb i (recordStart (hallIn t) d) && isSession (getD t (positionWord p) 0) ≡ false)
+      parts = or-no (eqb i (positionWord p)) (eqb i (recordStart (hallIn t) d) && isSession (getD t (positionWord p) 0)) q
+
+      elsewhere : getD (set t (positionWord p) new) i 0 ≡ getD t i 0
+      elsewhere = getD-set-other t (positionWord p) i new 0 (λ z. eqb-false i (positionWord p) (parts .0) z)
+
+      none : (b : Bool) → eqb (getD t (positionWord p) 0) 0 ≡ b → not b ≡ false → getD t (positionWord p) 0 ≡ 0
+      none true t0 z = eqb-true (getD t (positionWord p) 0) 0 t0
+      none false t0 z = let o : _≡_ {A = ℕ} 0 1 = cc in absurd (omega arith)
+
+      by-cases : (b : Bool) → eqb i (recordStart (hallIn t) d) ≡ b
+          → getD (set (set t (positionWord p) new) (recordStart (hallIn t) d) (getD t (positionWord p) 0)) i 0 ≡ getD t i 0
+      by-cases true z =
+          let is : i ≡ recordStart (hallIn t) d = eqb-true i (recordStart (hallIn t) d) z in
+          let old : getD t (positionWord p) 0 ≡ 0 =
+          none (eqb (getD t (positionWord p) 0) 0) refl (ap (λ (b : Bool). b && isSession (getD t (positionWord p) 0)) (sym z) ∙ parts .1) in
+          let owed : getD t (recordStart (hallIn t) d) 0 ≡ 0 = sym (owed-word t d (facts .0) (facts .1)) ∙ facts .3 in
+          ap (λ (n : ℕ). getD (set (set t (positionWord p) new) (recordStart (hallIn t) d) (getD t (positionWord p) 0)) n 0) is
+          ∙ getD-set-same (set t (positionWord p) new) (recordStart (hallIn t) d) (getD t (positionWord p) 0) 0
+          (omega (arith, fits d (facts .0, facts .1), length-set t (positionWord p) new))
+          ∙ old ∙ sym owed ∙ ap (λ (n : ℕ). getD t n 0) (sym is)
+      by-cases false z =
+          getD-set-other (set t (positionWord p) new) (recordStart (hallIn t) d) i (getD t (positionWord p) 0) 0
+          (λ y. eqb-false i (recordStart (hallIn t) d) z y)
+          ∙ elsewhere
+  written-keeps (Retire d) e i q =
+      let f = retire-facts (hallIn t) (decode (hallIn t) t) d e in
+      let r : (1 ≤ d) × (d ≤ hallIn t .desks) = (f .0, f .1) in
+      let same = desk-word t d (f .0) (f .1) in
+      let room : usedSlots (decodeDesk (recordOf (hallIn t) t d)) < 2 * allScreens (hallIn t) =
+      subst (λ (X : Desk). usedSlots X < 2 * allScreens (hallIn t)) same (retire-room-fact (hallIn t) (decode (hallIn t) t) d e) in
+      let owes : decodeDesk (recordOf (hallIn t) t d) .owed ≡ 0 → ⊥ = (λ z. f .2 (ap (λ (X : Desk). X .owed) same ∙ z)) in
+      let n1 =
+      or-no (eqb i (recordStart (hallIn t) d))
+      (eqb i (recordStart (hallIn t) d + waitingOffset) || eqb i (recordStart (hallIn t) d + (listOffset + usedIn (recordOf (hallIn t) t d)))) q in
+      let n2 =
+      or-no (eqb i (recordStart (hallIn t) d + waitingOffset)) (eqb i (recordStart (hallIn t) d + (listOffset + usedIn (recordOf (hallIn t) t d))))
+      (n1 .1) in
+      let u : usedIn (recordOf (hallIn t) t d) ≡ usedSlots (decodeDesk (recordOf (hallIn t) t d)) =
+      ap usedIn (sym (again d r)) ∙ counts-encoded (allScreens (hallIn t)) (decodeDesk (recordOf (hallIn t) t d)) in
+      let x0 = eqb-false i (recordStart (hallIn t) d) (n1 .0) in
+      let x4 = eqb-false i (recordStart (hallIn t) d + waitingOffset) (n2 .0) in
+      let xl = eqb-false i (recordStart (hallIn t) d + (listOffset + usedIn (recordOf (hallIn t) t d))) (n2 .1) in
+      record-kept d r (retire (decodeDesk (recordOf (hallIn t) t d)))
+      (retire-sound (allScreens (hallIn t)) (decodeDesk (recordOf (hallIn t) t d)) owes room (desk-is-sound d r)) i
+      (λ j l a. retire-keeps (allScreens (hallIn t)) (decodeDesk (recordOf (hallIn t) t d)) j (λ z. x0 (omega arith)) (λ z. x4 (omega arith)) (λ z. xl (omega arith)))
+  written-keeps (Collect d) e i q =
+      let r = desk-fact (hallIn t) (decode (hallIn t) t) d _ e in
+      let shown = decode (hallIn t) t .shown in
+      record-kept d r (collect (allScreens (hallIn t)) shown (decodeDesk (recordOf (hallIn t) t d)) .after)
+      (collect-sound (allScreens (hallIn t)) shown (decodeDesk (recordOf (hallIn t) t d)) (some-screens (hallIn t) (k .fits)) (v .formed .screens) (desk-is-sound d r)) i
+      (λ j l a. first j (omega (arith, ltb-false (recordStart (hallIn t) d) i (left-no (ltb (recordStart (hallIn t) d) i) (ltb i (recordStart (hallIn t) d + recordWidth (hallIn t))) q (lt-ltb i (recordStart (hallIn t) d + recordWidth (hallIn t)) (omega arith))))))
+    where
+      left-no : (a b : Bool) → a && b ≡ false → b ≡ true → a ≡ false
+      left-no true b z w = let o : _≡_ {A = ℕ} 0 1 = cc in absurd (omega arith)
+      left-no false b z w = refl
+
+      -- of the record only its first word, the owed session, is not named, and a collect keeps it
+      first : (j : ℕ) → j ≡ 0
+          → getD (encodeDesk (allScreens (hallIn t)) (collect (allScreens (hallIn t)) (decode (hallIn t) t .shown) (decodeDesk (recordOf (hallIn t) t d)) .after)) j 0 ≡ getD (encodeDesk (allScreens (hallIn t)) (decodeDesk (recordOf (hallIn t) t d))) j 0
+      first j z =
+          let S : ℕ = allScreens (hallIn t) in
+          let D : Desk = decodeDesk (recordOf (hallIn t) t d) in
+          let E : Desk = collect (allScreens (hallIn t)) (decode (hallIn t) t .shown) (decodeDesk (recordOf (hallIn t) t d)) .after in
+          rw z (owed-first S E ∙ owed-collect S (decode (hallIn t) t .shown) D ∙ sym (owed-first S D))
+
+  -- what an accepted call writes is the table of a valid state
+  after-valid : (c : Call) → asked t c ≡ 0 → Valid (hallIn t) (perform (hallIn t) (decode (hallIn t) t) c .after)
+  after-valid c e =
+      subst (λ (r : Done). Valid (hallIn t) (r .after))
+      (ap (λ (n : ℕ). decide n (decode (hallIn t) t) (perform (hallIn t) (decode (hallIn t) t) c)) e)
+      (valid-step (hallIn t) (k .fits) (decode (hallIn t) t) c v)
+
+  written-sound : (c : Call) → asked t c ≡ 0 → sound limits (written t c) ≡ true
+  written-sound c e =
+      rw (encoded t c small k e)
+      (encode-is-sound limits (hallIn t) (known-inside limits t s) (perform (hallIn t) (decode (hallIn t) t) c .after) (after-valid c e) (drop (need (hallIn t)) t))
+
+-- ---- Every step.
+pub demand1 : (limits : Limits) (t : List ℕ) → Words16 t → (c : Call) → Demand1 limits t c
+demand1 limits t small c =
+    record {
+      refused = step-refused limits t c;
+      accepted =
+          by-step limits (λ r. r .answer .number ≡ 0 → (i : ℕ) → names t c i ≡ false → getD (r .after) i 0 ≡ getD t i 0) t c
+          (λ q. absurd (omega arith)) (λ n a q. absurd (omega arith)) (λ s a q. written-keeps limits t small s c a);
+      sameLength = step-length limits t c small;
+      staysSound = by-step limits (λ r. sound limits t ≡ true → sound limits (r .after) ≡ true) t c (λ q. q) (λ n a q. q) (λ s a q. written-sound limits t small s c a);
+    }
+
+-- ---- A list of steps on tables that are sound: 5 is no question's number.
+not-five : (H : Hall) (st : State) (c : Call) → firstNo (questions H st c) ≡ 5 → ⊥
+not-five H st (Take d c p) e = omega (arith, first-no-is-asked (questions H st (Take d c p)) 4 e)
+not-five H st (Drop d c) e = omega (arith, first-no-is-asked (questions H st (Drop d c)) 4 e)
+not-five H st (Swap d p new) e = omega (arith, first-no-is-asked (questions H st (Swap d p new)) 4 e)
+not-five H st (Retire d) e = omega (arith, first-no-is-asked (questions H st (Retire d)) 4 e)
+not-five H st (Collect d) e = omega (arith, first-no-is-asked (questions H st (Collect d)) 4 e)
+
+never-five-step : (limits : Limits) (t : List ℕ) (c : Call) → sound limits t ≡ true → stepTable limits t c .answer .number ≡ 5 → ⊥
+never-five-step limits t c s e = by-cases (asked t c) refl
+  where
+    by-cases : (m : ℕ) → asked t c ≡ m → ⊥
+    by-cases zero a = omega (arith, ap (λ (r : TableDone). r .answer .number) (accepted-step limits t c s a))
+    by-cases (suc m) a = not-five (hallIn t) (decode (hallIn t) t) c (omega (arith, ap (λ (r : TableDone). r .answer .number) (refused-step limits t c m s a)))
+
+pub never-five : (limits : Limits) (cs : List Call) (t : List ℕ) → ((i : ℕ) → sound limits (endTable limits t (take i cs)) ≡ true) → (i : ℕ) → numberAt (runTable limits t cs) i ≡ 5 → ⊥
+never-five limits [] t s i e = omega arith
+never-five limits (c ∷ cs) t s zero e = never-five-step limits t c (s 0) e
+never-five limits (c ∷ cs) t s (suc i) e = never-five limits cs (stepTable limits t c .after) (λ j. s (suc j)) i e
+
+-- ---- Every opening.
+opened-past : (H : Hall) (t : List ℕ) (i : ℕ) → need H ≤ i → getD (openedTable H t) i 0 ≡ getD t i 0
+opened-past H t i h =
+    let front : List ℕ = H .desks ∷ H .screens ∷ H .positions ∷ replicate (need H - headerWords) 0 in
+    let lf : length front ≡ need H = omega (arith, length-replicate {A = ℕ} (need H - headerWords) 0) in
+    let e : need H + (i - length front) ≡ i = omega (arith, lf) in
+    get-past front (drop (need H) t) i (omega (arith, lf)) ∙ getD-drop (need H) t (i - length front) 0 ∙ ap (λ (n : ℕ). getD t n 0) e
+
+pub opening-demand1 : (limits : Limits) (H : Hall) (t : List ℕ) → OpeningDemand1 limits H t
+opening-demand1 limits H t =
+    record {
+      refused =
+          by-open limits
+          (λ r. (n : ℕ) → r .answer .number ≡ suc n → (1 ≤ occurrences (suc n) openingRefusals) × (r .answer .session ≡ 0) × (r .after ≡ t)) H t
+          (λ m a n q. (first-no-is-asked (openQuestions limits H t) n (a ∙ q), refl, refl)) (λ a n q. absurd (omega arith));
+      accepted =
+          by-open limits (λ r. r .answer .number ≡ 0 → (i : ℕ) → need H ≤ i → getD (r .after) i 0 ≡ getD t i 0) H t
+          (λ m a q. absurd (omega arith)) (λ a q. opened-past H t);
+      sameLength = open-length limits H t;
+      staysSound =
+          by-open limits (λ r. r .answer .number ≡ 0 → sound limits (r .after) ≡ true) H t (λ m a q. absurd (omega arith))
+          (λ a q. sound-table limits H (hall-opens limits H t a .0) t []);
+    }

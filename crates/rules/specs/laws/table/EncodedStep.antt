@@ -1,0 +1,424 @@
+-- A step on the table of a state is the step of the rules on that state.
+use Prim.Native.Nat.{ℕ, zero, suc, _+_, _*_, _-_, _≤_, _<_}
+use native.Mathlib.Omega.{arith}
+use native.Mathlib.Nat.{mul-pos, mul-le-mul}
+use mathlib.Core.Path.{_≡_, refl, sym, ap, ap₂, _∙_}
+use mathlib.Core.Bool.{Bool, true, cond, not, _&&_}
+use mathlib.Core.List.{List, [], _∷_, _++_, map, append-assoc}
+use lib.ListN.{length, getD, take, drop, set, replicate, length-append, length-replicate, length-set, replicate-append-replicate}
+use lib.Seq.{take-at, drop-at}
+use lib.Dec.{leb, ltb, eqb, eqb·suc-zero}
+use borrow.Author.Tests.{le-leb, eqb-false, ltb-true, not-true, leb-true}
+use Rattle.rules.specs.Hall.{Desk, Hall, Limits, State, allScreens, deskOf, emptyDesk, fresh, maxAllScreens, maxDesks, maxPositions, maxScreens}
+use Rattle.rules.specs.Hall.{screenIndex, usedSlots, withDesk, withHeld, withShown}
+use Rattle.rules.specs.Lists.{chunks, concat, every}
+use Rattle.rules.specs.Steps.{Call, Collect, Drop, Event, Retire, Swap, Take, collect, decide, end, firstNo, inRange, owe, perform, questions, retire}
+use Rattle.rules.specs.Steps.{run, step}
+use Rattle.rules.specs.Table.{TableDone, decode, decodeDesk, encode, encodeDesk, endTable, headerWords, inLimits, listOf, listOffset, need, openQuestions}
+use Rattle.rules.specs.Table.{openedTable, positionWord, putRecord, recordOf, recordSound, recordStart, recordWidth, recordsIn, runTable, screenWord}
+use Rattle.rules.specs.Table.{sound, stepIf, stepTable, written}
+use Rattle.rules.specs.laws.desk.Encoding.{desk-read-back}
+use Rattle.rules.specs.laws.desk.Sound.{Sound, collect-sound, encoded-sound, length-list, retire-sound, sound-owe}
+use Rattle.rules.specs.laws.history.ScreenIndex.{screen-in}
+use Rattle.rules.specs.laws.history.StepEffects.{Formed, formed-step, holds, in-range, retire-questions}
+use Rattle.rules.specs.laws.lists.Bools.{and-left, and-right, and-true}
+use Rattle.rules.specs.laws.lists.ListSlices.{get-mid, put-mid, set-mid, take-mid}
+
+-- A hall that the table has room for.
+pub record Fits (H : Hall) : Type 0 where
+  pub desks : (1 ≤ H .desks) × (H .desks ≤ maxDesks)
+  pub screens : (1 ≤ H .screens) × (H .screens ≤ maxScreens)
+  pub positions : (1 ≤ H .positions) × (H .positions ≤ maxPositions)
+
+-- a hall within a board's limits is one
+pub limits-fit : (limits : Limits) (H : Hall) → inLimits limits H ≡ true → Fits H
+limits-fit limits H inside =
+    let desks = inRange (H .desks) (limits .desks) in
+    let screens = inRange (H .screens) (limits .screens) in
+    let positions = inRange (H .positions) (limits .positions) in
+    let later = and-right desks (screens && positions) inside in
+    let few-desks = in-range (H .desks) (limits .desks) (and-left desks (screens && positions) inside) in
+    let few-screens = in-range (H .screens) (limits .screens) (and-left screens positions later) in
+    let few-positions = in-range (H .positions) (limits .positions) (and-right screens positions later) in
+    record {
+      desks = (few-desks .0, omega (arith, limits .fewDesks));
+      screens = (few-screens .0, omega (arith, limits .fewScreens));
+      positions = (few-positions .0, omega (arith, limits .fewPositions));
+    }
+
+abbrev pub All : (Desk → Type 0) → List Desk → Type 0
+All P [] = Unit {0}
+All P (x ∷ xs) = P x × All P xs
+
+pub all-get : (P : Desk → Type 0) (xs : List Desk) (i : ℕ) (z : Desk) → P z → All P xs → P (getD xs i z)
+all-get P [] i z pz h = pz
+all-get P (x ∷ xs) zero z pz h = h .0
+all-get P (x ∷ xs) (suc i) z pz h = all-get P xs i z pz (h .1)
+
+all-set : (P : Desk → Type 0) (xs : List Desk) (i : ℕ) (y : Desk) → P y → All P xs → All P (set xs i y)
+all-set P [] i y py h = tt
+all-set P (x ∷ xs) zero y py h = (py, h .1)
+all-set P (x ∷ xs) (suc i) y py h = (h .0, all-set P xs i y py (h .1))
+
+all-replicate : (P : Desk → Type 0) (n : ℕ) (y : Desk) → P y → All P (replicate n y)
+all-replicate P zero y py = tt
+all-replicate P (suc n) y py = (py, all-replicate P n y py)
+
+pub record Valid (H : Hall) (st : State) : Type 0 where
+  pub formed : Formed H st
+  pub held : length (st .held) ≡ H .positions
+  pub desks : All (Sound (allScreens H)) (st .desks)
+
+pub empty-desk-sound : (S : ℕ) → Sound S emptyDesk
+empty-desk-sound S = record { total = omega arith; real = refl; pass = refl }
+
+module _ (H : Hall) (fits : Fits H) where
+  pub some-screens : 1 ≤ allScreens H
+  some-screens = mul-pos (fits .desks .0) (fits .screens .0)
+
+  most : allScreens H ≤ maxAllScreens
+  most = mul-le-mul (fits .desks .1) (fits .screens .1)
+
+  pub valid-step : (st : State) (c : Call) → Valid H st → Valid H (step H st c .after)
+  valid-step st c v = record {
+    formed = formed-step H st (v .formed) c;
+    held = lh (firstNo (questions H st c)) c;
+    desks = by-cases (firstNo (questions H st c)) c refl;
+  }
+    where
+      P : Desk → Type 0
+      P = Sound (allScreens H)
+
+      lh : (n : ℕ) (c : Call) → length (decide n st (perform H st c) .after .held) ≡ H .positions
+      lh zero (Take x s p) = v .held
+      lh zero (Drop x s) = v .held
+      lh zero (Swap x p w) = length-set (st .held) (p - 1) w ∙ v .held
+      lh zero (Retire x) = v .held
+      lh zero (Collect x) = v .held
+      lh (suc n) c = v .held
+
+      at : (x : ℕ) → Sound (allScreens H) (deskOf st x)
+      at x = all-get (Sound (allScreens H)) (st .desks) (x - 1) emptyDesk (empty-desk-sound (allScreens H)) (v .desks)
+
+      by-cases : (n : ℕ) (c : Call) → firstNo (questions H st c) ≡ n → All (Sound (allScreens H)) (decide n st (perform H st c) .after .desks)
+      by-cases zero (Take x s p) e = v .desks
+      by-cases zero (Drop x s) e = v .desks
+      by-cases zero (Swap x p w) e =
+          all-set (Sound (allScreens H)) (st .desks) (x - 1) _ (sound-owe (allScreens H) (getD (st .held) (p - 1) 0) (deskOf st x) (at x)) (v .desks)
+      by-cases zero (Retire x) e =
+          let y = retire-questions (inRange x (H .desks)) (not (eqb (deskOf st x .owed) 0)) (ltb (usedSlots (deskOf st x)) (2 * allScreens H)) e in
+          all-set (Sound (allScreens H)) (st .desks) (x - 1) (retire (deskOf st x))
+          (retire-sound (allScreens H) (deskOf st x) (eqb-false (deskOf st x .owed) 0 (not-true (eqb (deskOf st x .owed) 0) (y .1))) (ltb-true (usedSlots (deskOf st x)) (2 * allScreens H) (y .2)) (at x))
+          (v .desks)
+      by-cases zero (Collect x) e =
+          all-set (Sound (allScreens H)) (st .desks) (x - 1) (collect (allScreens H) (st .shown) (deskOf st x) .after)
+          (collect-sound (allScreens H) (st .shown) (deskOf st x) some-screens (v .formed .screens) (at x)) (v .desks)
+      by-cases (suc n) c e = v .desks
+
+  pub length-encoded : (D : Desk) → Sound (allScreens H) D → length (encodeDesk (allScreens H) D) ≡ recordWidth H
+  unfolding encodeDesk
+  length-encoded D s =
+      omega
+      (arith, s .total, length-list D, length-append (listOf D) (replicate (2 * allScreens H - length (listOf D)) 0), length-replicate {A = ℕ} (2 * allScreens H - length (listOf D)) 0)
+
+  -- the records, one after the other
+  records-flat : (ds : List Desk) (rest : List ℕ) → All (Sound (allScreens H)) ds
+      → chunks (length ds) (recordWidth H) (concat (map (encodeDesk (allScreens H)) ds) ++ rest) ≡ map (encodeDesk (allScreens H)) ds
+  records-flat [] rest h = refl
+  records-flat (D ∷ ds) rest h =
+      let q = append-assoc (encodeDesk (allScreens H) D) (concat (map (encodeDesk (allScreens H)) ds)) rest in
+      λ i. (ap (take (recordWidth H)) q ∙ take-at (encodeDesk (allScreens H) D) (concat (map (encodeDesk (allScreens H)) ds) ++ rest) (recordWidth H) (length-encoded D (h .0))) i ∷ (ap (λ (l : List ℕ). chunks (length ds) (recordWidth H) (drop (recordWidth H) l)) q ∙ ap (chunks (length ds) (recordWidth H)) (drop-at (encodeDesk (allScreens H) D) (concat (map (encodeDesk (allScreens H)) ds) ++ rest) (recordWidth H) (length-encoded D (h .0))) ∙ records-flat ds rest (h .1)) i
+
+  length-flat : (ds : List Desk) → All (Sound (allScreens H)) ds → length (concat (map (encodeDesk (allScreens H)) ds)) ≡ length ds * recordWidth H
+  length-flat [] h = omega arith
+  length-flat (D ∷ ds) h =
+      omega
+      (arith, length-append (encodeDesk (allScreens H) D) (concat (map (encodeDesk (allScreens H)) ds)), length-encoded D (h .0), length-flat ds (h .1))
+
+  desks-code : (ds : List Desk) → All (Sound (allScreens H)) ds → map decodeDesk (map (encodeDesk (allScreens H)) ds) ≡ ds
+  desks-code [] h = refl
+  desks-code (D ∷ ds) h = λ i. desk-read-back (allScreens H) D (omega (arith, h .0 .total, most)) i ∷ desks-code ds (h .1) i
+
+  all-sound : (ds : List Desk) → All (Sound (allScreens H)) ds → every (recordSound (allScreens H)) (map (encodeDesk (allScreens H)) ds) ≡ true
+  all-sound [] h = refl
+  all-sound (D ∷ ds) h =
+      and-true (recordSound (allScreens H) (encodeDesk (allScreens H) D))
+      (every (recordSound (allScreens H)) (map (encodeDesk (allScreens H)) ds)) (encoded-sound (allScreens H) D most (h .0))
+      (all-sound ds (h .1))
+
+  -- the records before desk i, from 0, its own, and those after it
+  record Cut (ds : List Desk) (i : ℕ) : Type 0 where
+    front : List ℕ
+    back : List ℕ
+    starts : length front ≡ i * recordWidth H
+    total : usedSlots (getD ds i emptyDesk) ≤ 2 * allScreens H
+    wide : length (encodeDesk (allScreens H) (getD ds i emptyDesk)) ≡ recordWidth H
+    is : concat (map (encodeDesk (allScreens H)) ds) ≡ front ++ (encodeDesk (allScreens H) (getD ds i emptyDesk) ++ back)
+    put : (x : Desk) → concat (map (encodeDesk (allScreens H)) (set ds i x)) ≡ front ++ (encodeDesk (allScreens H) x ++ back)
+
+  cut : (ds : List Desk) (i : ℕ) → All (Sound (allScreens H)) ds → i < length ds → Cut ds i
+  cut [] i h l = absurd (omega arith)
+  cut (D ∷ ds) zero h l = record {
+    front = [];
+    back = concat (map (encodeDesk (allScreens H)) ds);
+    starts = omega arith;
+    total = h .0 .total;
+    wide = length-encoded D (h .0);
+    is = refl;
+    put = λ x. refl;
+  }
+  cut (D ∷ ds) (suc i) h l =
+      let c = cut ds i (h .1) (omega arith) in
+      record {
+        front = encodeDesk (allScreens H) D ++ c .front;
+        back = c .back;
+        starts = omega (arith, length-append (encodeDesk (allScreens H) D) (c .front), length-encoded D (h .0), c .starts);
+        total = c .total;
+        wide = c .wide;
+        is =
+            ap (λ (y : List ℕ). encodeDesk (allScreens H) D ++ y) (c .is)
+            ∙ sym (append-assoc (encodeDesk (allScreens H) D) (c .front) (encodeDesk (allScreens H) (getD ds i emptyDesk) ++ c .back));
+        put =
+            λ x. ap (λ (y : List ℕ). encodeDesk (allScreens H) D ++ y) (c .put x)
+            ∙ sym (append-assoc (encodeDesk (allScreens H) D) (c .front) (encodeDesk (allScreens H) x ++ c .back));
+      }
+
+  module _ (st : State) (v : Valid H st) (rest : List ℕ) where
+    past-held : drop (H .positions) ((st .held ++ (st .shown ++ concat (map (encodeDesk (allScreens H)) (st .desks)))) ++ rest) ≡ st .shown ++ (concat (map (encodeDesk (allScreens H)) (st .desks)) ++ rest)
+    past-held =
+        ap (drop (H .positions)) (append-assoc (st .held) (st .shown ++ concat (map (encodeDesk (allScreens H)) (st .desks))) rest)
+        ∙ drop-at (st .held) ((st .shown ++ concat (map (encodeDesk (allScreens H)) (st .desks))) ++ rest) (H .positions) (v .held)
+        ∙ append-assoc (st .shown) (concat (map (encodeDesk (allScreens H)) (st .desks))) rest
+
+    held-of-encode : take (H .positions) ((st .held ++ (st .shown ++ concat (map (encodeDesk (allScreens H)) (st .desks)))) ++ rest) ≡ st .held
+    held-of-encode =
+        ap (take (H .positions)) (append-assoc (st .held) (st .shown ++ concat (map (encodeDesk (allScreens H)) (st .desks))) rest)
+        ∙ take-at (st .held) ((st .shown ++ concat (map (encodeDesk (allScreens H)) (st .desks))) ++ rest) (H .positions) (v .held)
+
+    pub records-of-encode : recordsIn H (encode H st ++ rest) ≡ map (encodeDesk (allScreens H)) (st .desks)
+    records-of-encode =
+        ap (λ (l : List ℕ). chunks (H .desks) (recordWidth H) (drop (allScreens H) l)) past-held
+        ∙ ap (chunks (H .desks) (recordWidth H))
+        (drop-at (st .shown) (concat (map (encodeDesk (allScreens H)) (st .desks)) ++ rest) (allScreens H) (v .formed .screens))
+        ∙ ap (λ (n : ℕ). chunks n (recordWidth H) (concat (map (encodeDesk (allScreens H)) (st .desks)) ++ rest)) (sym (v .formed .desks))
+        ∙ records-flat (st .desks) rest (v .desks)
+
+    pub decode-encode : decode H (encode H st ++ rest) ≡ st
+    decode-encode =
+        λ i. record { held = held-of-encode i; shown = (ap (take (allScreens H)) past-held ∙ take-at (st .shown) (concat (map (encodeDesk (allScreens H)) (st .desks)) ++ rest) (allScreens H) (v .formed .screens)) i; desks = (ap (map decodeDesk) records-of-encode ∙ desks-code (st .desks) (v .desks)) i }
+
+    pub length-table : length (encode H st) ≡ need H
+    length-table =
+        omega
+        (arith, length-append (st .held) (st .shown ++ concat (map (encodeDesk (allScreens H)) (st .desks))), length-append (st .shown) (concat (map (encodeDesk (allScreens H)) (st .desks))), length-flat (st .desks) (v .desks), v .held, v .formed .screens, ap (λ (n : ℕ). n * recordWidth H) (v .formed .desks))
+
+    -- the table in three parts, with the positions, the screens or one record in the middle
+    as-held : (h s f : List ℕ)
+        → (H .desks ∷ H .screens ∷ H .positions ∷ (h ++ (s ++ f))) ++ rest ≡ (H .desks ∷ H .screens ∷ H .positions ∷ []) ++ (h ++ ((s ++ f) ++ rest))
+    as-held h s f = ap (λ (l : List ℕ). H .desks ∷ H .screens ∷ H .positions ∷ l) (append-assoc h (s ++ f) rest)
+
+    as-shown : (h s f : List ℕ)
+        → (H .desks ∷ H .screens ∷ H .positions ∷ (h ++ (s ++ f))) ++ rest ≡ (H .desks ∷ H .screens ∷ H .positions ∷ h) ++ (s ++ (f ++ rest))
+    as-shown h s f = as-held h s f ∙ ap (λ (l : List ℕ). H .desks ∷ H .screens ∷ H .positions ∷ (h ++ l)) (append-assoc s f rest)
+
+    as-record : (h s a m b f : List ℕ) → f ≡ a ++ (m ++ b)
+        → (H .desks ∷ H .screens ∷ H .positions ∷ (h ++ (s ++ f))) ++ rest ≡ (H .desks ∷ H .screens ∷ H .positions ∷ (h ++ (s ++ a))) ++ (m ++ (b ++ rest))
+    as-record h s a m b f e =
+        ap (λ (x : List ℕ). (H .desks ∷ H .screens ∷ H .positions ∷ (h ++ (s ++ x))) ++ rest) e
+        ∙ ap (λ (l : List ℕ). H .desks ∷ H .screens ∷ H .positions ∷ l) (simp append-assoc)
+
+    at-desk : (d m : ℕ) → cond {A = ℕ} (inRange d (H .desks)) m 6 ≡ 0 → Cut (st .desks) (d - 1)
+    at-desk d m e =
+        let i = in-range d (H .desks) (holds (inRange d (H .desks)) m 5 e .0) in cut (st .desks) (d - 1) (v .desks) (omega (arith, v .formed .desks))
+
+    -- one record replaced
+    put-record-is : (d : ℕ) (x : Desk) → Cut (st .desks) (d - 1)
+        → putRecord H (encode H st ++ rest) d (encodeDesk (allScreens H) x) ≡ encode H (withDesk st d x) ++ rest
+    put-record-is d x c =
+        let a : List ℕ = H .desks ∷ H .screens ∷ H .positions ∷ (st .held ++ (st .shown ++ c .front)) in
+        let n : length a ≡ recordStart H d =
+        omega
+        (arith, length-append (st .held) (st .shown ++ c .front), length-append (st .shown) (c .front), v .held, v .formed .screens, c .starts) in
+        let q =
+        as-record (st .held) (st .shown) (c .front) (encodeDesk (allScreens H) (deskOf st d)) (c .back)
+        (concat (map (encodeDesk (allScreens H)) (st .desks))) (c .is) in
+        ap (λ (t : List ℕ). putRecord H t d (encodeDesk (allScreens H) x)) q
+        ∙ put-mid a (encodeDesk (allScreens H) (deskOf st d)) (c .back ++ rest) (recordStart H d) n (recordWidth H) (encodeDesk (allScreens H) x)
+        (c .wide)
+        ∙ sym
+        (as-record (st .held) (st .shown) (c .front) (encodeDesk (allScreens H) x) (c .back) (concat (map (encodeDesk (allScreens H)) (set (st .desks) (d - 1) x))) (c .put x))
+
+    -- one record read
+    record-of-encode : (d : ℕ) → Cut (st .desks) (d - 1) → recordOf H (encode H st ++ rest) d ≡ encodeDesk (allScreens H) (deskOf st d)
+    record-of-encode d c =
+        let a : List ℕ = H .desks ∷ H .screens ∷ H .positions ∷ (st .held ++ (st .shown ++ c .front)) in
+        let n : length a ≡ recordStart H d =
+        omega
+        (arith, length-append (st .held) (st .shown ++ c .front), length-append (st .shown) (c .front), v .held, v .formed .screens, c .starts) in
+        let q =
+        as-record (st .held) (st .shown) (c .front) (encodeDesk (allScreens H) (deskOf st d)) (c .back)
+        (concat (map (encodeDesk (allScreens H)) (st .desks))) (c .is) in
+        ap (λ (t : List ℕ). recordOf H t d) q
+        ∙ take-mid a (encodeDesk (allScreens H) (deskOf st d)) (c .back ++ rest) (recordStart H d) n (recordWidth H) (c .wide)
+
+    record-decoded : (d : ℕ) → Cut (st .desks) (d - 1) → decodeDesk (recordOf H (encode H st ++ rest) d) ≡ deskOf st d
+    record-decoded d c = ap decodeDesk (record-of-encode d c) ∙ desk-read-back (allScreens H) (deskOf st d) (omega (arith, c .total, most))
+
+    -- the record of a desk of the hall
+    pub desk-record : (d : ℕ) → 1 ≤ d → d ≤ H .desks → recordOf H (encode H st ++ rest) d ≡ encodeDesk (allScreens H) (deskOf st d)
+    desk-record d h h′ = record-of-encode d (cut (st .desks) (d - 1) (v .desks) (omega (arith, v .formed .desks)))
+
+    -- a position read, and written; a screen written
+    position-word-is : (p : ℕ) → 1 ≤ p → p ≤ H .positions → getD (encode H st ++ rest) (positionWord p) 0 ≡ getD (st .held) (p - 1) 0
+    position-word-is p l m =
+        ap (λ (t : List ℕ). getD t (headerWords + (p - 1)) 0) (as-held (st .held) (st .shown) (concat (map (encodeDesk (allScreens H)) (st .desks))))
+        ∙ get-mid (H .desks ∷ H .screens ∷ H .positions ∷ []) (st .held)
+        ((st .shown ++ concat (map (encodeDesk (allScreens H)) (st .desks))) ++ rest) headerWords refl (p - 1) (omega (arith, v .held))
+
+    position-written : (p w : ℕ) → 1 ≤ p → p ≤ H .positions → set (encode H st ++ rest) (positionWord p) w ≡ encode H (withHeld st (p - 1) w) ++ rest
+    position-written p w l m =
+        let f = concat (map (encodeDesk (allScreens H)) (st .desks)) in
+        ap (λ (t : List ℕ). set t (headerWords + (p - 1)) w) (as-held (st .held) (st .shown) f)
+        ∙ set-mid (H .desks ∷ H .screens ∷ H .positions ∷ []) (st .held) ((st .shown ++ f) ++ rest) headerWords refl (p - 1) w (omega (arith, v .held))
+        ∙ sym (as-held (set (st .held) (p - 1) w) (st .shown) f)
+
+    screen-written : (d c w : ℕ) → (1 ≤ d) × (d ≤ H .desks) → (1 ≤ c) × (c ≤ H .screens)
+        → set (encode H st ++ rest) (screenWord H d c) w ≡ encode H (withShown st (screenIndex H d c) w) ++ rest
+    screen-written d c w i j =
+        let f = concat (map (encodeDesk (allScreens H)) (st .desks)) in
+        let n : length (H .desks ∷ H .screens ∷ H .positions ∷ st .held) ≡ headerWords + H .positions = omega (arith, v .held) in
+        ap (λ (t : List ℕ). set t (screenWord H d c) w) (as-shown (st .held) (st .shown) f)
+        ∙ set-mid (H .desks ∷ H .screens ∷ H .positions ∷ st .held) (st .shown) (f ++ rest) (headerWords + H .positions) n (screenIndex H d c) w
+        (omega (arith, v .formed .screens, screen-in H d c (i .0) (i .1) (j .0) (j .1)))
+        ∙ sym (as-shown (st .held) (set (st .shown) (screenIndex H d c) w) f)
+
+    -- what an accepted call writes is the table of the state after it
+    pub written-is : (c : Call) → firstNo (questions H st c) ≡ 0 → written (encode H st ++ rest) c ≡ encode H (perform H st c .after) ++ rest
+    unfolding encodeDesk
+    written-is (Take d c p) e =
+        let y1 = holds (inRange d (H .desks)) _ 5 e in
+        let y2 = holds (inRange c (H .screens)) _ 6 (y1 .1) in
+        let ip = in-range p (H .positions) (holds (inRange p (H .positions)) _ 7 (y2 .1) .0) in
+        (λ i. set (encode H st ++ rest) (screenWord H d c) (position-word-is p (ip .0) (ip .1) i))
+        ∙ screen-written d c (getD (st .held) (p - 1) 0) (in-range d (H .desks) (y1 .0)) (in-range c (H .screens) (y2 .0))
+    written-is (Drop d c) e =
+        let y1 = holds (inRange d (H .desks)) _ 5 e in
+        let y2 = holds (inRange c (H .screens)) _ 6 (y1 .1) in
+        screen-written d c 0 (in-range d (H .desks) (y1 .0)) (in-range c (H .screens) (y2 .0))
+    written-is (Swap d p w) e =
+        let k = at-desk d _ e in
+        let ip = in-range p (H .positions) (holds (inRange p (H .positions)) _ 7 (holds (inRange d (H .desks)) _ 5 e .1) .0) in
+        let h : List ℕ = set (st .held) (p - 1) w in
+        let o = getD (st .held) (p - 1) 0 in
+        let a : List ℕ = H .desks ∷ H .screens ∷ H .positions ∷ (h ++ (st .shown ++ k .front)) in
+        let n : length a ≡ recordStart H d =
+        omega
+        (arith, length-append h (st .shown ++ k .front), length-append (st .shown) (k .front), length-set (st .held) (p - 1) w, v .held, v .formed .screens, k .starts) in
+        let z : recordStart H d ≡ recordStart H d + 0 = omega arith in
+        (λ i. set (position-written p w (ip .0) (ip .1) i) (z i) (position-word-is p (ip .0) (ip .1) i))
+        ∙ ap (λ (t : List ℕ). set t (recordStart H d + 0) o)
+        (as-record h (st .shown) (k .front) (encodeDesk (allScreens H) (deskOf st d)) (k .back) (concat (map (encodeDesk (allScreens H)) (st .desks))) (k .is))
+        ∙ set-mid a (encodeDesk (allScreens H) (deskOf st d)) (k .back ++ rest) (recordStart H d) n 0 o (omega (arith, k .wide))
+        ∙ sym
+        (as-record h (st .shown) (k .front) (encodeDesk (allScreens H) (owe (deskOf st d) o)) (k .back) (concat (map (encodeDesk (allScreens H)) (set (st .desks) (d - 1) (owe (deskOf st d) o)))) (k .put (owe (deskOf st d) o)))
+    written-is (Retire d) e =
+        let k = at-desk d _ e in
+        ap (λ (D : Desk). putRecord H (encode H st ++ rest) d (encodeDesk (allScreens H) (retire D))) (record-decoded d k) ∙ put-record-is d (retire (deskOf st d)) k
+    written-is (Collect d) e =
+        let k = at-desk d _ e in
+        (λ i. putRecord H (encode H st ++ rest) d (encodeDesk (allScreens H) (collect (allScreens H) (decode-encode i .shown) (record-decoded d k i) .after)))
+        ∙ put-record-is d (collect (allScreens H) (st .shown) (deskOf st d) .after) k
+
+  pub fresh-valid : Valid H (fresh H)
+  fresh-valid = record {
+    formed = record { desks = length-replicate (H .desks) emptyDesk; screens = length-replicate (allScreens H) 0 };
+    held = length-replicate (H .positions) 0;
+    desks = all-replicate (Sound (allScreens H)) (H .desks) emptyDesk (empty-desk-sound (allScreens H));
+  }
+
+  alike : (m n : ℕ) → m ≡ n → replicate {A = ℕ} m 0 ≡ replicate n 0
+  alike m n e = ap (λ (x : ℕ). replicate {A = ℕ} x 0) e
+
+  empty-encoded : encodeDesk (allScreens H) emptyDesk ≡ replicate (recordWidth H) 0
+  unfolding encodeDesk
+  empty-encoded = replicate-append-replicate listOffset (2 * allScreens H - 0) 0 ∙ alike (listOffset + (2 * allScreens H - 0)) (recordWidth H) (omega arith)
+
+  concat-empty : (n : ℕ) → concat (map (encodeDesk (allScreens H)) (replicate n emptyDesk)) ≡ replicate (n * recordWidth H) 0
+  concat-empty zero = alike 0 (0 * recordWidth H) (omega arith)
+  concat-empty (suc n) =
+      ap₂ {C = List ℕ} (λ x y. x ++ y) empty-encoded (concat-empty n) ∙ replicate-append-replicate (recordWidth H) (n * recordWidth H) 0
+      ∙ alike (recordWidth H + n * recordWidth H) (suc n * recordWidth H) (omega arith)
+
+  -- the table that an accepted opening leaves is that of the fresh state
+  pub opened-is-fresh : (t : List ℕ) → openedTable H t ≡ encode H (fresh H) ++ drop (need H) t
+  opened-is-fresh t = ap {B = List ℕ} (λ l. H .desks ∷ H .screens ∷ H .positions ∷ (l ++ drop (need H) t)) zeros
+    where
+      zeros : replicate {A = ℕ} (need H - headerWords) 0 ≡ replicate (H .positions) 0 ++ (replicate (allScreens H) 0 ++ concat (map (encodeDesk (allScreens H)) (replicate (H .desks) emptyDesk)))
+      zeros =
+          sym
+          (ap (λ (l : List ℕ). replicate (H .positions) 0 ++ (replicate (allScreens H) 0 ++ l)) (concat-empty (H .desks)) ∙ ap (λ (l : List ℕ). replicate (H .positions) 0 ++ l) (replicate-append-replicate (allScreens H) (H .desks * recordWidth H) 0) ∙ replicate-append-replicate (H .positions) (allScreens H + H .desks * recordWidth H) 0 ∙ alike (H .positions + (allScreens H + H .desks * recordWidth H)) (need H - headerWords) (omega arith))
+
+  pub valid-end : (cs : List Call) (st : State) → Valid H st → Valid H (end H st cs)
+  valid-end [] st v = v
+  valid-end (c ∷ cs) st v = valid-end cs (step H st c .after) (valid-step st c v)
+
+-- ---- A step, and a list of steps, on the table of a state, where the hall is within the board's limits.
+module _ (limits : Limits) (H : Hall) (inside : inLimits limits H ≡ true) where
+  abbrev fits : Fits H
+  fits = limits-fit limits H inside
+
+  module _ (st : State) (v : Valid H st) (rest : List ℕ) where
+    pub encode-is-sound : sound limits (encode H st ++ rest) ≡ true
+    unfolding sound
+    encode-is-sound =
+        and-true (inLimits limits H) _ inside
+        (and-true _ _ (le-leb (need H) (length (encode H st ++ rest)) (omega (arith, length-table H fits st v rest, length-append (encode H st) rest)))
+        (ap (every (recordSound (allScreens H))) (records-of-encode H fits st v rest) ∙ all-sound H fits (st .desks) (v .desks)))
+
+    -- a step on the table is the step of the rules
+    pub table-step : (c : Call)
+        → stepTable limits (encode H st ++ rest) c ≡ record { answer = step H st c .answer; after = encode H (step H st c .after) ++ rest }
+    unfolding stepTable
+    table-step c =
+        ap (λ (b : Bool). stepIf b (encode H st ++ rest) c) encode-is-sound ∙ ap (λ (s : State). told s) (decode-encode H fits st v rest) ∙ by-cases (firstNo (questions H st c)) refl
+      where
+        told : State → TableDone
+        told s =
+            let r = step H s c in
+            record { answer = r .answer; after = cond (eqb (r .answer .number) 0) (written (encode H st ++ rest) c) (encode H st ++ rest) }
+
+        by-cases : (n : ℕ) → firstNo (questions H st c) ≡ n
+            → _≡_ {A = TableDone} (let r = decide n st (perform H st c) in record { answer = r .answer; after = cond (eqb (r .answer .number) 0) (written (encode H st ++ rest) c) (encode H st ++ rest) }) (record { answer = decide n st (perform H st c) .answer; after = encode H (decide n st (perform H st c) .after) ++ rest })
+        by-cases zero e = λ i. record { answer = record { number = 0; session = perform H st c .session }; after = written-is H fits st v rest c e i }
+        by-cases (suc n) e =
+            λ i. record { answer = record { number = suc n; session = 0 }; after = cond (eqb·suc-zero n i) (written (encode H st ++ rest) c) (encode H st ++ rest) }
+
+  pub table-run : (cs : List Call) (st : State) → Valid H st → (rest : List ℕ) → runTable limits (encode H st ++ rest) cs ≡ run H st cs
+  table-run [] st v rest = refl
+  table-run (c ∷ cs) st v rest =
+      ap (λ (r : TableDone). more r) (table-step st v rest c)
+      ∙ ap {B = List Event} (λ es. record { call = c; answer = step H st c .answer } ∷ es) (table-run cs (step H st c .after) (valid-step H fits st c v) rest)
+    where
+      more : TableDone → List Event
+      more r = record { call = c; answer = r .answer } ∷ runTable limits (r .after) cs
+
+  pub table-end : (cs : List Call) (st : State) → Valid H st → (rest : List ℕ) → endTable limits (encode H st ++ rest) cs ≡ encode H (end H st cs) ++ rest
+  table-end [] st v rest = refl
+  table-end (c ∷ cs) st v rest =
+      ap (λ (r : TableDone). endTable limits (r .after) cs) (table-step st v rest c) ∙ table-end cs (step H st c .after) (valid-step H fits st c v) rest
+
+  -- The table stays sound: no step from an opening on is answered 5.
+  pub sound-table : (t : List ℕ) (cs : List Call) → sound limits (endTable limits (openedTable H t) cs) ≡ true
+  sound-table t cs =
+      let start = fresh-valid H fits in
+      rw (opened-is-fresh H fits t, table-end cs (fresh H) start (drop (need H) t))
+      (encode-is-sound (end H (fresh H) cs) (valid-end H fits cs (fresh H) start) (drop (need H) t))
+
+-- What an accepted opening asked of its hall and its table.
+pub hall-opens : (limits : Limits) (H : Hall) (t : List ℕ) → firstNo (openQuestions limits H t) ≡ 0 → (inLimits limits H ≡ true) × (need H ≤ length t)
+hall-opens limits H t e =
+    let y1 = holds (inRange (H .desks) (limits .desks)) _ 0 e in
+    let y2 = holds (inRange (H .screens) (limits .screens)) _ 1 (y1 .1) in
+    let y3 = holds (inRange (H .positions) (limits .positions)) _ 2 (y2 .1) in
+    let y4 = holds (leb (need H) (length t)) _ 3 (y3 .1) in
+    (and-true _ _ (y1 .0) (and-true _ _ (y2 .0) (y3 .0)), leb-true (need H) (length t) (y4 .0))

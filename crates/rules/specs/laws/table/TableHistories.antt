@@ -1,0 +1,132 @@
+-- Demands 2 and 3 of every list of calls on a table from an accepted opening on.
+use Prim.Native.Nat.{ℕ, _+_, _-_, _≤_, zero, suc, _*_}
+use native.Mathlib.Omega.{arith}
+use native.Mathlib.Decide.{ℕ-discrete}
+use mathlib.Core.Path.{_≡_, refl, sym, ap, _∙_, subst}
+use mathlib.Core.Bool.{cond, Bool, true, false}
+use mathlib.Core.List.{List, [], _++_}
+use lib.ListN.{length, take, drop, replicate}
+use lib.Seq.{take-at}
+use Rattle.rules.specs.Demands.{Demand2, Demand3, HandedBackWithin, countsOfDesk, listOfDesk, sharperBound}
+use Rattle.rules.specs.Hall.{Desk, Hall, Limits, allScreens, deskOf, fresh, usedSlots}
+use Rattle.rules.specs.History.{handBacks, handBacksOf, isHandBack, isHandBackOf, isRetirement, isRetirementOf, retirements, retirementsOf}
+use Rattle.rules.specs.Lists.{occurrences}
+use Rattle.rules.specs.Steps.{Call, Event, end, firstNo, inRange, run}
+use Rattle.rules.specs.Table.{encode, encodeDesk, endTable, inLimits, listIn, listOf, need, openIf, openQuestions, openTable, openedTable, recordOf}
+use Rattle.rules.specs.Table.{runTable, usedIn}
+use Rattle.rules.specs.laws.desk.Collect.{copiesOn}
+use Rattle.rules.specs.laws.desk.Sound.{length-list, occurrences-list}
+use Rattle.rules.specs.laws.history.Demand3.{back-in-time, list-bound, never-lacks-room, on-list, three-is-enough}
+use Rattle.rules.specs.laws.history.DeskInvariants.{copies-run, sound-run}
+use Rattle.rules.specs.laws.history.InitialState.{fresh-copies, fresh-formed, fresh-sound}
+use Rattle.rules.specs.laws.history.RunSplitting.{no-session-zero, outsider-counts, run-take}
+use Rattle.rules.specs.laws.history.StepEffects.{in-range, out-of-range}
+use Rattle.rules.specs.laws.pairing.Guarantee.{guaranteed}
+use Rattle.rules.specs.laws.pairing.LinkedSession.{same-session}
+use Rattle.rules.specs.laws.table.EncodedStep.{Fits, Valid, desk-record, fresh-valid, limits-fit, opened-is-fresh, some-screens, table-end, table-run}
+use Rattle.rules.specs.laws.table.EncodedStep.{valid-end}
+
+-- ---- What an accepted opening says of its hall.
+pub opening-asks : (limits : Limits) (H : Hall) (t : List ℕ) → openTable limits H t .answer .number ≡ 0
+    → (firstNo (openQuestions limits H t) ≡ 0) × (openTable limits H t .after ≡ openedTable H t)
+unfolding openTable
+opening-asks limits H t ok = by-cases (firstNo (openQuestions limits H t)) refl ok
+  where
+    by-cases : (n : ℕ) → firstNo (openQuestions limits H t) ≡ n → openIf n H t .answer .number ≡ 0
+        → (firstNo (openQuestions limits H t) ≡ 0) × (openIf n H t .after ≡ openedTable H t)
+    by-cases zero e z = (e, refl)
+    by-cases (suc n) e z = absurd (omega arith)
+
+-- ---- A desk's list and counts, as they stand in its record.
+pub counts-encoded : (S : ℕ) (D : Desk) → usedIn (encodeDesk S D) ≡ usedSlots D
+unfolding encodeDesk
+counts-encoded S D = refl
+
+list-encoded : (S : ℕ) (D : Desk) → take (usedIn (encodeDesk S D)) (listIn (encodeDesk S D)) ≡ listOf D
+unfolding encodeDesk
+list-encoded S D = take-at (listOf D) (replicate (2 * S - length (listOf D)) 0) (usedSlots D) (length-list D)
+
+module _ (limits : Limits) (H : Hall) (inside : inLimits limits H ≡ true) (t : List ℕ) (cs : List Call) where
+  abbrev fits : Fits H
+  fits = limits-fit limits H inside
+
+  some : 1 ≤ allScreens H
+  some = some-screens H fits
+
+  run-is : runTable limits (openedTable H t) cs ≡ run H (fresh H) cs
+  run-is = rw (opened-is-fresh H fits t) (table-run limits H inside cs (fresh H) (fresh-valid H fits) (drop (need H) t))
+
+  end-is : (i : ℕ) → endTable limits (openedTable H t) (take i cs) ≡ encode H (end H (fresh H) (take i cs)) ++ drop (need H) t
+  end-is i = rw (opened-is-fresh H fits t) (table-end limits H inside (take i cs) (fresh H) (fresh-valid H fits) (drop (need H) t))
+
+  valid : (i : ℕ) → Valid H (end H (fresh H) (take i cs))
+  valid i = valid-end H fits (take i cs) (fresh H) (fresh-valid H fits)
+
+  -- the record of desk d after the first i calls
+  record-after : (i d : ℕ) → (1 ≤ d) × (d ≤ H .desks)
+      → recordOf H (endTable limits (openedTable H t) (take i cs)) d ≡ encodeDesk (allScreens H) (deskOf (end H (fresh H) (take i cs)) d)
+  record-after i d r =
+      ap (λ (l : List ℕ). recordOf H l d) (end-is i) ∙ desk-record H fits (end H (fresh H) (take i cs)) (valid i) (drop (need H) t) d (r .0) (r .1)
+
+  counts-after : (d i : ℕ)
+      → retirements d (take i (run H (fresh H) cs)) ≡ handBacks d (take i (run H (fresh H) cs)) + countsOfDesk H (endTable limits (openedTable H t) (take i cs)) d
+  counts-after d i = rw (run-take H i cs (fresh H)) (by-cases (inRange d (H .desks)) refl)
+    where
+      by-cases : (b : Bool) → inRange d (H .desks) ≡ b
+          → retirements d (run H (fresh H) (take i cs)) ≡ handBacks d (run H (fresh H) (take i cs)) + cond b (usedIn (recordOf H (endTable limits (openedTable H t) (take i cs)) d)) 0
+      by-cases true q =
+          let r = in-range d (H .desks) q in
+          on-list H some (take i cs) d (r .0)
+          ∙ ap (λ (n : ℕ). handBacks d (run H (fresh H) (take i cs)) + n)
+          (sym (ap usedIn (record-after i d r) ∙ counts-encoded (allScreens H) (deskOf (end H (fresh H) (take i cs)) d)))
+      by-cases false q =
+          omega
+          (arith, outsider-counts H d (out-of-range d (H .desks) q) isRetirement refl (take i cs) (fresh H), outsider-counts H d (out-of-range d (H .desks) q) isHandBack refl (take i cs) (fresh H))
+
+  list-after : (d i : ℕ) → retirements d (take i (run H (fresh H) cs)) ≤ handBacks d (take i (run H (fresh H) cs)) + 2 * allScreens H
+  list-after d i = rw (run-take H i cs (fresh H)) (by-cases (inRange d (H .desks)) refl)
+    where
+      by-cases : (b : Bool) → inRange d (H .desks) ≡ b
+          → retirements d (run H (fresh H) (take i cs)) ≤ handBacks d (run H (fresh H) (take i cs)) + 2 * allScreens H
+      by-cases true q = list-bound H some (take i cs) d (in-range d (H .desks) q .0)
+      by-cases false q = omega (arith, outsider-counts H d (out-of-range d (H .desks) q) isRetirement refl (take i cs) (fresh H))
+
+  copies-after : (d s i : ℕ)
+      → retirementsOf d s (take i (run H (fresh H) cs)) ≡ handBacksOf d s (take i (run H (fresh H) cs)) + occurrences s (listOfDesk H (endTable limits (openedTable H t) (take i cs)) d)
+  copies-after d s i = rw (run-take H i cs (fresh H)) (by-cases (inRange d (H .desks)) refl (ℕ-discrete s 0))
+    where
+      listed : (1 ≤ d) × (d ≤ H .desks)
+          → occurrences s (let words = recordOf H (endTable limits (openedTable H t) (take i cs)) d in take (usedIn words) (listIn words)) ≡ copiesOn s (deskOf (end H (fresh H) (take i cs)) d)
+      listed r =
+          ap (λ (words : List ℕ). occurrences s (take (usedIn words) (listIn words))) (record-after i d r)
+          ∙ ap (occurrences s) (list-encoded (allScreens H) (deskOf (end H (fresh H) (take i cs)) d))
+          ∙ occurrences-list s (deskOf (end H (fresh H) (take i cs)) d)
+
+      by-cases : (b : Bool) → inRange d (H .desks) ≡ b → Dec (s ≡ 0)
+          → retirementsOf d s (run H (fresh H) (take i cs)) ≡ handBacksOf d s (run H (fresh H) (take i cs)) + occurrences s (cond b (let words = recordOf H (endTable limits (openedTable H t) (take i cs)) d in take (usedIn words) (listIn words)) [])
+      by-cases true q (yes z) =
+          let r = in-range d (H .desks) q in
+          let real = sound-run H d some (r .0) (take i cs) (fresh H) (fresh-formed H) (fresh-sound H d) .real in
+          let none = no-session-zero H (take i cs) (fresh H) d in
+          let l = listed r in
+          rw z (omega (arith, none .0, none .1, rw z at l, real))
+      by-cases true q (no z) =
+          let r = in-range d (H .desks) q in
+          let c = copies-run H d some (r .0) s z (take i cs) (fresh H) (fresh-formed H) (fresh-sound H d) in
+          omega (arith, listed r, fresh-copies H d s)
+      by-cases false q z =
+          omega
+          (arith, outsider-counts H d (out-of-range d (H .desks) q) (isRetirementOf s) refl (take i cs) (fresh H), outsider-counts H d (out-of-range d (H .desks) q) (isHandBackOf s) refl (take i cs) (fresh H))
+
+  pub demand2-opened : Demand2 H (runTable limits (openedTable H t) cs) (λ i. endTable limits (openedTable H t) (take i cs))
+  demand2-opened =
+      subst (λ (history : List Event). Demand2 H history (λ i. endTable limits (openedTable H t) (take i cs))) (sym run-is)
+      (record { guarantee = guaranteed H some cs; sessions = same-session H cs (fresh H) (fresh-formed H); counts = copies-after })
+
+  pub demand3-opened : Demand3 H (runTable limits (openedTable H t) cs) (λ i. endTable limits (openedTable H t) (take i cs))
+  demand3-opened =
+      subst (λ (history : List Event). Demand3 H history (λ i. endTable limits (openedTable H t) (take i cs))) (sym run-is)
+      (record { room = never-lacks-room H some cs; list = list-after; counts = counts-after; back = back-in-time H some cs (3 * allScreens H) (three-is-enough (allScreens H) some) })
+
+  pub back-opened : HandedBackWithin (sharperBound (allScreens H)) (runTable limits (openedTable H t) cs)
+  back-opened = subst (HandedBackWithin (sharperBound (allScreens H))) (sym run-is) (back-in-time H some cs (sharperBound (allScreens H)) (omega arith))

@@ -1,0 +1,165 @@
+-- A step on a table, case by case; what a sound table is known by; what its words say of its state.
+use Prim.Native.Nat.{ℕ, zero, suc, _+_, _*_, _-_, _≤_, _<_}
+use native.Mathlib.Omega.{arith}
+use native.Mathlib.Nat.{mul-le-mul, mul-le-mul-right}
+use mathlib.Core.Path.{_≡_, sym, ap, _∙_, refl}
+use mathlib.Core.Bool.{Bool, true, false, cond, _&&_}
+use mathlib.Core.List.{List, map, [], _∷_}
+use lib.ListN.{length, getD, take, drop}
+use lib.Seq.{getD-take, getD-drop, drop-drop}
+use lib.Dec.{leb, eqb, eqb·suc-zero, T}
+use borrow.Author.Tests.{leb-true}
+use Rattle.rules.specs.Hall.{Desk, Hall, Limits, TestedSlot, allScreens, deskOf, emptyDesk, maxAllScreens, screenIndex}
+use Rattle.rules.specs.Lists.{chunks, every}
+use Rattle.rules.specs.Steps.{Call, beginAt, collect, collectSeeing, decide, firstNo, perform, questions}
+use Rattle.rules.specs.Table.{TableDone, decode, decodeDesk, hallIn, headerWords, inLimits, need, openIf, openQuestions, openTable, openedTable}
+use Rattle.rules.specs.Table.{positionWord, recordOf, recordSound, recordStart, recordWidth, recordsIn, screenWord, sound, stepIf, stepTable, written}
+use Rattle.rules.specs.laws.history.ScreenIndex.{screen-in}
+use Rattle.rules.specs.laws.lists.Bools.{and-left, and-right}
+use Rattle.rules.specs.laws.table.EncodedStep.{Fits, limits-fit}
+
+-- the number that a call's questions give, on a sound table
+abbrev pub asked : List ℕ → Call → ℕ
+asked t c = firstNo (questions (hallIn t) (decode (hallIn t) t) c)
+
+pub unsound-step : (limits : Limits) (t : List ℕ) (c : Call) → sound limits t ≡ false → stepTable limits t c ≡ record { answer = record { number = 5; session = 0 }; after = t }
+unfolding stepTable
+unsound-step limits t c e = ap (λ (b : Bool). stepIf b t c) e
+
+told-by : List ℕ → Call → ℕ → TableDone
+told-by t c n =
+    let r = decide n (decode (hallIn t) t) (perform (hallIn t) (decode (hallIn t) t) c) in
+    record { answer = r .answer; after = cond (eqb (r .answer .number) 0) (written t c) t }
+
+sound-step : (limits : Limits) (t : List ℕ) (c : Call) → sound limits t ≡ true → stepTable limits t c ≡ told-by t c (asked t c)
+unfolding stepTable told-by
+sound-step limits t c e = ap (λ (b : Bool). stepIf b t c) e
+
+pub refused-step : (limits : Limits) (t : List ℕ) (c : Call) (n : ℕ) → sound limits t ≡ true → asked t c ≡ suc n
+    → stepTable limits t c ≡ record { answer = record { number = suc n; session = 0 }; after = t }
+unfolding told-by
+refused-step limits t c n e q =
+    sound-step limits t c e ∙ ap (told-by t c) q
+    ∙ (λ i. record { answer = record { number = suc n; session = 0 }; after = cond (eqb·suc-zero n i) (written t c) t })
+
+pub accepted-step : (limits : Limits) (t : List ℕ) (c : Call) → sound limits t ≡ true → asked t c ≡ 0
+    → stepTable limits t c ≡ record { answer = record { number = 0; session = perform (hallIn t) (decode (hallIn t) t) c .session }; after = written t c }
+unfolding told-by
+accepted-step limits t c e q = sound-step limits t c e ∙ ap (told-by t c) q
+
+-- ---- a sound table
+pub record Known (t : List ℕ) : Type 0 where
+  pub fits : Fits (hallIn t)
+  pub most : allScreens (hallIn t) ≤ maxAllScreens
+  pub long : need (hallIn t) ≤ length t
+  pub records : every (recordSound (allScreens (hallIn t))) (recordsIn (hallIn t) t) ≡ true
+
+-- its hall is within the limits
+pub known-inside : (limits : Limits) (t : List ℕ) → sound limits t ≡ true → inLimits limits (hallIn t) ≡ true
+unfolding sound
+known-inside limits t s =
+    and-left (inLimits limits (hallIn t)) (leb (need (hallIn t)) (length t) && every (recordSound (allScreens (hallIn t))) (recordsIn (hallIn t) t)) s
+
+pub known : (limits : Limits) (t : List ℕ) → sound limits t ≡ true → Known t
+unfolding sound
+known limits t s =
+    let H : Hall = hallIn t in
+    let later = and-right (inLimits limits H) (long && records) s in
+    let fits = limits-fit limits H (and-left (inLimits limits H) (long && records) s) in
+    record {
+      fits = fits;
+      most = mul-le-mul (fits .desks .1) (fits .screens .1);
+      long = leb-true (need H) (length t) (and-left long records later);
+      records = and-right long records later;
+    }
+  where
+    long : Bool
+    long = leb (need (hallIn t)) (length t)
+
+    records : Bool
+    records = every (recordSound (allScreens (hallIn t))) (recordsIn (hallIn t) t)
+
+-- ---- record i, from 0
+row-at : (n w i : ℕ) (x : List ℕ) → drop (i * w) (drop w x) ≡ drop (suc i * w) x
+row-at n w i x = let e : w + i * w ≡ suc i * w = omega arith in drop-drop (i * w) w x ∙ ap (λ (k : ℕ). drop k x) e
+
+records-at : (n w : ℕ) (x : List ℕ) (i : ℕ) → i < n → getD (map decodeDesk (chunks n w x)) i emptyDesk ≡ decodeDesk (take w (drop (i * w) x))
+records-at zero w x i h = absurd (omega arith)
+records-at (suc n) w x zero h = let e : 0 ≡ 0 * w = omega arith in ap (λ (k : ℕ). decodeDesk (take w (drop k x))) e
+records-at (suc n) w x (suc i) h = records-at n w (drop w x) i (omega arith) ∙ ap (λ (y : List ℕ). decodeDesk (take w y)) (row-at n w i x)
+
+pub every-record-at : (f : List ℕ → Bool) (n w : ℕ) (x : List ℕ) (i : ℕ) → i < n → every f (chunks n w x) ≡ true → f (take w (drop (i * w) x)) ≡ true
+every-record-at f zero w x i h q = absurd (omega arith)
+every-record-at f (suc n) w x zero h q =
+    let e : 0 * w ≡ 0 = omega arith in ap (λ (k : ℕ). f (take w (drop k x))) e ∙ and-left (f (take w x)) (every f (chunks n w (drop w x))) q
+every-record-at f (suc n) w x (suc i) h q =
+    ap (λ (y : List ℕ). f (take w y)) (sym (row-at n w i x))
+    ∙ every-record-at f n w (drop w x) i (omega arith) (and-right (f (take w x)) (every f (chunks n w (drop w x))) q)
+
+-- record d, from 1, as it stands in the table
+record-part : (t : List ℕ) (d : ℕ)
+    → drop ((d - 1) * recordWidth (hallIn t)) (drop (allScreens (hallIn t)) (drop (hallIn t .positions) (drop headerWords t))) ≡ drop (recordStart (hallIn t) d) t
+record-part t d =
+    let H : Hall = hallIn t in
+    let k : ℕ = (d - 1) * recordWidth H in
+    let e : headerWords + (H .positions + (allScreens H + k)) ≡ recordStart H d = omega arith in
+    drop-drop k (allScreens H) (drop (H .positions) (drop headerWords t)) ∙ drop-drop (allScreens H + k) (H .positions) (drop headerWords t)
+    ∙ drop-drop (H .positions + (allScreens H + k)) headerWords t ∙ ap (λ (j : ℕ). drop j t) e
+
+pub record-sound : (t : List ℕ) (d : ℕ) → Known t → 1 ≤ d → d ≤ hallIn t .desks → recordSound (allScreens (hallIn t)) (recordOf (hallIn t) t d) ≡ true
+record-sound t d k h g =
+    ap (λ (y : List ℕ). recordSound (allScreens (hallIn t)) (take (recordWidth (hallIn t)) y)) (sym (record-part t d))
+    ∙ every-record-at (recordSound (allScreens (hallIn t))) (hallIn t .desks) (recordWidth (hallIn t))
+    (drop (allScreens (hallIn t)) (drop (hallIn t .positions) (drop headerWords t))) (d - 1) (omega arith) (k .records)
+
+-- it stands before the end of the need
+pub record-within : (H : Hall) (d : ℕ) → 1 ≤ d → d ≤ H .desks → recordStart H d + recordWidth H ≤ need H
+record-within H d h g =
+    let m : suc (d - 1) * recordWidth H ≤ H .desks * recordWidth H = mul-le-mul-right (recordWidth H) (omega arith) in omega arith
+
+-- ---- what the words say of the state
+pub held-word : (t : List ℕ) (p : ℕ) → 1 ≤ p → p ≤ hallIn t .positions → getD (decode (hallIn t) t .held) (p - 1) 0 ≡ getD t (positionWord p) 0
+held-word t p h g = getD-take (hallIn t .positions) (drop headerWords t) (p - 1) 0 (omega arith) ∙ getD-drop headerWords t (p - 1) 0
+
+pub shown-at : (t : List ℕ) (i : ℕ) → i < allScreens (hallIn t) → getD (decode (hallIn t) t .shown) i 0 ≡ getD t (headerWords + hallIn t .positions + i) 0
+shown-at t i h =
+    let H : Hall = hallIn t in
+    let e : headerWords + (H .positions + i) ≡ headerWords + H .positions + i = omega arith in
+    getD-take (allScreens H) (drop (H .positions) (drop headerWords t)) i 0 h ∙ getD-drop (H .positions) (drop headerWords t) i 0 ∙ getD-drop headerWords t (H .positions + i) 0
+    ∙ ap (λ (k : ℕ). getD t k 0) e
+
+pub shown-word : (t : List ℕ) (d c : ℕ) → 1 ≤ d → d ≤ hallIn t .desks → 1 ≤ c → c ≤ hallIn t .screens
+    → getD (decode (hallIn t) t .shown) (screenIndex (hallIn t) d c) 0 ≡ getD t (screenWord (hallIn t) d c) 0
+shown-word t d c h1 h2 h3 h4 = shown-at t (screenIndex (hallIn t) d c) (screen-in (hallIn t) d c h1 h2 h3 h4)
+
+pub desk-word : (t : List ℕ) (d : ℕ) → 1 ≤ d → d ≤ hallIn t .desks → deskOf (decode (hallIn t) t) d ≡ decodeDesk (recordOf (hallIn t) t d)
+desk-word t d h g =
+    records-at (hallIn t .desks) (recordWidth (hallIn t)) (drop (allScreens (hallIn t)) (drop (hallIn t .positions) (drop headerWords t))) (d - 1) (omega arith)
+    ∙ ap (λ (y : List ℕ). decodeDesk (take (recordWidth (hallIn t)) y)) (record-part t d)
+
+pub owed-word : (t : List ℕ) (d : ℕ) → 1 ≤ d → d ≤ hallIn t .desks → deskOf (decode (hallIn t) t) d .owed ≡ getD t (recordStart (hallIn t) d) 0
+unfolding decodeDesk
+owed-word t d h g =
+    let a : ℕ = recordStart (hallIn t) d in
+    let e : a + 0 ≡ a = omega arith in
+    ap (λ (D : Desk). D .owed) (desk-word t d h g) ∙ getD-take (recordWidth (hallIn t)) (drop a t) 0 0 (omega arith) ∙ getD-drop a t 0 0
+    ∙ ap (λ (k : ℕ). getD t k 0) e
+
+-- ---- a collect reads the screens from the desk's own k on
+pub collect-seeing : (S : ℕ) (shown : List ℕ) (D : Desk) → collectSeeing S (take 2 (drop (D .scanned) shown)) D ≡ collect S shown D
+collect-seeing S shown D = ap (λ (n : ℕ). collectSeeing S (take 2 (drop n shown)) D) (same-scanned (D .tested))
+  where
+    same-scanned : (T : List TestedSlot) → D .scanned ≡ beginAt T D .scanned
+    same-scanned [] = refl
+    same-scanned (p ∷ T) = refl
+
+-- ---- the opening
+pub refused-open : (limits : Limits) (H : Hall) (t : List ℕ) (n : ℕ) → firstNo (openQuestions limits H t) ≡ suc n
+    → openTable limits H t ≡ record { answer = record { number = suc n; session = 0 }; after = t }
+unfolding openTable
+refused-open limits H t n q = ap (λ (m : ℕ). openIf m H t) q
+
+pub accepted-open : (limits : Limits) (H : Hall) (t : List ℕ) → firstNo (openQuestions limits H t) ≡ 0
+    → openTable limits H t ≡ record { answer = record { number = 0; session = 0 }; after = openedTable H t }
+unfolding openTable
+accepted-open limits H t q = ap (λ (m : ℕ). openIf m H t) q
