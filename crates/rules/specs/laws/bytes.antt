@@ -1,4 +1,5 @@
 -- Calls on bytes, and lists of them.
 pub mod Bytes
 pub mod ByteHistories
+pub mod FirstBoard
 pub mod Front

@@ -2,16 +2,18 @@
 use Prim.Native.Nat.{ℕ, zero, suc, _+_, _*_, _-_, _/_, _%_, _≤_, _<_}
 use native.Mathlib.Omega.{arith}
 use mathlib.Core.Path.{_≡_, refl, sym, ap, subst, _∙_}
+use mathlib.Core.Bool.{Bool, true, false, _&&_}
 use mathlib.Core.List.{List, [], _∷_, _++_, append-nil}
 use lib.ListN.{length, getD, drop, length-append, length-drop}
 use lib.Seq.{drop-at, getD-drop}
-use Rattle.rules.specs.Bytes.{Agrees, Call16, Calls16, IsBytes, Words16, answerIn, bytesOfWords, endBytes, onBytes, openBytes, overwriteWords, reply}
-use Rattle.rules.specs.Bytes.{runBytes, stepBytes, wordsOfBytes}
-use Rattle.rules.specs.Demands.{BytesDemand1, BytesOpeningDemand1, Demand1, OpeningDemand1}
-use Rattle.rules.specs.Hall.{Hall, Limits}
-use Rattle.rules.specs.Steps.{Answer, Call}
-use Rattle.rules.specs.Table.{TableDone, endTable, openTable, runTable, stepTable}
-use Rattle.rules.specs.laws.table.WordBounds.{below-append, open-length, open-session, open-words, step-length, step-session, step-words}
+use lib.Dec.{ltb}
+use borrow.Author.Tests.{ltb-false}
+use Rattle.rules.specs.Bytes.{Agrees, Call16, IsBytes, Words16, bytesOfWords, onBytes, openOnBytes, overwriteWords, pack, stepOnBytes, unpack}
+use Rattle.rules.specs.Bytes.{wordsOfBytes}
+use Rattle.rules.specs.Demands.{Demand1, onBytesOf}
+use Rattle.rules.specs.Hall.{Hall}
+use Rattle.rules.specs.Steps.{Answer, Call, Result}
+use Rattle.rules.specs.laws.table.WordBounds.{below-append}
 
 -- ---- Words and bytes.
 pub words-length : (bytes : List ℕ) → (2 * length (wordsOfBytes bytes) ≤ length bytes) × (length bytes ≤ 2 * length (wordsOfBytes bytes) + 1)
@@ -48,7 +50,7 @@ no-word (low ∷ high ∷ bytes) h = absurd (omega arith)
 as-many : (bytes others : List ℕ) → length bytes ≡ length others → length (wordsOfBytes bytes) ≡ length (wordsOfBytes others)
 as-many bytes others e = omega (arith, words-length bytes, words-length others)
 
--- ---- Words laid over bytes.
+-- ---- Words that overwrite bytes.
 low-and-high : (low high : ℕ) → low < 256 → high < 256 → ((low + 256 * high) % 256 ≡ low) × ((low + 256 * high) / 256 % 256 ≡ high)
 low-and-high low high l h = let d : (low + 256 * high) / 256 ≡ high = omega arith in (omega arith, omega arith)
 
@@ -87,54 +89,47 @@ overwrite-words words bytes h e =
     ∙ append-nil words
 
 -- ---- The answer in one number.
-pub heard-back : (answer : Answer) → answer .session < 65536 → answerIn (reply answer) ≡ answer
-heard-back answer h =
+pub unpack-pack : (answer : Answer) → answer .session < 65536 → unpack (pack answer) ≡ answer
+unpack-pack answer h =
     let n : (answer .number * 65536 + answer .session) / 65536 ≡ answer .number = omega arith in
     let s : (answer .number * 65536 + answer .session) % 65536 ≡ answer .session = omega arith in
     λ i. record { number = n i; session = s i }
 
--- ---- A call on bytes agrees with the call on the words in them.
-agrees : (bytes : List ℕ) (told : TableDone) → IsBytes bytes → told .answer .session < 65536 → Words16 (told .after)
-    → length (told .after) ≡ length (wordsOfBytes bytes) → Agrees bytes (onBytes told bytes) told
-agrees bytes told h s w e =
-    let e2 : 2 * length (told .after) ≡ 2 * length (wordsOfBytes bytes) = omega arith in
+-- ---- A call on bytes agrees with the call on the words in them, where that keeps the table's length and width.
+pub record Kept (table : List ℕ) (result : Result (List ℕ)) : Type 0 where
+  pub session : result .answer .session < 65536
+  pub words : Words16 (result .after)
+  pub sameLength : length (result .after) ≡ length table
+
+pub agrees : (bytes : List ℕ) (result : Result (List ℕ)) → IsBytes bytes → Kept (wordsOfBytes bytes) result → Agrees bytes (onBytes result bytes) result
+agrees bytes result are kept =
+    let same : 2 * length (result .after) ≡ 2 * length (wordsOfBytes bytes) = omega (arith, kept .sameLength) in
     record {
-      heard = heard-back (told .answer) s;
-      words = overwrite-words (told .after) bytes w e;
-      areBytes = overwrite-are-bytes (told .after) bytes h;
-      sameLength = overwrite-length (told .after) bytes (omega (arith, words-length bytes));
-      lastByte = subst (λ (n : ℕ). drop n (overwriteWords (told .after) bytes) ≡ drop n bytes) e2 (overwrite-past (told .after) bytes);
+      answer = refl;
+      packs = unpack-pack (result .answer) (kept .session);
+      words = overwrite-words (result .after) bytes (kept .words) (kept .sameLength);
+      areBytes = overwrite-are-bytes (result .after) bytes are;
+      sameLength = overwrite-length (result .after) bytes (omega (arith, words-length bytes));
+      lastByte = subst (λ (n : ℕ). drop n (overwriteWords (result .after) bytes) ≡ drop n bytes) same (overwrite-past (result .after) bytes);
     }
 
-pub bytes-step : (limits : Limits) (bytes : List ℕ) (call : Call) → IsBytes bytes → Call16 call
-    → Agrees bytes (stepBytes limits bytes call) (stepTable limits (wordsOfBytes bytes) call)
-unfolding stepBytes
-bytes-step limits bytes call h w =
-    let words = wordsOfBytes bytes in
-    let g = words-are-16 bytes h in
-    agrees bytes (stepTable limits words call) h (step-session limits words call g) (step-words limits words call g w) (step-length limits words call g)
+-- What these laws ask of a board on words: its opening and its step, and that they keep a table's length and width.
+pub record WordBoard : Type 0 where
+  pub opens : Hall → List ℕ → Result (List ℕ)
+  pub does : List ℕ → Call → Result (List ℕ)
+  pub openKeeps : (hall : Hall) (table : List ℕ) → Words16 table → Kept table (opens hall table)
+  pub stepKeeps : (table : List ℕ) (call : Call) → Words16 table → Call16 call → Kept table (does table call)
 
-pub bytes-open : (limits : Limits) (hall : Hall) (bytes : List ℕ) → IsBytes bytes → Agrees bytes (openBytes limits hall bytes) (openTable limits hall (wordsOfBytes bytes))
-unfolding openBytes
-bytes-open limits hall bytes h =
-    let words = wordsOfBytes bytes in
-    agrees bytes (openTable limits hall words) h (omega (arith, open-session limits hall words)) (open-words limits hall words (words-are-16 bytes h))
-    (open-length limits hall words)
+module _ (board : WordBoard) where
+  pub bytes-step : (bytes : List ℕ) (call : Call) → IsBytes bytes → Call16 call
+      → Agrees bytes (stepOnBytes (board .does) bytes call) (board .does (wordsOfBytes bytes) call)
+  bytes-step bytes call are wide =
+      agrees bytes (board .does (wordsOfBytes bytes) call) are (board .stepKeeps (wordsOfBytes bytes) call (words-are-16 bytes are) wide)
 
--- ---- A list of calls.
-pub bytes-run : (limits : Limits) (bytes : List ℕ) (calls : List Call) → IsBytes bytes → Calls16 calls → runBytes limits bytes calls ≡ runTable limits (wordsOfBytes bytes) calls
-bytes-run limits bytes [] h w = refl
-bytes-run limits bytes (call ∷ calls) h w =
-    let a = bytes-step limits bytes call h (w .0) in
-    let later = bytes-run limits (stepBytes limits bytes call .after) calls (a .areBytes) (w .1) in
-    λ i. record { call = call; answer = a .heard i } ∷ (later ∙ ap (λ (t : List ℕ). runTable limits t calls) (a .words)) i
-
-pub bytes-end : (limits : Limits) (bytes : List ℕ) (calls : List Call) → IsBytes bytes → Calls16 calls
-    → wordsOfBytes (endBytes limits bytes calls) ≡ endTable limits (wordsOfBytes bytes) calls
-bytes-end limits bytes [] h w = refl
-bytes-end limits bytes (call ∷ calls) h w =
-    let a = bytes-step limits bytes call h (w .0) in
-    bytes-end limits (stepBytes limits bytes call .after) calls (a .areBytes) (w .1) ∙ ap (λ (t : List ℕ). endTable limits t calls) (a .words)
+  pub bytes-open : (hall : Hall) (bytes : List ℕ) → IsBytes bytes
+      → Agrees bytes (openOnBytes (board .opens) hall bytes) (board .opens hall (wordsOfBytes bytes))
+  bytes-open hall bytes are =
+      agrees bytes (board .opens hall (wordsOfBytes bytes)) are (board .openKeeps hall (wordsOfBytes bytes) (words-are-16 bytes are))
 
 -- ---- Demand 1.
 -- a byte stays where its word stays, and where it stands past the words
@@ -159,55 +154,28 @@ same-past n xs ys e j h =
     subst (λ (m : ℕ). getD xs m 0 ≡ getD ys m 0) k
     (sym (getD-drop n xs (j - n) 0) ∙ ap (λ (l : List ℕ). getD l (j - n) 0) e ∙ getD-drop n ys (j - n) 0)
 
--- what was done to the bytes, from what was told of the words in them
-module _ (bytes : List ℕ) (are : IsBytes bytes) (told : TableDone) (agree : Agrees bytes (onBytes told bytes) told) where
-  words-kept : length (told .after) ≡ length (wordsOfBytes bytes)
-  words-kept = ap length (sym (agree .words)) ∙ as-many (overwriteWords (told .after) bytes) bytes (agree .sameLength)
-
-  number-heard : reply (told .answer) / 65536 ≡ told .answer .number
-  number-heard = ap (λ (x : Answer). x .number) (agree .heard)
-
-  refusal-heard : (n : ℕ) → told .answer .number ≡ suc n → told .answer .session ≡ 0 → told .after ≡ wordsOfBytes bytes
-      → (reply (told .answer) ≡ suc n * 65536) × (overwriteWords (told .after) bytes ≡ bytes)
-  refusal-heard n e none kept = (omega (arith, e, none), ap (λ (words : List ℕ). overwriteWords words bytes) kept ∙ overwrite-back bytes are)
-
-  byte-kept : (j : ℕ) → getD (told .after) (j / 2) 0 ≡ getD (wordsOfBytes bytes) (j / 2) 0 → getD (overwriteWords (told .after) bytes) j 0 ≡ getD bytes j 0
-  byte-kept j = overwrite-word (told .after) bytes j are words-kept
-
-  last-byte-kept : (j : ℕ) → 2 * length (wordsOfBytes bytes) ≤ j → getD (overwriteWords (told .after) bytes) j 0 ≡ getD bytes j 0
-  last-byte-kept = same-past (2 * length (wordsOfBytes bytes)) (overwriteWords (told .after) bytes) bytes (agree .lastByte)
-
 -- demand 1 on bytes, from that on the words in them
-pub bytes-demand1 : (limits : Limits) (bytes : List ℕ) (call : Call) → IsBytes bytes → Call16 call → Demand1 limits (wordsOfBytes bytes) call
-    → BytesDemand1 limits bytes call
-unfolding stepBytes
-bytes-demand1 limits bytes call are wide on-words =
-    let told = stepTable limits (wordsOfBytes bytes) call in
-    let agree = bytes-step limits bytes call are wide in
-    let number = number-heard bytes are told agree in
-    record {
-      refused =
-          λ n e.
-          (let r = on-words .refused n (sym number ∙ e) in
-          let b = refusal-heard bytes are told agree n (sym number ∙ e) (r .1) (r .2) in (r .0, b .0, b .1));
-      accepted = λ e j unnamed. byte-kept bytes are told agree j (on-words .accepted (sym number ∙ e) (j / 2) unnamed);
-      lastByte = last-byte-kept bytes are told agree;
-      sameLength = agree .sameLength;
-    }
+module _ (bytes : List ℕ) (are : IsBytes bytes) (result : Result (List ℕ)) (kept : Kept (wordsOfBytes bytes) result) where
+  byte-kept : (j : ℕ) → getD (result .after) (j / 2) 0 ≡ getD (wordsOfBytes bytes) (j / 2) 0
+      → getD (overwriteWords (result .after) bytes) j 0 ≡ getD bytes j 0
+  byte-kept j = overwrite-word (result .after) bytes j are (kept .sameLength)
 
-pub bytes-opening-demand1 : (limits : Limits) (hall : Hall) (bytes : List ℕ) → IsBytes bytes → OpeningDemand1 limits hall (wordsOfBytes bytes)
-    → BytesOpeningDemand1 limits hall bytes
-unfolding openBytes
-bytes-opening-demand1 limits hall bytes are on-words =
-    let told = openTable limits hall (wordsOfBytes bytes) in
-    let agree = bytes-open limits hall bytes are in
-    let number = number-heard bytes are told agree in
-    record {
-      refused =
-          λ n e.
-          (let r = on-words .refused n (sym number ∙ e) in
-          let b = refusal-heard bytes are told agree n (sym number ∙ e) (r .1) (r .2) in (r .0, b .0, b .1));
-      accepted = λ e j past. byte-kept bytes are told agree j (on-words .accepted (sym number ∙ e) (j / 2) past);
-      lastByte = last-byte-kept bytes are told agree;
-      sameLength = agree .sameLength;
-    }
+  last-byte-kept : (j : ℕ) → 2 * length (wordsOfBytes bytes) ≤ j → getD (overwriteWords (result .after) bytes) j 0 ≡ getD bytes j 0
+  last-byte-kept = same-past (2 * length (wordsOfBytes bytes)) (overwriteWords (result .after) bytes) bytes (agrees bytes result are kept .lastByte)
+
+  pub bytes-demand1 : (refusals : List ℕ) (mayChange : ℕ → Bool) → Demand1 refusals mayChange (wordsOfBytes bytes) result
+      → Demand1 refusals (onBytesOf bytes mayChange) bytes (onBytes result bytes)
+  bytes-demand1 refusals mayChange on-words =
+      record {
+        refused =
+            λ n e.
+            (let r = on-words .refused n e in
+            (r .0, r .1, ap (λ (words : List ℕ). overwriteWords words bytes) (r .2) ∙ overwrite-back bytes are));
+        accepted = λ e j unnamed. by-word e j (ltb j (2 * length (wordsOfBytes bytes))) refl unnamed;
+        sameLength = agrees bytes result are kept .sameLength;
+      }
+    where
+      by-word : result .answer .number ≡ 0 → (j : ℕ) (b : Bool) → ltb j (2 * length (wordsOfBytes bytes)) ≡ b → b && mayChange (j / 2) ≡ false
+          → getD (overwriteWords (result .after) bytes) j 0 ≡ getD bytes j 0
+      by-word e j true q unnamed = byte-kept j (on-words .accepted e (j / 2) unnamed)
+      by-word e j false q unnamed = last-byte-kept j (ltb-false j (2 * length (wordsOfBytes bytes)) q)

@@ -7,10 +7,10 @@ use mathlib.Core.Bool.{true}
 use mathlib.Core.List.{append-nil, List, [], _∷_, _++_, append-assoc}
 use lib.ListN.{length, take, drop, length-append, drop-of-length-le, take-append-drop}
 use lib.Seq.{drop-at, length-take-le, take-all, getD-take}
-use Rattle.rules.specs.Bytes.{IsBytes, bytesOfWords, onBytes, overwriteWords, reply, stepBytes, wordsOfBytes}
+use Rattle.rules.specs.Bytes.{IsBytes, bytesOfWords, onBytes, overwriteWords, stepBytes, wordsOfBytes}
 use Rattle.rules.specs.Hall.{Hall, Limits}
-use Rattle.rules.specs.Steps.{Call}
-use Rattle.rules.specs.Table.{TableDone, hallIn, headerWords, inLimits, need, stepTable}
+use Rattle.rules.specs.Steps.{Call, Result}
+use Rattle.rules.specs.Table.{hallIn, headerWords, inLimits, need, stepTable}
 use Rattle.rules.specs.laws.bytes.Bytes.{bytes-length, overwrite-back}
 use Rattle.rules.specs.laws.table.NeedSuffices.{step-append}
 
@@ -79,19 +79,15 @@ front-overwritten-back m bytes are =
     ∙ ap (λ (words : List ℕ). overwriteWords words bytes) (take-append-drop m (wordsOfBytes bytes))
     ∙ overwrite-back bytes are
 
--- what a call on the front tells and leaves is what the call on the bytes does
-on-front : (m : ℕ) (bytes : List ℕ) (told done : TableDone) → IsBytes bytes → length (told .after) ≡ length (take m (wordsOfBytes bytes))
-    → done ≡ record { answer = told .answer; after = told .after ++ drop m (wordsOfBytes bytes) }
-    → record { reply = reply (told .answer); after = overwriteWords (told .after) bytes } ≡ onBytes done bytes
-on-front m bytes told done are same e =
-    (λ i. record { reply = reply (told .answer); after = overwrite-front m bytes (told .after) are same i })
-    ∙ sym (ap (λ (r : TableDone). onBytes r bytes) e)
-
-module _ (limits : Limits) (m : ℕ) (bytes : List ℕ) (are : IsBytes bytes) (told : TableDone) (same : length (told .after) ≡ length (take m (wordsOfBytes bytes))) where
+-- what a call on the front answers and leaves is what the call on the bytes does
+module _ (limits : Limits) (m : ℕ) (bytes : List ℕ) (are : IsBytes bytes) (onFront : Result (List ℕ))
+    (same : length (onFront .after) ≡ length (take m (wordsOfBytes bytes))) where
   pub step-on-front : headerWords ≤ m → (inLimits limits (hallIn (wordsOfBytes bytes)) ≡ true → need (hallIn (wordsOfBytes bytes)) ≤ m) → (c : Call)
-      → told ≡ stepTable limits (take m (wordsOfBytes bytes)) c
-      → record { reply = reply (told .answer); after = overwriteWords (told .after) bytes } ≡ stepBytes limits bytes c
+      → onFront ≡ stepTable limits (take m (wordsOfBytes bytes)) c
+      → record { answer = onFront .answer; after = overwriteWords (onFront .after) bytes } ≡ stepBytes limits bytes c
   unfolding stepBytes
   step-on-front three enough c e =
-      on-front m bytes told (stepTable limits (wordsOfBytes bytes) c) are same
-      (step-front limits (wordsOfBytes bytes) m three enough c ∙ ap (λ (r : TableDone). record { answer = r .answer; after = r .after ++ drop m (wordsOfBytes bytes) }) (sym e))
+      (λ i. record { answer = onFront .answer; after = overwrite-front m bytes (onFront .after) are same i })
+      ∙ sym (ap (λ (r : Result (List ℕ)). onBytes r bytes)
+      (step-front limits (wordsOfBytes bytes) m three enough c
+      ∙ ap (λ (r : Result (List ℕ)). record { answer = r .answer; after = r .after ++ drop m (wordsOfBytes bytes) }) (sym e)))

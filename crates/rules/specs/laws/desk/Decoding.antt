@@ -4,15 +4,15 @@ use native.Mathlib.Omega.{arith}
 use mathlib.Core.Path.{_≡_, refl, sym, ap, ap₂, _∙_}
 use mathlib.Core.Bool.{Bool, true, false, not, _&&_}
 use mathlib.Core.List.{List, [], _∷_, _++_, map, append-assoc}
-use lib.ListN.{length, getD, take, drop, replicate, length-append, length-drop, take-append-drop}
+use lib.ListN.{length, getD, take, drop, replicate, length-append, length-drop, take-append-drop, drop-of-length-le}
 use lib.Seq.{take-add, take-all, take-take, length-take-le, drop-drop, drop-cons, getD-drop, take-at, drop-at}
 use lib.Dec.{leb, eqb}
 use borrow.Author.Tests.{eqb-true, eqb-false, leb-true}
 use Rattle.rules.specs.Hall.{TestedSlot, maxAllScreens}
 use Rattle.rules.specs.Lists.{chunks, concat, every, toNat}
-use Rattle.rules.specs.Table.{allMarks, bitsOfWord, bitsOfWords, decodeDesk, encodeDesk, listIn, listOffset, markWords, marksIn, marksOf, marksOffset}
-use Rattle.rules.specs.Table.{ones, readyOffset, recordSound, scanSound, scannedOffset, sessionsOf, slotsIn, slotsOf, testedOffset, usedIn, waitingOffset}
-use Rattle.rules.specs.Table.{widthFor, wordOfBits, wordsOfBits}
+use Rattle.rules.specs.Table.{allMarks, bitsOfWord, bitsOfWords, decodeDesk, encodeDesk, encodeTail, listOffset, markWords, marksIn, marksOf, marksOffset}
+use Rattle.rules.specs.Table.{ones, readyOffset, recordSound, scanSound, scannedOffset, sessionsOf, slotsIn, slotsOf, tailIn, tailOffset, testedOffset}
+use Rattle.rules.specs.Table.{usedIn, waitingOffset, widthFor, wordOfBits, wordsOfBits}
 use Rattle.rules.specs.laws.lists.Bools.{and-left, and-right}
 
 -- bits and words
@@ -110,15 +110,16 @@ small-take (suc n) [] h i = omega arith
 small-take (suc n) (x ∷ r) h zero = h 0
 small-take (suc n) (x ∷ r) h (suc i) = small-take n r (λ j. h (suc j)) i
 
--- its words: five, the mark words and the rest
-parts : (r : List ℕ) → marksOffset ≤ length r → r ≡ getD r 0 0 ∷ getD r 1 0 ∷ getD r 2 0 ∷ getD r 3 0 ∷ getD r 4 0 ∷ (take markWords (drop marksOffset r) ++ listIn r)
+-- its words: five, the mark words and those from the list on
+parts : (r : List ℕ) → marksOffset ≤ length r
+    → r ≡ getD r 0 0 ∷ getD r 1 0 ∷ getD r 2 0 ∷ getD r 3 0 ∷ getD r 4 0 ∷ (take markWords (drop marksOffset r) ++ drop listOffset r)
 parts r h =
     drop-cons r 0 0 (omega arith)
     ∙ ap {B = List ℕ} (λ x. getD r 0 0 ∷ x)
     (drop-cons r 1 0 (omega arith) ∙ ap {B = List ℕ} (λ x. getD r 1 0 ∷ x) (drop-cons r 2 0 (omega arith) ∙ ap {B = List ℕ} (λ x. getD r 2 0 ∷ x) (drop-cons r 3 0 (omega arith) ∙ ap {B = List ℕ} (λ x. getD r 3 0 ∷ x) (drop-cons r 4 0 (omega arith) ∙ ap {B = List ℕ} (λ x. getD r 4 0 ∷ x) (sym (ap {B = List ℕ} (λ x. take markWords (drop marksOffset r) ++ x) (sym (drop-drop markWords marksOffset r)) ∙ take-append-drop markWords (drop marksOffset r)))))))
 
 -- its list in its parts: a ready, b tested and c waiting sessions
-module _ (S : ℕ) (r : List ℕ) (long : length r ≡ widthFor S) (most : S ≤ maxAllScreens) (p : Passed S r) where
+module _ (S : ℕ) (r : List ℕ) (long : length r ≡ widthFor S) (bounded : S ≤ maxAllScreens) (p : Passed S r) where
   abbrev a : ℕ
   a = getD r readyOffset 0
 
@@ -129,7 +130,7 @@ module _ (S : ℕ) (r : List ℕ) (long : length r ≡ widthFor S) (most : S ≤
   c = getD r waitingOffset 0
 
   abbrev l : List ℕ
-  l = listIn r
+  l = slotsIn S r
 
   abbrev rd : List ℕ
   rd = take a l
@@ -141,7 +142,7 @@ module _ (S : ℕ) (r : List ℕ) (long : length r ≡ widthFor S) (most : S ≤
   wd = take c (drop (a + b) l)
 
   list-length : length l ≡ 2 * S
-  list-length = omega (arith, long, length-drop listOffset r)
+  list-length = length-take-le (2 * S) (drop listOffset r) (omega (arith, long, length-drop listOffset r))
 
   words-length : length (take markWords (drop marksOffset r)) ≡ markWords
   words-length = length-take-le markWords (drop marksOffset r) (omega (arith, long, length-drop marksOffset r))
@@ -161,43 +162,50 @@ module _ (S : ℕ) (r : List ℕ) (long : length r ≡ widthFor S) (most : S ≤
   pub marks-read : marksOf td ≡ take b (marksIn r)
   marks-read =
       marks-of-slots (take b (drop a l)) (take b (marksIn r))
-      (omega (arith, tested-length, length-slots (take b (drop a l)) (take b (marksIn r)), length-take-le b (marksIn r) (omega (arith, p .room, most, marks-length))))
+      (omega (arith, tested-length, length-slots (take b (drop a l)) (take b (marksIn r)), length-take-le b (marksIn r) (omega (arith, p .room, bounded, marks-length))))
 
   marks-again : marksOf td ++ replicate (allMarks - length td) false ≡ marksIn r
   marks-again =
       let n : length (drop b (marksIn r)) ≡ allMarks - length td = omega (arith, length-drop b (marksIn r), tested-length, marks-length) in
       ap₂ {C = List Bool} (λ x y. x ++ y) marks-read (ap (λ (m : ℕ). replicate m false) (sym n) ∙ sym (every-one (drop b (marksIn r)) (p .unmarked))) ∙ take-append-drop b (marksIn r)
 
-  pub list-parts : rd ++ (sessionsOf td ++ wd) ≡ take (usedIn r) (slotsIn S r)
+  pub list-parts : rd ++ (sessionsOf td ++ wd) ≡ take (usedIn r) l
   list-parts =
       ap (λ (x : List ℕ). rd ++ (x ++ wd)) (sessions-of-slots (take b (drop a l)) (take b (marksIn r)))
       ∙ sym (take-add (a + b) c l ∙ ap (λ (x : List ℕ). x ++ wd) (take-add a b l) ∙ append-assoc (take a l) (take b (drop a l)) wd)
-      ∙ sym (take-take (usedIn r) (2 * S) l (p .room))
 
   list-again : (rd ++ (sessionsOf td ++ wd)) ++ replicate (2 * S - length (rd ++ (sessionsOf td ++ wd))) 0 ≡ slotsIn S r
   list-again =
-      let lp = length-take-le (2 * S) l (omega (arith, list-length)) in
+      let lp = list-length in
       let n : length (drop (usedIn r) (slotsIn S r)) ≡ 2 * S - length (rd ++ (sessionsOf td ++ wd)) =
       omega (arith, p .room, lp, length-drop (usedIn r) (slotsIn S r), ap length list-parts, length-take-le (usedIn r) (slotsIn S r) (omega (arith, p .room, lp))) in
       ap₂ {C = List ℕ} (λ x y. x ++ y) list-parts (ap (λ (m : ℕ). replicate {A = ℕ} m 0) (sym n) ∙ sym (zeros (drop (usedIn r) (slotsIn S r)) (p .free)))
       ∙ take-append-drop (usedIn r) (slotsIn S r)
 
+  -- its tail is that of the desk that it is read as
+  tail-again : encodeTail (decodeDesk S r) ≡ tailIn S r
+  tail-again = sym (drop-of-length-le r {i = tailOffset S} (omega (arith, long)))
+
+  list-and-tail : l ++ tailIn S r ≡ drop listOffset r
+  list-and-tail = ap (λ (x : List ℕ). l ++ x) (sym (drop-drop (2 * S) listOffset r)) ∙ take-append-drop (2 * S) (drop listOffset r)
+
   -- of 16-bit words, it is the record of the desk that it is read as
-  passed-again : ((i : ℕ) → getD r i 0 < 65536) → encodeDesk S (decodeDesk r) ≡ r
+  passed-again : ((i : ℕ) → getD r i 0 < 65536) → encodeDesk S (decodeDesk S r) ≡ r
   unfolding encodeDesk decodeDesk
   passed-again small =
       let q = words-of-bits-of-words (take markWords (drop marksOffset r)) (small-take markWords (drop marksOffset r) (small-drop marksOffset r small)) in
-      (λ i. getD r 0 0 ∷ getD r 1 0 ∷ ready-length i ∷ tested-length i ∷ waiting-length i ∷ (wordsOfBits (sym words-length i) (marks-again i) ++ list-again i))
-      ∙ ap₂ {C = List ℕ} (λ x y. getD r 0 0 ∷ getD r 1 0 ∷ a ∷ b ∷ c ∷ (x ++ y)) q (take-all (2 * S) l (omega (arith, list-length)))
+      (λ i. getD r 0 0 ∷ getD r 1 0 ∷ ready-length i ∷ tested-length i ∷ waiting-length i
+      ∷ (wordsOfBits (sym words-length i) (marks-again i) ++ (list-again i ++ tail-again i)))
+      ∙ ap₂ {C = List ℕ} (λ x y. getD r 0 0 ∷ getD r 1 0 ∷ a ∷ b ∷ c ∷ (x ++ y)) q list-and-tail
       ∙ sym (parts r (omega (arith, long)))
 
 pub record-again : (S : ℕ) (r : List ℕ) → length r ≡ widthFor S → S ≤ maxAllScreens → ((i : ℕ) → getD r i 0 < 65536) → recordSound S r ≡ true
-    → encodeDesk S (decodeDesk r) ≡ r
+    → encodeDesk S (decodeDesk S r) ≡ r
 record-again S r long most small e = passed-again S r long most (passed S r e) small
 
 pub records-back : (S n : ℕ) (x : List ℕ) → S ≤ maxAllScreens → n * widthFor S ≤ length x → ((i : ℕ) → getD x i 0 < 65536)
     → every (recordSound S) (chunks n (widthFor S) x) ≡ true
-    → concat (map (encodeDesk S) (map decodeDesk (chunks n (widthFor S) x))) ≡ take (n * widthFor S) x
+    → concat (map (encodeDesk S) (map (decodeDesk S) (chunks n (widthFor S) x))) ≡ take (n * widthFor S) x
 records-back S zero x hS hl sm h = ap (λ (m : ℕ). take m x) (nought (widthFor S))
   where
     nought : (m : ℕ) → 0 ≡ 0 * m

@@ -4,15 +4,16 @@ use native.Mathlib.Omega.{arith}
 use mathlib.Core.Path.{_≡_, refl, ap, ap₂, _∙_}
 use mathlib.Core.Bool.{Bool, true, false}
 use mathlib.Core.List.{List, [], _∷_, _++_, append-assoc}
-use lib.ListN.{length, take, drop, replicate, length-append, length-replicate, length-drop, take-append-drop}
+use lib.ListN.{length, take, drop, replicate, length-append, length-replicate, length-drop, take-append-drop, getD}
 use lib.Seq.{take-at, drop-at, take-append-seam, drop-append-seam, length-take-le, drop-append-add}
 use lib.Dec.{eqb}
 use borrow.Author.Tests.{eq-eqb, ne-eqb}
-use Rattle.rules.specs.Hall.{Desk, TestedSlot, marked, unmarked}
+use Rattle.rules.specs.Hall.{Desk, TestedSlot, marked, unmarked, usedSlots}
 use Rattle.rules.specs.Lists.{toNat}
-use Rattle.rules.specs.Table.{allMarks, bitsOfWord, bitsOfWords, decodeDesk, encodeDesk, listOf, markWords, marksOf, ones, sessionsOf, slotsOf}
-use Rattle.rules.specs.Table.{wordOfBits, wordsOfBits}
+use Rattle.rules.specs.Table.{allMarks, bitsOfWord, bitsOfWords, decodeDesk, encodeDesk, encodeTail, listOf, listOffset, markWords, marksOf, ones}
+use Rattle.rules.specs.Table.{sessionsOf, slotsFor, slotsIn, slotsOf, tailOffset, tailWords, wordOfBits, wordsOfBits}
 use Rattle.rules.specs.laws.desk.Marks.{markCount}
+use Rattle.rules.specs.laws.lists.ListSlices.{get-past}
 
 bits-of-word-of-bits : (n : ℕ) (bs : List Bool) → length bs ≡ n → bitsOfWord n (wordOfBits bs) ≡ bs
 bits-of-word-of-bits zero [] h = refl
@@ -85,27 +86,77 @@ marks-read-back T h =
       length-replicate {A = Bool} (allMarks - length T) false,
     ))
 
-pub desk-read-back : (S : ℕ) (D : Desk) → length (D .tested) ≤ allMarks → decodeDesk (encodeDesk S D) ≡ D
+pub length-list : (D : Desk) → length (listOf D) ≡ usedSlots D
+length-list D =
+    omega (
+      arith,
+      length-append (D .ready) (sessionsOf (D .tested) ++ D .waiting),
+      length-append (sessionsOf (D .tested)) (D .waiting),
+      length-sessions (D .tested),
+    )
+
+-- ---- The parts of a desk's record: head, list and tail.
+abbrev pub headFor : Desk → List ℕ
+headFor D =
+    D .owed ∷ D .scanned ∷ length (D .ready) ∷ length (D .tested) ∷ length (D .waiting) ∷ wordsOfBits markWords (markBits (D .tested))
+
+pub record-parts : (S : ℕ) (D : Desk) → encodeDesk S D ≡ headFor D ++ (slotsFor S D ++ encodeTail D)
+unfolding encodeDesk
+record-parts S D = refl
+
+module _ (S : ℕ) (D : Desk) (room : usedSlots D ≤ 2 * S) where
+  pub length-slots-for : length (slotsFor S D) ≡ 2 * S
+  length-slots-for =
+      omega (
+        arith,
+        length-list D,
+        length-append (listOf D) (replicate (2 * S - length (listOf D)) 0),
+        length-replicate {A = ℕ} (2 * S - length (listOf D)) 0,
+      )
+
+  pub slots-read-back : slotsIn S (encodeDesk S D) ≡ slotsFor S D
+  unfolding encodeDesk
+  slots-read-back = take-at (slotsFor S D) (encodeTail D) (2 * S) length-slots-for
+
+  -- a word behind the list
+  pub tail-word : (j : ℕ) → tailOffset S ≤ j → getD (encodeDesk S D) j 0 ≡ getD (encodeTail D) (j - tailOffset S) 0
+  tail-word j past =
+      let same : j - listOffset - length (slotsFor S D) ≡ j - tailOffset S = omega (arith, length-slots-for) in
+      ap (λ (l : List ℕ). getD l j 0) (record-parts S D)
+      ∙ get-past (headFor D) (slotsFor S D ++ encodeTail D) j (omega arith)
+      ∙ get-past (slotsFor S D) (encodeTail D) (j - listOffset) (omega (arith, length-slots-for))
+      ∙ ap (λ (i : ℕ). getD (encodeTail D) i 0) same
+
+pub length-tail : (D : Desk) → length (encodeTail D) ≡ tailWords
+length-tail D = refl
+
+pub desk-read-back : (S : ℕ) (D : Desk) → usedSlots D ≤ 2 * S → length (D .tested) ≤ allMarks → decodeDesk S (encodeDesk S D) ≡ D
 unfolding encodeDesk decodeDesk
-desk-read-back S D h = λ i. record { owed = D .owed; scanned = D .scanned; ready = ready i; tested = tested i; waiting = waiting i }
+desk-read-back S D room h = λ i. record { owed = D .owed; scanned = D .scanned; ready = ready i; tested = tested i; waiting = waiting i }
   where
-    ready : decodeDesk (encodeDesk S D) .ready ≡ D .ready
-    ready = first-part (D .ready) (sessionsOf (D .tested)) (D .waiting) (replicate (2 * S - length (listOf D)) 0)
+    pad : List ℕ
+    pad = replicate (2 * S - length (listOf D)) 0
+
+    slots : slotsIn S (encodeDesk S D) ≡ slotsFor S D
+    slots = slots-read-back S D room
+
+    ready : decodeDesk S (encodeDesk S D) .ready ≡ D .ready
+    ready = ap (take (length (D .ready))) slots ∙ first-part (D .ready) (sessionsOf (D .tested)) (D .waiting) pad
 
     marks : take (length (D .tested)) (bitsOfWords (wordsOfBits markWords (markBits (D .tested)))) ≡ marksOf (D .tested)
     marks =
         ap (take (length (D .tested))) (marks-read-back (D .tested) h)
         ∙ take-at (marksOf (D .tested)) (replicate (allMarks - length (D .tested)) false) (length (D .tested)) (length-marks (D .tested))
 
-    tested : decodeDesk (encodeDesk S D) .tested ≡ D .tested
+    tested : decodeDesk S (encodeDesk S D) .tested ≡ D .tested
     tested =
         ap₂ slotsOf
-        (second-part (D .ready) (sessionsOf (D .tested)) (D .waiting) (replicate (2 * S - length (listOf D)) 0) (length (D .tested))
-        (length-sessions (D .tested)))
+        (ap (λ (l : List ℕ). take (length (D .tested)) (drop (length (D .ready)) l)) slots
+        ∙ second-part (D .ready) (sessionsOf (D .tested)) (D .waiting) pad (length (D .tested)) (length-sessions (D .tested)))
         marks
         ∙ slots-of-parts (D .tested)
 
-    waiting : decodeDesk (encodeDesk S D) .waiting ≡ D .waiting
+    waiting : decodeDesk S (encodeDesk S D) .waiting ≡ D .waiting
     waiting =
-        third-part (D .ready) (sessionsOf (D .tested)) (D .waiting) (replicate (2 * S - length (listOf D)) 0) (length (D .tested))
-        (length-sessions (D .tested))
+        ap (λ (l : List ℕ). take (length (D .waiting)) (drop (length (D .ready) + length (D .tested)) l)) slots
+        ∙ third-part (D .ready) (sessionsOf (D .tested)) (D .waiting) pad (length (D .tested)) (length-sessions (D .tested))

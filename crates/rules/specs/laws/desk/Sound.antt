@@ -11,9 +11,10 @@ use borrow.Author.Tests.{eq-eqb, ne-eqb, le-leb, lt-ltb}
 use Rattle.rules.specs.Hall.{Desk, TestedSlot, marked, maxAllScreens, unmarked, usedSlots}
 use Rattle.rules.specs.Lists.{every, occurrences}
 use Rattle.rules.specs.Steps.{begin, beginAt, collect, isNone, isSession, nextScreens, owe, retire, scan, settle}
-use Rattle.rules.specs.Table.{allMarks, bitsOfWords, encodeDesk, listOf, markWords, marksOf, ones, recordSound, scanSound, sessionsOf, wordsOfBits}
+use Rattle.rules.specs.Table.{allMarks, bitsOfWords, encodeDesk, listOf, markWords, marksOf, ones, recordSound, scanSound, sessionsOf, slotsIn}
+use Rattle.rules.specs.Table.{wordsOfBits}
 use Rattle.rules.specs.laws.desk.Collect.{Orderly, Scanning, by-scan, collect-orderly, copiesOn, readOn, retire-orderly}
-use Rattle.rules.specs.laws.desk.Encoding.{length-marks, length-sessions, markBits, marks-read-back, ones-marks}
+use Rattle.rules.specs.laws.desk.Encoding.{length-list, length-marks, markBits, marks-read-back, ones-marks, slots-read-back}
 use Rattle.rules.specs.laws.desk.Marks.{length-mark-each, mark-count-begin, mark-count-mark-each, markCount, testedCopies}
 use Rattle.rules.specs.laws.lists.Bools.{and-true}
 use Rattle.rules.specs.laws.lists.Lists.{occurrences-append}
@@ -117,15 +118,6 @@ occurrences-sessions s [] = refl
 occurrences-sessions s (unmarked x ∷ ps) = omega (arith, occurrences-sessions s ps)
 occurrences-sessions s (marked x ∷ ps) = omega (arith, occurrences-sessions s ps)
 
-pub length-list : (D : Desk) → length (listOf D) ≡ usedSlots D
-length-list D =
-    omega (
-      arith,
-      length-append (D .ready) (sessionsOf (D .tested) ++ D .waiting),
-      length-append (sessionsOf (D .tested)) (D .waiting),
-      length-sessions (D .tested),
-    )
-
 pub occurrences-list : (s : ℕ) (D : Desk) → occurrences s (listOf D) ≡ copiesOn s D
 occurrences-list s D =
     omega (
@@ -157,17 +149,15 @@ encoded-sound S D h s =
     pad : List ℕ
     pad = replicate (2 * S - length (listOf D)) 0
 
-    slots : take (2 * S) (listOf D ++ pad) ≡ listOf D ++ pad
-    slots =
-        take-all (2 * S) (listOf D ++ pad)
-        (omega (arith, s .total, length-list D, length-append (listOf D) pad, length-replicate {A = ℕ} (2 * S - length (listOf D)) 0))
+    slots : slotsIn S (encodeDesk S D) ≡ listOf D ++ pad
+    slots = slots-read-back S D (s .total)
 
-    used : every isSession (take (usedSlots D) (take (2 * S) (listOf D ++ pad))) ≡ true
+    used : every isSession (take (usedSlots D) (slotsIn S (encodeDesk S D))) ≡ true
     used =
         ap (every isSession) (ap (take (usedSlots D)) slots ∙ take-at (listOf D) pad (usedSlots D) (length-list D))
         ∙ every-real (listOf D) (occurrences-list 0 D ∙ s .real)
 
-    unused : every isNone (drop (usedSlots D) (take (2 * S) (listOf D ++ pad))) ≡ true
+    unused : every isNone (drop (usedSlots D) (slotsIn S (encodeDesk S D))) ≡ true
     unused =
         ap (every isNone) (ap (drop (usedSlots D)) slots ∙ drop-at (listOf D) pad (usedSlots D) (length-list D))
         ∙ every-zero (2 * S - length (listOf D))

@@ -4,7 +4,7 @@ use native.Mathlib.Omega.{arith}
 use mathlib.Core.Path.{_≡_, refl}
 use lib.ListN.{getD, replicate, length-replicate}
 use Rattle.rules.specs.Hall.{Hall, allScreens, deskOf, emptyDesk, fresh, usedSlots}
-use Rattle.rules.specs.History.{Deed}
+use Rattle.rules.specs.History.{Effect}
 use Rattle.rules.specs.laws.desk.Collect.{copiesOn}
 use Rattle.rules.specs.laws.desk.Room.{Room}
 use Rattle.rules.specs.laws.desk.Sound.{Sound}
@@ -21,7 +21,7 @@ module _ (H : Hall) where
   fresh-formed = record { desks = length-replicate (H .desks) emptyDesk; screens = length-replicate (allScreens H) 0 }
 
   -- no screen shows anything
-  pub fresh-shown : (f : ℕ → Deed) → AllShown H f 0 (fresh H)
+  pub fresh-shown : (f : ℕ → Effect) → AllShown H f 0 (fresh H)
   fresh-shown f x nz = absurd (nz (get-same (allScreens H) x 0))
 
   module _ (d : ℕ) where

@@ -1,134 +1,141 @@
--- Lists of calls: cut in two, told from a place on, past their end, and what no call of a list does.
+-- Lists of calls: cut in two, read from an index on, past their end, and what no call of a list does.
 use Prim.Native.Nat.{ℕ, _+_, _≤_, _<_, zero, suc}
 use native.Mathlib.Omega.{arith}
 use native.Mathlib.Decide.{ℕ-discrete}
 use mathlib.Core.Path.{_≡_, refl, sym, ap, _∙_, subst}
-use mathlib.Core.Bool.{cond, Bool, true, false}
+use mathlib.Core.Bool.{Bool, true, false}
 use mathlib.Core.List.{List, [], _∷_}
 use lib.ListN.{length, take, drop}
 use lib.Seq.{take-nil}
-use lib.Dec.{eqb}
-use borrow.Author.Tests.{eqb-true, ne-eqb}
+use borrow.Author.Tests.{ne-eqb}
 use Rattle.rules.specs.Hall.{Hall, State}
-use Rattle.rules.specs.History.{Deed, collects, deedAt, deedsOf, drops, handBacksOf, handsBack, isHandBackOf, isRetirementOf, lacksRoom, nothing, own}
-use Rattle.rules.specs.History.{retirementsOf, retires, swaps, takes}
+use Rattle.rules.specs.History.{Action, Effect, actionsBy, byDesk, collects, drops, effectAt, handBacksOf, handsBack, isHandBackOf, isRetirementOf}
+use Rattle.rules.specs.History.{noAction, outOfRoom, retirementsOf, retires, swaps, takes}
 use Rattle.rules.specs.Lists.{count, toNat}
-use Rattle.rules.specs.Steps.{Call, Event, end, run, step}
-use Rattle.rules.specs.laws.history.Actions.{Own, othersDeed, own-cases, ownDeed}
-use Rattle.rules.specs.laws.history.StepEffects.{IsDesk, Range, range-step}
+use Rattle.rules.specs.Steps.{Call, Event, Result, end, run, step}
+use Rattle.rules.specs.laws.history.Actions.{Own, another's, its-own, own-cases}
+use Rattle.rules.specs.laws.history.StepEffects.{InHall, IsDesk, Range, range-step}
 
--- the history of the first calls
-pub run-take : (H : Hall) (i : ℕ) (cs : List Call) (st : State) → take i (run H st cs) ≡ run H st (take i cs)
-run-take H zero cs st = refl
-run-take H (suc i) [] st = refl
-run-take H (suc i) (c ∷ cs) st =
-    ap {B = List Event} (λ r. record { call = c; answer = step H st c .answer } ∷ r) (run-take H i cs (step H st c .after))
+-- ---- Runs of any step, on states, words or bytes.
+module _ {T : Type 0} (does : T → Call → Result T) where
+  -- the history of the first calls
+  pub run-take : (i : ℕ) (cs : List Call) (before : T) → take i (run does before cs) ≡ run does before (take i cs)
+  run-take zero cs before = refl
+  run-take (suc i) [] before = refl
+  run-take (suc i) (c ∷ cs) before =
+      ap {B = List Event} (λ r. record { call = c; answer = does before c .answer } ∷ r) (run-take i cs (does before c .after))
 
--- a count in the first n + k calls, cut at n
-pub count-split : (test : Deed → Bool) (d : ℕ) (H : Hall) (n k : ℕ) (cs : List Call) (st : State)
-    → count test (deedsOf d (run H st (take (n + k) cs)))
-    ≡ count test (deedsOf d (run H st (take n cs))) + count test (deedsOf d (run H (end H st (take n cs)) (take k (drop n cs))))
-count-split test d H zero k cs st = let e : 0 + k ≡ k = omega arith in ap (λ (m : ℕ). count test (deedsOf d (run H st (take m cs)))) e ∙ omega arith
-count-split test d H (suc n) k [] st = simp take-nil
-count-split test d H (suc n) k (c ∷ cs) st =
-    let e : suc n + k ≡ suc (n + k) = omega arith in
-    ap (λ (m : ℕ). count test (deedsOf d (run H st (take m (c ∷ cs))))) e ∙ omega (arith, count-split test d H n k cs (step H st c .after))
+  -- a count in the first n + k calls, cut at n
+  pub count-split : (test : Action → Bool) (d n k : ℕ) (cs : List Call) (before : T)
+      → count test (actionsBy d (run does before (take (n + k) cs)))
+      ≡ count test (actionsBy d (run does before (take n cs))) + count test (actionsBy d (run does (end does before (take n cs)) (take k (drop n cs))))
+  count-split test d zero k cs before =
+      let e : 0 + k ≡ k = omega arith in ap (λ (m : ℕ). count test (actionsBy d (run does before (take m cs)))) e ∙ omega arith
+  count-split test d (suc n) k [] before = simp take-nil
+  count-split test d (suc n) k (c ∷ cs) before =
+      let e : suc n + k ≡ suc (n + k) = omega arith in
+      ap (λ (m : ℕ). count test (actionsBy d (run does before (take m (c ∷ cs))))) e ∙ omega (arith, count-split test d n k cs (does before c .after))
 
--- ---- A function from places to deeds that tells, from place n on, the deeds of a history.
-pub record Tells (f : ℕ → Deed) (n : ℕ) (history : List Event) : Type 0 where
-  pub at : (i : ℕ) → f (n + i) ≡ deedAt history i
+-- ---- A function from indices that gives, from index n on, the effects of a history.
+pub record Gives (f : ℕ → Effect) (n : ℕ) (history : List Event) : Type 0 where
+  pub at : (i : ℕ) → f (n + i) ≡ effectAt history i
 
-pub tells-first : {f : ℕ → Deed} {n : ℕ} {history : List Event} → Tells f n history → f n ≡ deedAt history 0
-tells-first {f} {n} t = let e : n ≡ n + 0 = omega arith in ap f e ∙ t .at 0
+pub gives-first : {f : ℕ → Effect} {n : ℕ} {history : List Event} → Gives f n history → f n ≡ effectAt history 0
+gives-first {f} {n} t = let e : n ≡ n + 0 = omega arith in ap f e ∙ t .at 0
 
-pub tells-rest : {f : ℕ → Deed} {n : ℕ} {event : Event} {history : List Event} → Tells f n (event ∷ history) → Tells f (suc n) history
-tells-rest {f} {n} t = record { at = λ i. (let e : suc n + i ≡ n + suc i = omega arith in ap f e ∙ t .at (suc i)) }
+pub gives-rest : {f : ℕ → Effect} {n : ℕ} {event : Event} {history : List Event} → Gives f n (event ∷ history) → Gives f (suc n) history
+gives-rest {f} {n} t = record { at = λ i. (let e : suc n + i ≡ n + suc i = omega arith in ap f e ∙ t .at (suc i)) }
 
-pub tells-itself : (history : List Event) → Tells (deedAt history) 0 history
-tells-itself history = record { at = λ i. (let e : 0 + i ≡ i = omega arith in ap (deedAt history) e) }
+pub gives-itself : (history : List Event) → Gives (effectAt history) 0 history
+gives-itself history = record { at = λ i. (let e : 0 + i ≡ i = omega arith in ap (effectAt history) e) }
 
--- the deeds after the first n
-pub tells-from : (H : Hall) (n : ℕ) (cs : List Call) (st : State) → Tells (deedAt (run H st cs)) n (run H (end H st (take n cs)) (drop n cs))
-tells-from H n cs st = record { at = at n cs st }
-  where
-    at : (n : ℕ) (cs : List Call) (st : State) (i : ℕ) → deedAt (run H st cs) (n + i) ≡ deedAt (run H (end H st (take n cs)) (drop n cs)) i
-    at zero cs st i = tells-itself (run H st cs) .at i
-    at (suc n) [] st i = refl
-    at (suc n) (c ∷ cs) st i =
-        let e : suc n + i ≡ suc (n + i) = omega arith in ap (deedAt (run H st (c ∷ cs))) e ∙ at n cs (step H st c .after) i
+module _ {T : Type 0} (does : T → Call → Result T) where
+  -- the effects after the first n
+  pub gives-from : (n : ℕ) (cs : List Call) (before : T) → Gives (effectAt (run does before cs)) n (run does (end does before (take n cs)) (drop n cs))
+  gives-from n cs before = record { at = at n cs before }
+    where
+      at : (n : ℕ) (cs : List Call) (before : T) (i : ℕ)
+          → effectAt (run does before cs) (n + i) ≡ effectAt (run does (end does before (take n cs)) (drop n cs)) i
+      at zero cs before i = gives-itself (run does before cs) .at i
+      at (suc n) [] before i = refl
+      at (suc n) (c ∷ cs) before i =
+          let e : suc n + i ≡ suc (n + i) = omega arith in ap (effectAt (run does before (c ∷ cs))) e ∙ at n cs (does before c .after) i
 
--- what holds between places i and n, and at n, holds between i and n + 1
+  -- past the end there is no action
+  pub effect-within : (cs : List Call) (before : T) (index : ℕ) → (effectAt (run does before cs) index .action ≡ noAction → ⊥) → index < length cs
+  effect-within [] before index some = absurd (some refl)
+  effect-within (c ∷ cs) before zero some = omega arith
+  effect-within (c ∷ cs) before (suc index) some = omega (arith, effect-within cs (does before c .after) index some)
+
+-- what holds between indices i and n, and at n, holds between i and n + 1
 pub one-index-more : (Q : ℕ → Type 0) (i n : ℕ) → Q n → ((m : ℕ) → i < m → m < n → Q m) → (m : ℕ) → i < m → m < suc n → Q m
-one-index-more Q i n here earlier m a b = by-cases (ℕ-discrete m n)
+one-index-more Q i n here earlier m a b = by-index (ℕ-discrete m n)
   where
-    by-cases : Dec (m ≡ n) → Q m
-    by-cases (yes t) = subst Q (sym t) here
-    by-cases (no t) = earlier m a (omega arith)
+    by-index : Dec (m ≡ n) → Q m
+    by-index (yes t) = subst Q (sym t) here
+    by-index (no t) = earlier m a (omega arith)
 
--- past the end nothing is done
-pub deed-within : (H : Hall) (cs : List Call) (st : State) (slot : ℕ) → (deedAt (run H st cs) slot ≡ nothing → ⊥) → slot < length cs
-deed-within H [] st slot something = absurd (something refl)
-deed-within H (c ∷ cs) st zero something = omega arith
-deed-within H (c ∷ cs) st (suc slot) something = omega (arith, deed-within H cs (step H st c .after) slot something)
-
--- every deed of a run is of a desk of the hall
-pub range-run : (H : Hall) (cs : List Call) (st : State) (m : ℕ) → Range H (deedAt (run H st cs) m)
+-- every effect of a run is in the hall
+pub range-run : (H : Hall) (cs : List Call) (st : State) (m : ℕ) → InHall H (effectAt (run (step H) st cs) m)
 range-run H [] st m = tt
 range-run H (c ∷ cs) st zero = range-step H st c
 range-run H (c ∷ cs) st (suc m) = range-run H cs (step H st c .after) m
 
--- so what no such deed is has the count 0
-none-counted : (H : Hall) (d : ℕ) (test : Deed → Bool) → ((D : Deed) → Range H D → test (own d D) ≡ false) → (cs : List Call) (st : State)
-    → count test (deedsOf d (run H st cs)) ≡ 0
+-- so what no such effect is has the count 0
+none-counted : (H : Hall) (d : ℕ) (test : Action → Bool) → ((e : Effect) → InHall H e → test (byDesk d e) ≡ false) → (cs : List Call) (st : State)
+    → count test (actionsBy d (run (step H) st cs)) ≡ 0
 none-counted H d test fails [] st = refl
 none-counted H d test fails (c ∷ cs) st =
     omega (
       arith,
-      ap toNat (fails (deedAt (run H st (c ∷ cs)) 0) (range-step H st c)),
+      ap toNat (fails (effectAt (run (step H) st (c ∷ cs)) 0) (range-step H st c)),
       none-counted H d test fails cs (step H st c .after),
     )
 
 -- A desk that the hall does not have does nothing.
 module _ (H : Hall) (d : ℕ) (outside : IsDesk H d → ⊥) where
-  others : (by : ℕ) (D : Deed) → 1 ≤ by → by ≤ H .desks → (b : Bool) → eqb by d ≡ b → cond b D nothing ≡ nothing
-  others by D h g true q = let same : by ≡ d = eqb-true by d q in absurd (outside (omega arith, omega arith))
-  others by D h g false q = refl
+  no-action : (a : Action) → Range H d a → a ≡ noAction
+  no-action (takes c p v) r = absurd (outside (r .0))
+  no-action (drops c) r = absurd (outside (r .0))
+  no-action (swaps p) r = absurd (outside r)
+  no-action (retires v) r = absurd (outside (r .0))
+  no-action outOfRoom r = absurd (outside r)
+  no-action collects r = absurd (outside r)
+  no-action (handsBack v) r = absurd (outside (r .0))
+  no-action noAction r = refl
 
-  outsider : (D : Deed) → Range H D → own d D ≡ nothing
-  outsider (takes by c p v) r = others by (takes by c p v) (r .0) (r .1) (eqb by d) refl
-  outsider (drops by c) r = others by (drops by c) (r .0) (r .1) (eqb by d) refl
-  outsider (swaps by p) r = others by (swaps by p) (r .0) (r .1) (eqb by d) refl
-  outsider (retires by v) r = others by (retires by v) (r .0) (r .1) (eqb by d) refl
-  outsider (lacksRoom by) r = others by (lacksRoom by) (r .0) (r .1) (eqb by d) refl
-  outsider (collects by) r = others by (collects by) (r .0) (r .1) (eqb by d) refl
-  outsider (handsBack by v) r = others by (handsBack by v) (r .0) (r .1) (eqb by d) refl
-  outsider nothing r = refl
+  outsider : (e : Effect) → InHall H e → byDesk d e ≡ noAction
+  outsider e r = by-desk (own-cases d e)
+    where
+      by-desk : Own d e → byDesk d e ≡ noAction
+      by-desk (another's none) = none
+      by-desk (its-own same own) = own ∙ no-action (e .action) (subst (λ (n : ℕ). Range H n (e .action)) same r)
 
-  pub outsider-counts : (test : Deed → Bool) → test nothing ≡ false → (cs : List Call) (st : State)
-      → count test (deedsOf d (run H st cs)) ≡ 0
-  outsider-counts test none = none-counted H d test (λ D r. ap test (outsider D r) ∙ none)
+  pub outsider-counts : (test : Action → Bool) → test noAction ≡ false → (cs : List Call) (st : State)
+      → count test (actionsBy d (run (step H) st cs)) ≡ 0
+  outsider-counts test none = none-counted H d test (λ e r. ap test (outsider e r) ∙ none)
 
 -- Session 0 is neither retired nor handed back.
-range-not-zero : (H : Hall) (d : ℕ) (D : Deed) → Range H D → (isRetirementOf 0 (own d D) ≡ false) × (isHandBackOf 0 (own d D) ≡ false)
-range-not-zero H d D r = by-cases (own-cases d D)
+range-not-zero : (H : Hall) (d : ℕ) (e : Effect) → InHall H e → (isRetirementOf 0 (byDesk d e) ≡ false) × (isHandBackOf 0 (byDesk d e) ≡ false)
+range-not-zero H d e r = by-desk (own-cases d e)
   where
-    plain : (E : Deed) → Range H E → (isRetirementOf 0 E ≡ false) × (isHandBackOf 0 E ≡ false)
-    plain (takes by c p v) r = (refl, refl)
-    plain (drops by c) r = (refl, refl)
-    plain (swaps by p) r = (refl, refl)
-    plain (retires by v) r = (ne-eqb 0 v (λ z. r .2 (sym z)), refl)
-    plain (lacksRoom by) r = (refl, refl)
-    plain (collects by) r = (refl, refl)
-    plain (handsBack by v) r = (refl, ne-eqb 0 v (λ z. r .2 (sym z)))
-    plain nothing r = (refl, refl)
+    not-zero : (a : Action) → Range H (e .desk) a → (isRetirementOf 0 a ≡ false) × (isHandBackOf 0 a ≡ false)
+    not-zero (takes c p v) r = (refl, refl)
+    not-zero (drops c) r = (refl, refl)
+    not-zero (swaps p) r = (refl, refl)
+    not-zero (retires v) r = (ne-eqb 0 v (λ z. r .1 (sym z)), refl)
+    not-zero outOfRoom r = (refl, refl)
+    not-zero collects r = (refl, refl)
+    not-zero (handsBack v) r = (refl, ne-eqb 0 v (λ z. r .1 (sym z)))
+    not-zero noAction r = (refl, refl)
 
-    by-cases : Own d D → (isRetirementOf 0 (own d D) ≡ false) × (isHandBackOf 0 (own d D) ≡ false)
-    by-cases (othersDeed e) = (ap (isRetirementOf 0) e, ap (isHandBackOf 0) e)
-    by-cases (ownDeed e) = (ap (isRetirementOf 0) e ∙ plain D r .0, ap (isHandBackOf 0) e ∙ plain D r .1)
+    by-desk : Own d e → (isRetirementOf 0 (byDesk d e) ≡ false) × (isHandBackOf 0 (byDesk d e) ≡ false)
+    by-desk (another's none) = (ap (isRetirementOf 0) none, ap (isHandBackOf 0) none)
+    by-desk (its-own same own) = (ap (isRetirementOf 0) own ∙ not-zero (e .action) r .0, ap (isHandBackOf 0) own ∙ not-zero (e .action) r .1)
 
 pub no-session-zero : (H : Hall) (cs : List Call) (st : State) (d : ℕ)
-    → (retirementsOf d 0 (run H st cs) ≡ 0) × (handBacksOf d 0 (run H st cs) ≡ 0)
+    → (retirementsOf d 0 (run (step H) st cs) ≡ 0) × (handBacksOf d 0 (run (step H) st cs) ≡ 0)
 no-session-zero H cs st d = (
-  none-counted H d (isRetirementOf 0) (λ D r. range-not-zero H d D r .0) cs st,
-  none-counted H d (isHandBackOf 0) (λ D r. range-not-zero H d D r .1) cs st,
+  none-counted H d (isRetirementOf 0) (λ e r. range-not-zero H d e r .0) cs st,
+  none-counted H d (isHandBackOf 0) (λ e r. range-not-zero H d e r .1) cs st,
 )

@@ -1,5 +1,5 @@
--- One call: what an accepted one has been asked, what a deed did to the state, and what it did to each desk.
--- All that the later laws know of a step is `did`, by cases of the deed, and `effect`, seen from one desk.
+-- One call: what an accepted one has been asked, what its action did to the state, and what it did to each desk.
+-- All that the later laws know of a step is `state-change`, by cases of the action, and `desk-change`, seen from one desk.
 use Prim.Native.Nat.{ℕ, zero, suc, _*_, _-_, _≤_, _<_}
 use native.Mathlib.Omega.{arith}
 use mathlib.Core.Path.{_≡_, refl, sym, _∙_, subst}
@@ -10,9 +10,9 @@ use lib.Seq.{getD-set-same, getD-set-other, set-getD}
 use lib.Dec.{leb, ltb, eqb}
 use borrow.Author.Tests.{eqb-true, eqb-false, ltb-true, ltb-false, leb-true, not-true, le-leb}
 use Rattle.rules.specs.Hall.{Desk, Hall, State, allScreens, deskOf, emptyDesk, screenIndex, usedSlots, withDesk, withHeld, withShown}
-use Rattle.rules.specs.History.{Deed, collects, deed, drops, handsBack, lacksRoom, nothing, own, retires, swaps, takes}
-use Rattle.rules.specs.Steps.{Call, Collect, Done, Drop, Question, Retire, Swap, Take, ask, collect, decide, firstNo, inRange, owe, perform, questions}
-use Rattle.rules.specs.Steps.{retire, step}
+use Rattle.rules.specs.History.{Action, Effect, _by_, actionOf, byDesk, collects, drops, handsBack, noAction, outOfRoom, retires, swaps, takes}
+use Rattle.rules.specs.Steps.{Call, Collect, Drop, Question, Retire, Step, Swap, Take, _sends_, ask, collect, decide, firstNo, inRange, owe, performStep}
+use Rattle.rules.specs.Steps.{questions, retire, step}
 use Rattle.rules.specs.laws.lists.Bools.{and-left, and-right, and-true}
 
 -- A state with as many desks and screens as the hall.
@@ -26,9 +26,15 @@ IsDesk H d = (1 ≤ d) × (d ≤ H .desks)
 abbrev pub IsScreen : Hall → ℕ → Type 0
 IsScreen H c = (1 ≤ c) × (c ≤ H .screens)
 
--- What a call with its answer did.
-abbrev pub deedOf : Hall → State → Call → Deed
-deedOf H st c = deed c (step H st c .answer .number) (step H st c .answer .session)
+abbrev pub IsPosition : Hall → ℕ → Type 0
+IsPosition H p = (1 ≤ p) × (p ≤ H .positions)
+
+-- What a call did.
+abbrev pub actionIn : Hall → State → Call → Action
+actionIn H st call = actionOf (call .step) (step H st call .answer .number) (step H st call .answer .session)
+
+abbrev pub effectIn : Hall → State → Call → Effect
+effectIn H st call = actionIn H st call by call .desk
 
 -- ---- The questions that an accepted call has been asked.
 pub in-range : (n m : ℕ) → inRange n m ≡ true → (1 ≤ n) × (n ≤ m)
@@ -49,16 +55,13 @@ numbered (first ∷ others) = not (eqb (first .number) 0) && numbered others
 
 all-yes : (asked : List Question) → numbered asked ≡ true → firstNo asked ≡ 0 → (i : ℕ) → getD asked i (ask true 0) .yes? ≡ true
 all-yes [] n e = λ i. refl
-all-yes (first ∷ others) n e = by-cases (first .yes?) refl e (all-yes others (and-right (not (eqb (first .number) 0)) (numbered others) n))
+all-yes (first ∷ others) n e = by-answer (first .yes?) refl e (all-yes others (and-right (not (eqb (first .number) 0)) (numbered others) n))
   where
-    by-cases : (b : Bool) → first .yes? ≡ b → cond b (firstNo others) (first .number) ≡ 0
+    by-answer : (b : Bool) → first .yes? ≡ b → cond b (firstNo others) (first .number) ≡ 0
         → (firstNo others ≡ 0 → (i : ℕ) → getD others i (ask true 0) .yes? ≡ true) → (i : ℕ) → getD (first ∷ others) i (ask true 0) .yes? ≡ true
-    by-cases true y e rest zero = y
-    by-cases true y e rest (suc i) = rest e i
-    by-cases false y e rest i = absurd (eqb-false (first .number) 0 (not-true _ (and-left (not (eqb (first .number) 0)) (numbered others) n)) e)
-
-pub retire-questions : (a b c : Bool) → cond {A = ℕ} a (cond {A = ℕ} b (cond {A = ℕ} c 0 14) 13) 6 ≡ 0 → (a ≡ true) × (b ≡ true) × (c ≡ true)
-retire-questions a b c e = let y = all-yes (ask a 6 ∷ ask b 13 ∷ ask c 14 ∷ []) refl e in (y 0, y 1, y 2)
+    by-answer true y e rest zero = y
+    by-answer true y e rest (suc i) = rest e i
+    by-answer false y e rest i = absurd (eqb-false (first .number) 0 (not-true _ (and-left (not (eqb (first .number) 0)) (numbered others) n)) e)
 
 retire-refused-full : (a b c : Bool) → cond {A = ℕ} a (cond {A = ℕ} b (cond {A = ℕ} c 0 14) 13) 6 ≡ 14 → (a ≡ true) × (c ≡ false)
 retire-refused-full true true true e = absurd (omega arith)
@@ -66,49 +69,59 @@ retire-refused-full true true false e = (refl, refl)
 retire-refused-full true false c e = absurd (omega arith)
 retire-refused-full false b c e = absurd (omega arith)
 
+pub record TakeAsked (H : Hall) (st : State) (d c p : ℕ) : Type 0 where
+  pub desk : IsDesk H d
+  pub screen : IsScreen H c
+  pub position : IsPosition H p
+  pub empty : getD (st .shown) (screenIndex H d c) 0 ≡ 0
+  pub some : getD (st .held) (p - 1) 0 ≡ 0 → ⊥
+
+pub record DropAsked (H : Hall) (d c : ℕ) : Type 0 where
+  pub desk : IsDesk H d
+  pub screen : IsScreen H c
+
+pub record SwapAsked (H : Hall) (st : State) (d p : ℕ) : Type 0 where
+  pub desk : IsDesk H d
+  pub position : IsPosition H p
+  pub owesNothing : deskOf st d .owed ≡ 0
+
+pub record RetireAsked (H : Hall) (st : State) (d : ℕ) : Type 0 where
+  pub desk : IsDesk H d
+  pub owes : deskOf st d .owed ≡ 0 → ⊥
+  pub room : usedSlots (deskOf st d) < 2 * allScreens H
+
 module _ (H : Hall) (st : State) where
-  -- the desk of any step
-  pub desk-fact : (d m : ℕ) → cond {A = ℕ} (inRange d (H .desks)) m 6 ≡ 0 → IsDesk H d
-  desk-fact d m e = in-range d (H .desks) (holds (inRange d (H .desks)) m 5 e .0)
+  -- the desk of any call
+  pub desk-asked : (call : Call) → firstNo (questions H st call) ≡ 0 → IsDesk H (call .desk)
+  desk-asked call e = in-range (call .desk) (H .desks) (holds (inRange (call .desk) (H .desks)) _ 5 e .0)
 
-  pub take-facts : (d c p : ℕ) → firstNo (questions H st (Take d c p)) ≡ 0
-      → (1 ≤ d) × (d ≤ H .desks) × (1 ≤ c) × (c ≤ H .screens) × (1 ≤ p) × (getD (st .shown) (screenIndex H d c) 0 ≡ 0) × (getD (st .held) (p - 1) 0 ≡ 0 → ⊥)
-  take-facts d c p e =
-      let y = all-yes (questions H st (Take d c p)) refl e in
-      let a = in-range d (H .desks) (y 0) in
-      let b = in-range c (H .screens) (y 1) in
-      (a .0, a .1, b .0, b .1, in-range p (H .positions) (y 2) .0, eqb-true _ 0 (y 3), eqb-false _ 0 (not-true _ (y 4)))
+  pub take-asked : (d c p : ℕ) → firstNo (questions H st (d sends Take c p)) ≡ 0 → TakeAsked H st d c p
+  take-asked d c p e =
+      let y = all-yes (questions H st (d sends Take c p)) refl e in
+      record {
+        desk = in-range d (H .desks) (y 0);
+        screen = in-range c (H .screens) (y 1);
+        position = in-range p (H .positions) (y 2);
+        empty = eqb-true _ 0 (y 3);
+        some = eqb-false _ 0 (not-true _ (y 4));
+      }
 
-  pub drop-facts : (d c : ℕ) → firstNo (questions H st (Drop d c)) ≡ 0 → (1 ≤ d) × (d ≤ H .desks) × (1 ≤ c) × (c ≤ H .screens)
-  drop-facts d c e =
-      let y = all-yes (questions H st (Drop d c)) refl e in
-      let a = in-range d (H .desks) (y 0) in
-      let b = in-range c (H .screens) (y 1) in
-      (a .0, a .1, b .0, b .1)
+  pub drop-asked : (d c : ℕ) → firstNo (questions H st (d sends Drop c)) ≡ 0 → DropAsked H d c
+  drop-asked d c e =
+      let y = all-yes (questions H st (d sends Drop c)) refl e in
+      record { desk = in-range d (H .desks) (y 0); screen = in-range c (H .screens) (y 1) }
 
-  pub swap-facts : (d p v : ℕ) → firstNo (questions H st (Swap d p v)) ≡ 0 → (1 ≤ d) × (d ≤ H .desks) × (1 ≤ p) × (deskOf st d .owed ≡ 0)
-  swap-facts d p v e =
-      let y = all-yes (questions H st (Swap d p v)) refl e in
-      let a = in-range d (H .desks) (y 0) in
-      (a .0, a .1, in-range p (H .positions) (y 1) .0, eqb-true _ 0 (y 2))
+  pub swap-asked : (d p v : ℕ) → firstNo (questions H st (d sends Swap p v)) ≡ 0 → SwapAsked H st d p
+  swap-asked d p v e =
+      let y = all-yes (questions H st (d sends Swap p v)) refl e in
+      record { desk = in-range d (H .desks) (y 0); position = in-range p (H .positions) (y 1); owesNothing = eqb-true _ 0 (y 2) }
 
-  -- the position of a take and of a swap is one of the hall's
-  pub position-asked : (d c p : ℕ) → firstNo (questions H st (Take d c p)) ≡ 0 → p ≤ H .positions
-  position-asked d c p e = in-range p (H .positions) (all-yes (questions H st (Take d c p)) refl e 2) .1
+  pub retire-asked : (d : ℕ) → firstNo (questions H st (d sends Retire)) ≡ 0 → RetireAsked H st d
+  retire-asked d e =
+      let y = all-yes (questions H st (d sends Retire)) refl e in
+      record { desk = in-range d (H .desks) (y 0); owes = eqb-false _ 0 (not-true _ (y 1)); room = ltb-true _ _ (y 2) }
 
-  pub swap-position-asked : (d p v : ℕ) → firstNo (questions H st (Swap d p v)) ≡ 0 → p ≤ H .positions
-  swap-position-asked d p v e = in-range p (H .positions) (all-yes (questions H st (Swap d p v)) refl e 1) .1
-
-  pub retire-facts : (d : ℕ) → firstNo (questions H st (Retire d)) ≡ 0 → (1 ≤ d) × (d ≤ H .desks) × (deskOf st d .owed ≡ 0 → ⊥)
-  retire-facts d e =
-      let y = all-yes (questions H st (Retire d)) refl e in
-      let a = in-range d (H .desks) (y 0) in
-      (a .0, a .1, eqb-false _ 0 (not-true _ (y 1)))
-
-  pub retire-room-fact : (d : ℕ) → firstNo (questions H st (Retire d)) ≡ 0 → usedSlots (deskOf st d) < 2 * allScreens H
-  retire-room-fact d e = ltb-true _ _ (all-yes (questions H st (Retire d)) refl e 2)
-
--- ---- What becomes of a desk D, by its own deed.
+-- ---- What becomes of a desk D, by its own action.
 
 -- its list and its reading stay as they are
 pub record Same (D E : Desk) : Type 0 where
@@ -121,7 +134,7 @@ pub record Retires (S v : ℕ) (D E : Desk) : Type 0 where
   pub room : usedSlots D < 2 * S
   pub after : E ≡ retire D
 
-pub record LacksRoom (S : ℕ) (D E : Desk) : Type 0 where
+pub record OutOfRoom (S : ℕ) (D E : Desk) : Type 0 where
   pub room : 2 * S ≤ usedSlots D
   pub after : E ≡ D
 
@@ -129,21 +142,21 @@ pub record Collects (S : ℕ) (shown : List ℕ) (v : ℕ) (D E : Desk) : Type 0
   pub session : collect S shown D .session ≡ v
   pub after : E ≡ collect S shown D .after
 
-abbrev pub Effect : ℕ → List ℕ → Desk → Desk → Deed → Type 0
-Effect S shown D E (takes by c p v) = Same D E
-Effect S shown D E (drops by c) = Same D E
-Effect S shown D E (swaps by p) = Same D E
-Effect S shown D E (retires by v) = Retires S v D E
-Effect S shown D E (lacksRoom by) = LacksRoom S D E
-Effect S shown D E (collects by) = Collects S shown 0 D E
-Effect S shown D E (handsBack by v) = (v ≡ 0 → ⊥) × Collects S shown v D E
-Effect S shown D E nothing = Same D E
+abbrev pub DeskChange : ℕ → List ℕ → Desk → Desk → Action → Type 0
+DeskChange S shown D E (takes c p v) = Same D E
+DeskChange S shown D E (drops c) = Same D E
+DeskChange S shown D E (swaps p) = Same D E
+DeskChange S shown D E (retires v) = Retires S v D E
+DeskChange S shown D E outOfRoom = OutOfRoom S D E
+DeskChange S shown D E collects = Collects S shown 0 D E
+DeskChange S shown D E (handsBack v) = (v ≡ 0 → ⊥) × Collects S shown v D E
+DeskChange S shown D E noAction = Same D E
 
 -- of desk d in a state
-abbrev pub EffectOn : Hall → State → ℕ → Desk → Deed → Type 0
-EffectOn H st d E D = Effect (allScreens H) (st .shown) (deskOf st d) E D
+abbrev pub DeskChangeIn : Hall → State → ℕ → Desk → Action → Type 0
+DeskChangeIn H st d E action = DeskChange (allScreens H) (st .shown) (deskOf st d) E action
 
--- ---- What a deed found, and the state after it.
+-- ---- What an action of desk d found, and the state after it.
 pub record Took (H : Hall) (st : State) (d c p v : ℕ) (after : State) : Type 0 where
   pub desk : IsDesk H d
   pub screen : IsScreen H c
@@ -165,44 +178,47 @@ pub record Swapped (H : Hall) (st : State) (d p : ℕ) (after : State) : Type 0 
   pub session : ℕ
   pub state : after ≡ withDesk (withHeld st (p - 1) session) d (owe (deskOf st d) (getD (st .held) (p - 1) 0))
 
--- a deed that changes its desk alone
-pub record OnDesk (H : Hall) (st : State) (d : ℕ) (Done : Desk → Type 0) (after : State) : Type 0 where
+-- an action that changes its desk alone
+pub record OnDesk (H : Hall) (st : State) (d : ℕ) (action : Action) (after : State) : Type 0 where
   pub desk : IsDesk H d
   pub new : Desk
-  pub done : Done new
+  pub done : DeskChangeIn H st d new action
   pub state : after ≡ withDesk st d new
 
-abbrev pub Did : Hall → State → Deed → State → Type 0
-Did H st (takes d c p v) after = Took H st d c p v after
-Did H st (drops d c) after = Dropped H st d c after
-Did H st (swaps d p) after = Swapped H st d p after
-Did H st (retires d v) after = OnDesk H st d (λ E. EffectOn H st d E (retires d v)) after
-Did H st (lacksRoom d) after = OnDesk H st d (λ E. EffectOn H st d E (lacksRoom d)) after
-Did H st (collects d) after = OnDesk H st d (λ E. EffectOn H st d E (collects d)) after
-Did H st (handsBack d v) after = OnDesk H st d (λ E. EffectOn H st d E (handsBack d v)) after
-Did H st nothing after = after ≡ st
+abbrev pub StateChange : Hall → State → ℕ → Action → State → Type 0
+StateChange H st d (takes c p v) after = Took H st d c p v after
+StateChange H st d (drops c) after = Dropped H st d c after
+StateChange H st d (swaps p) after = Swapped H st d p after
+StateChange H st d (retires v) after = OnDesk H st d (retires v) after
+StateChange H st d outOfRoom after = OnDesk H st d outOfRoom after
+StateChange H st d collects after = OnDesk H st d collects after
+StateChange H st d (handsBack v) after = OnDesk H st d (handsBack v) after
+StateChange H st d noAction after = after ≡ st
 
--- What a deed has in range, and that a session retired or handed back is not 0.
-abbrev pub Range : Hall → Deed → Type 0
-Range H (takes d c p v) = (1 ≤ d) × (d ≤ H .desks) × (1 ≤ c) × (c ≤ H .screens)
-Range H (drops d c) = (1 ≤ d) × (d ≤ H .desks) × (1 ≤ c) × (c ≤ H .screens)
-Range H (swaps d p) = IsDesk H d
-Range H (retires d s) = (1 ≤ d) × (d ≤ H .desks) × (s ≡ 0 → ⊥)
-Range H (lacksRoom d) = IsDesk H d
-Range H (collects d) = IsDesk H d
-Range H (handsBack d s) = (1 ≤ d) × (d ≤ H .desks) × (s ≡ 0 → ⊥)
-Range H nothing = Unit {0}
+-- What an action has in range, and that a session retired or handed back is not 0.
+abbrev pub Range : Hall → ℕ → Action → Type 0
+Range H d (takes c p v) = IsDesk H d × IsScreen H c
+Range H d (drops c) = IsDesk H d × IsScreen H c
+Range H d (swaps p) = IsDesk H d
+Range H d (retires v) = IsDesk H d × (v ≡ 0 → ⊥)
+Range H d outOfRoom = IsDesk H d
+Range H d collects = IsDesk H d
+Range H d (handsBack v) = IsDesk H d × (v ≡ 0 → ⊥)
+Range H d noAction = Unit {0}
+
+abbrev pub InHall : Hall → Effect → Type 0
+InHall H effect = Range H (effect .desk) (effect .action)
 
 module _ (H : Hall) (st : State) where
-  pub did : (c : Call) → Did H st (deedOf H st c) (step H st c .after)
-  did c = by-cases (firstNo (questions H st c)) c refl
+  pub state-change : (call : Call) → StateChange H st (call .desk) (actionIn H st call) (step H st call .after)
+  state-change call = by-number (firstNo (questions H st call)) (call .desk) (call .step) refl
     where
       collected : (d v : ℕ) (b : Bool) → eqb v 0 ≡ b → IsDesk H d → collect (allScreens H) (st .shown) (deskOf st d) .session ≡ v
-          → Did H st (cond b (collects d) (handsBack d v)) (withDesk st d (collect (allScreens H) (st .shown) (deskOf st d) .after))
+          → StateChange H st d (cond b collects (handsBack v)) (withDesk st d (collect (allScreens H) (st .shown) (deskOf st d) .after))
       collected d v true q r e = record { desk = r; new = _; done = record { session = e ∙ eqb-true v 0 q; after = refl }; state = refl }
       collected d v false q r e = record { desk = r; new = _; done = (eqb-false v 0 q, record { session = e; after = refl }); state = refl }
 
-      full : (d n : ℕ) (b : Bool) → eqb n 14 ≡ b → firstNo (questions H st (Retire d)) ≡ n → Did H st (cond b (lacksRoom d) nothing) st
+      full : (d n : ℕ) (b : Bool) → eqb n 14 ≡ b → firstNo (questions H st (d sends Retire)) ≡ n → StateChange H st d (cond b outOfRoom noAction) st
       full d n true q e =
           let y =
           retire-refused-full (inRange d (H .desks)) (not (eqb (deskOf st d .owed) 0)) (ltb (usedSlots (deskOf st d)) (2 * allScreens H))
@@ -215,52 +231,54 @@ module _ (H : Hall) (st : State) where
           }
       full d n false q e = refl
 
-      by-cases : (n : ℕ) (c : Call) → firstNo (questions H st c) ≡ n
-          → let r = decide n st (perform H st c) in Did H st (deed c (r .answer .number) (r .answer .session)) (r .after)
-      by-cases zero (Take d c p) e =
-          let t = take-facts H st d c p e in
-          record { desk = (t .0, t .1); screen = (t .2, t .3); position = t .4; empty = t .5; session = refl; some = t .6; state = refl }
-      by-cases zero (Drop d c) e = let t = drop-facts H st d c e in record { desk = (t .0, t .1); screen = (t .2, t .3); state = refl }
-      by-cases zero (Swap d p v) e =
-          let t = swap-facts H st d p v e in
-          record { desk = (t .0, t .1); position = t .2; owesNothing = t .3; session = v; state = refl }
-      by-cases zero (Retire d) e =
-          let t = retire-facts H st d e in
+      by-number : (n d : ℕ) (s : Step) → firstNo (questions H st (d sends s)) ≡ n
+          → let outcome = performStep H st d s in
+          let r = decide n st (outcome .session) (outcome .after) in
+          StateChange H st d (actionOf s (r .answer .number) (r .answer .session)) (r .after)
+      by-number zero d (Take c p) e =
+          let t = take-asked H st d c p e in
+          record { desk = t .desk; screen = t .screen; position = t .position .0; empty = t .empty; session = refl; some = t .some; state = refl }
+      by-number zero d (Drop c) e = let t = drop-asked H st d c e in record { desk = t .desk; screen = t .screen; state = refl }
+      by-number zero d (Swap p v) e =
+          let t = swap-asked H st d p v e in
+          record { desk = t .desk; position = t .position .0; owesNothing = t .owesNothing; session = v; state = refl }
+      by-number zero d Retire e =
+          let t = retire-asked H st d e in
           record {
-            desk = (t .0, t .1);
+            desk = t .desk;
             new = retire (deskOf st d);
-            done = record { owed = refl; some = t .2; room = retire-room-fact H st d e; after = refl };
+            done = record { owed = refl; some = t .owes; room = t .room; after = refl };
             state = refl;
           }
-      by-cases zero (Collect d) e =
-          collected d (collect (allScreens H) (st .shown) (deskOf st d) .session) (eqb (collect (allScreens H) (st .shown) (deskOf st d) .session) 0) refl
-          (desk-fact H st d 0 e) refl
-      by-cases (suc n) (Take d c p) e = refl
-      by-cases (suc n) (Drop d c) e = refl
-      by-cases (suc n) (Swap d p v) e = refl
-      by-cases (suc n) (Retire d) e = full d (suc n) (eqb (suc n) 14) refl e
-      by-cases (suc n) (Collect d) e = refl
+      by-number zero d Collect e =
+          let session = collect (allScreens H) (st .shown) (deskOf st d) .session in
+          collected d session (eqb session 0) refl (desk-asked H st (d sends Collect) e) refl
+      by-number (suc n) d (Take c p) e = refl
+      by-number (suc n) d (Drop c) e = refl
+      by-number (suc n) d (Swap p v) e = refl
+      by-number (suc n) d Retire e = full d (suc n) (eqb (suc n) 14) refl e
+      by-number (suc n) d Collect e = refl
 
-  -- of a deed that the call is known to be
-  pub did-as : (c : Call) (D : Deed) → deedOf H st c ≡ D → Did H st D (step H st c .after)
-  did-as c D q = subst (λ (E : Deed). Did H st E (step H st c .after)) q (did c)
+  -- of an effect that the call's is known to be
+  pub state-change-as : (call : Call) (e : Effect) → effectIn H st call ≡ e → StateChange H st (e .desk) (e .action) (step H st call .after)
+  state-change-as call e q = subst (λ (x : Effect). StateChange H st (x .desk) (x .action) (step H st call .after)) q (state-change call)
 
-  pub range-step : (c : Call) → Range H (deedOf H st c)
-  range-step c = at (deedOf H st c) (did c)
+  pub range-step : (call : Call) → InHall H (effectIn H st call)
+  range-step call = at (call .desk) (actionIn H st call) (state-change call)
     where
-      at : (D : Deed) → Did H st D (step H st c .after) → Range H D
-      at (takes d c p v) k = (k .desk .0, k .desk .1, k .screen .0, k .screen .1)
-      at (drops d c) k = (k .desk .0, k .desk .1, k .screen .0, k .screen .1)
-      at (swaps d p) k = k .desk
-      at (retires d v) k = (k .desk .0, k .desk .1, k .done .some)
-      at (lacksRoom d) k = k .desk
-      at (collects d) k = k .desk
-      at (handsBack d v) k = (k .desk .0, k .desk .1, k .done .0)
-      at nothing k = tt
+      at : (d : ℕ) (a : Action) → StateChange H st d a (step H st call .after) → Range H d a
+      at d (takes c p v) k = (k .desk, k .screen)
+      at d (drops c) k = (k .desk, k .screen)
+      at d (swaps p) k = k .desk
+      at d (retires v) k = (k .desk, k .done .some)
+      at d outOfRoom k = k .desk
+      at d collects k = k .desk
+      at d (handsBack v) k = (k .desk, k .done .0)
+      at d noAction k = tt
 
 module _ (H : Hall) (st : State) (formed : Formed H st) where
-  pub formed-step : (c : Call) → Formed H (step H st c .after)
-  formed-step c = at (deedOf H st c) (step H st c .after) (did H st c)
+  pub formed-step : (call : Call) → Formed H (step H st call .after)
+  formed-step call = at (call .desk) (actionIn H st call) (step H st call .after) (state-change H st call)
     where
       screen : (index v : ℕ) → Formed H (withShown st index v)
       screen index v = record { desks = formed .desks; screens = length-set (st .shown) index v ∙ formed .screens }
@@ -268,47 +286,46 @@ module _ (H : Hall) (st : State) (formed : Formed H st) where
       desk : (held : List ℕ) (d : ℕ) (new : Desk) → Formed H (record { held = held; shown = st .shown; desks = set (st .desks) (d - 1) new })
       desk held d new = record { desks = length-set (st .desks) (d - 1) new ∙ formed .desks; screens = formed .screens }
 
-      at : (D : Deed) (after : State) → Did H st D after → Formed H after
-      at (takes d c p v) after k = rw (k .state) (screen (screenIndex H d c) v)
-      at (drops d c) after k = rw (k .state) (screen (screenIndex H d c) 0)
-      at (swaps d p) after k = rw (k .state) (desk _ d _)
-      at (retires d v) after k = rw (k .state) (desk (st .held) d (k .new))
-      at (lacksRoom d) after k = rw (k .state) (desk (st .held) d (k .new))
-      at (collects d) after k = rw (k .state) (desk (st .held) d (k .new))
-      at (handsBack d v) after k = rw (k .state) (desk (st .held) d (k .new))
-      at nothing after k = rw k formed
+      at : (d : ℕ) (a : Action) (after : State) → StateChange H st d a after → Formed H after
+      at d (takes c p v) after k = rw (k .state) (screen (screenIndex H d c) v)
+      at d (drops c) after k = rw (k .state) (screen (screenIndex H d c) 0)
+      at d (swaps p) after k = rw (k .state) (desk _ d _)
+      at d (retires v) after k = rw (k .state) (desk (st .held) d (k .new))
+      at d outOfRoom after k = rw (k .state) (desk (st .held) d (k .new))
+      at d collects after k = rw (k .state) (desk (st .held) d (k .new))
+      at d (handsBack v) after k = rw (k .state) (desk (st .held) d (k .new))
+      at d noAction after k = rw k formed
 
   module _ (d : ℕ) (hd : 1 ≤ d) where
-    -- another desk's deed leaves the desk as it is
-    elsewhere : (D : Deed) → EffectOn H st d (deskOf st d) D → (b : Bool)
-        → EffectOn H st d (deskOf st d) (cond b D nothing)
-    elsewhere D e true = e
-    elsewhere D e false = record { owed = deskOf st d .owed; after = refl }
+    -- an action that changes no desk
+    unchanged : (a : Action) → DeskChangeIn H st d (deskOf st d) a → (b : Bool) → DeskChangeIn H st d (deskOf st d) (cond b a noAction)
+    unchanged a e true = e
+    unchanged a e false = record { owed = deskOf st d .owed; after = refl }
 
-    stored : (by : ℕ) (new : Desk) (D : Deed) → IsDesk H by → EffectOn H st by new D
-        → EffectOn H st d (getD (set (st .desks) (by - 1) new) (d - 1) emptyDesk) (cond (eqb by d) D nothing)
-    stored by new D r e = at (eqb by d) refl
+    -- an action that stores a desk
+    stored : (actor : ℕ) (new : Desk) (a : Action) → IsDesk H actor → DeskChangeIn H st actor new a
+        → DeskChangeIn H st d (getD (set (st .desks) (actor - 1) new) (d - 1) emptyDesk) (cond (eqb actor d) a noAction)
+    stored actor new a r e = by-desk (eqb actor d) refl
       where
-        at : (b : Bool) → eqb by d ≡ b
-            → EffectOn H st d (getD (set (st .desks) (by - 1) new) (d - 1) emptyDesk) (cond b D nothing)
-        at true q =
-            let same : by ≡ d = eqb-true by d q in
-            rw (← same, getD-set-same (st .desks) (by - 1) new emptyDesk (omega (arith, formed .desks))) e
-        at false q =
-            let other = eqb-false by d q in
-            rw (getD-set-other (st .desks) (by - 1) (d - 1) new emptyDesk (λ m. other (omega arith)))
+        by-desk : (b : Bool) → eqb actor d ≡ b
+            → DeskChangeIn H st d (getD (set (st .desks) (actor - 1) new) (d - 1) emptyDesk) (cond b a noAction)
+        by-desk true q =
+            let same : actor ≡ d = eqb-true actor d q in
+            rw (← same, getD-set-same (st .desks) (actor - 1) new emptyDesk (omega (arith, formed .desks))) e
+        by-desk false q =
+            let other = eqb-false actor d q in
+            rw (getD-set-other (st .desks) (actor - 1) (d - 1) new emptyDesk (λ m. other (omega arith)))
             (record { owed = deskOf st d .owed; after = refl })
 
-    pub effect : (c : Call)
-        → EffectOn H st d (deskOf (step H st c .after) d) (own d (deedOf H st c))
-    effect c = at (deedOf H st c) (step H st c .after) (did H st c)
+    pub desk-change : (call : Call) → DeskChangeIn H st d (deskOf (step H st call .after) d) (byDesk d (effectIn H st call))
+    desk-change call = at (call .desk) (actionIn H st call) (step H st call .after) (state-change H st call)
       where
-        at : (D : Deed) (after : State) → Did H st D after → EffectOn H st d (deskOf after d) (own d D)
-        at (takes by c p v) after k = rw (k .state) (elsewhere (takes by c p v) (record { owed = deskOf st d .owed; after = refl }) (eqb by d))
-        at (drops by c) after k = rw (k .state) (elsewhere (drops by c) (record { owed = deskOf st d .owed; after = refl }) (eqb by d))
-        at (swaps by p) after k = rw (k .state) (stored by _ (swaps by p) (k .desk) (record { owed = getD (st .held) (p - 1) 0; after = refl }))
-        at (retires by v) after k = rw (k .state) (stored by (k .new) (retires by v) (k .desk) (k .done))
-        at (lacksRoom by) after k = rw (k .state) (stored by (k .new) (lacksRoom by) (k .desk) (k .done))
-        at (collects by) after k = rw (k .state) (stored by (k .new) (collects by) (k .desk) (k .done))
-        at (handsBack by v) after k = rw (k .state) (stored by (k .new) (handsBack by v) (k .desk) (k .done))
-        at nothing after k = rw k (record { owed = deskOf st d .owed; after = refl })
+        at : (actor : ℕ) (a : Action) (after : State) → StateChange H st actor a after → DeskChangeIn H st d (deskOf after d) (cond (eqb actor d) a noAction)
+        at actor (takes c p v) after k = rw (k .state) (unchanged (takes c p v) (record { owed = deskOf st d .owed; after = refl }) (eqb actor d))
+        at actor (drops c) after k = rw (k .state) (unchanged (drops c) (record { owed = deskOf st d .owed; after = refl }) (eqb actor d))
+        at actor (swaps p) after k = rw (k .state) (stored actor _ (swaps p) (k .desk) (record { owed = getD (st .held) (p - 1) 0; after = refl }))
+        at actor (retires v) after k = rw (k .state) (stored actor (k .new) (retires v) (k .desk) (k .done))
+        at actor outOfRoom after k = rw (k .state) (stored actor (k .new) outOfRoom (k .desk) (k .done))
+        at actor collects after k = rw (k .state) (stored actor (k .new) collects (k .desk) (k .done))
+        at actor (handsBack v) after k = rw (k .state) (stored actor (k .new) (handsBack v) (k .desk) (k .done))
+        at actor noAction after k = rw k (unchanged noAction (record { owed = deskOf st d .owed; after = refl }) (eqb actor d))

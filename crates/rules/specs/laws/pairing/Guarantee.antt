@@ -8,38 +8,39 @@ use mathlib.Core.List.{List, []}
 use lib.ListN.{length, getD-replicate}
 use Rattle.rules.specs.Demands.{Guarantee}
 use Rattle.rules.specs.Hall.{Hall, allScreens, deskOf, fresh, screenIndex}
-use Rattle.rules.specs.History.{Deed, collects, deedAt, drops, handsBack, lacksRoom, nothing, retires, swaps, takes}
-use Rattle.rules.specs.Steps.{Call, end, run}
+use Rattle.rules.specs.History.{Action, Effect, _by_, collects, drops, effectAt, handsBack, noAction, outOfRoom, retires, swaps, takes}
+use Rattle.rules.specs.Steps.{Call, end, run, step}
+use Rattle.rules.specs.laws.history.Actions.{same-action, same-desk}
 use Rattle.rules.specs.laws.history.InitialState.{fresh-copies, fresh-formed, fresh-sound}
-use Rattle.rules.specs.laws.history.RunSplitting.{deed-within, range-run, tells-itself}
-use Rattle.rules.specs.laws.history.StepEffects.{Range}
+use Rattle.rules.specs.laws.history.RunSplitting.{effect-within, gives-itself, range-run}
+use Rattle.rules.specs.laws.history.StepEffects.{InHall}
 use Rattle.rules.specs.laws.pairing.Links.{ScreensAgree, link, unlinked}
 use Rattle.rules.specs.laws.pairing.Pairing.{Guard, MayPair, guard-along, takes-find-unlinked}
 
 -- A pairing for one desk and one session.
-record Pairs (f : ℕ → Deed) (d s : ℕ) (p : ℕ → ℕ) : Type 0 where
-  good : (a : ℕ) → f a ≡ handsBack d s → MayPair f d s a (p a)
-  once : (a b : ℕ) → f a ≡ handsBack d s → f b ≡ handsBack d s → p a ≡ p b → a ≡ b
+record Pairs (f : ℕ → Effect) (d s : ℕ) (p : ℕ → ℕ) : Type 0 where
+  good : (a : ℕ) → f a ≡ handsBack s by d → MayPair f d s a (p a)
+  once : (a b : ℕ) → f a ≡ handsBack s by d → f b ≡ handsBack s by d → p a ≡ p b → a ≡ b
 
 module _ (H : Hall) (some : 1 ≤ allScreens H) (cs : List Call) where
-  abbrev f : ℕ → Deed
-  f = deedAt (run H (fresh H) cs)
+  abbrev f : ℕ → Effect
+  f = effectAt (run (step H) (fresh H) cs)
 
   fresh-agree : ScreensAgree H f 0 (fresh H)
   fresh-agree x h = getD-replicate (allScreens H) x 0 0 h
 
-  in-hall : (m : ℕ) → Range H (f m)
+  in-hall : (m : ℕ) → InHall H (f m)
   in-hall = range-run H cs (fresh H)
 
-  finds-free : (i x c p v : ℕ) → f i ≡ takes x c p v → link H f (screenIndex H x c) i ≡ unlinked
+  finds-free : (i x c p v : ℕ) → f i ≡ takes c p v by x → link H f (screenIndex H x c) i ≡ unlinked
   finds-free i x c p v t =
       let e : 0 + i ≡ i = omega arith in
       subst (λ (k : ℕ). link H f (screenIndex H x c) k ≡ unlinked) e
-      (takes-find-unlinked H f cs (fresh H) 0 (tells-itself (run H (fresh H) cs)) (fresh-formed H) fresh-agree i x c p v (ap f e ∙ t))
+      (takes-find-unlinked H f cs (fresh H) 0 (gives-itself (run (step H) (fresh H) cs)) (fresh-formed H) fresh-agree i x c p v (ap f e ∙ t))
 
-  guard : (d s : ℕ) → 1 ≤ d → (s ≡ 0 → ⊥) → Guard H f d s (0 + length cs) (deskOf (end H (fresh H) cs) d)
+  guard : (d s : ℕ) → 1 ≤ d → (s ≡ 0 → ⊥) → Guard H f d s (0 + length cs) (deskOf (end (step H) (fresh H) cs) d)
   guard d s h hs =
-      guard-along H f in-hall finds-free some d s h hs cs (fresh H) 0 (tells-itself (run H (fresh H) cs)) (fresh-formed H) (fresh-sound H d)
+      guard-along H f in-hall finds-free some d s h hs cs (fresh H) 0 (gives-itself (run (step H) (fresh H) cs)) (fresh-formed H) (fresh-sound H d)
       fresh-agree
       (record {
         count = λ r. 0;
@@ -57,11 +58,11 @@ module _ (H : Hall) (some : 1 ≤ allScreens H) (cs : List Call) where
         unused = λ a r q. absurd (omega arith);
       })
 
-  within-end : (a d s : ℕ) → f a ≡ handsBack d s → a < 0 + length cs
+  within-end : (a d s : ℕ) → f a ≡ handsBack s by d → a < 0 + length cs
   within-end a d s q =
       omega (
         arith,
-        deed-within H cs (fresh H) a (λ e. true≢false (cc)),
+        effect-within (step H) cs (fresh H) a (λ e. let action = sym e ∙ ap (λ (x : Effect). x .action) q in true≢false (cc)),
       )
 
   -- the pairing that the guard built; there is no desk 0 and no session 0
@@ -87,38 +88,43 @@ module _ (H : Hall) (some : 1 ≤ allScreens H) (cs : List Call) where
       by-cases (yes x) (yes z) = absurd (hs z)
       by-cases (no x) z = absurd (x h)
 
-  partner : ℕ → Deed → ℕ
-  partner a (takes d c p v) = 0
-  partner a (drops d c) = 0
-  partner a (swaps d p) = 0
-  partner a (retires d s) = 0
-  partner a (lacksRoom d) = 0
-  partner a (collects d) = 0
-  partner a (handsBack d s) = pairOf d s a
-  partner a nothing = 0
+  partner : ℕ → ℕ → Action → ℕ
+  partner a d (takes c p v) = 0
+  partner a d (drops c) = 0
+  partner a d (swaps p) = 0
+  partner a d (retires s) = 0
+  partner a d outOfRoom = 0
+  partner a d collects = 0
+  partner a d (handsBack s) = pairOf d s a
+  partner a d noAction = 0
+
+  -- the partner of the hand-back at index a
+  partnerAt : ℕ → ℕ
+  partnerAt a = partner a (f a .desk) (f a .action)
 
   -- at a hand-back
-  found : (a d s : ℕ) → f a ≡ handsBack d s → partner a (f a) ≡ pairOf d s a
-  unfolding partner
-  found a d s q = ap (partner a) q
+  found : (a d s : ℕ) → f a ≡ handsBack s by d → partnerAt a ≡ pairOf d s a
+  unfolding partner partnerAt
+  found a d s q = ap (λ (e : Effect). partner a (e .desk) (e .action)) q
 
-  is-good : (a d s : ℕ) → f a ≡ handsBack d s → MayPair f d s a (partner a (f a))
+  is-good : (a d s : ℕ) → f a ≡ handsBack s by d → MayPair f d s a (partnerAt a)
   is-good a d s q =
-      let r = subst (Range H) q (in-hall a) in subst (λ (m : ℕ). MayPair f d s a m) (sym (found a d s q)) (works d s (r .0) (r .2) .good a q)
+      let r = subst (InHall H) q (in-hall a) in subst (λ (m : ℕ). MayPair f d s a m) (sym (found a d s q)) (works d s (r .0 .0) (r .1) .good a q)
 
-  is-once : (a d s b d′ s′ : ℕ) → f a ≡ handsBack d s → f b ≡ handsBack d′ s′ → partner a (f a) ≡ partner b (f b) → a ≡ b
+  is-once : (a d s b d′ s′ : ℕ) → f a ≡ handsBack s by d → f b ≡ handsBack s′ by d′ → partnerAt a ≡ partnerAt b → a ≡ b
   is-once a d s b d′ s′ q q′ e =
-      let k : retires d s ≡ retires d′ s′ = sym (is-good a d s q .same) ∙ ap f e ∙ is-good b d′ s′ q′ .same in
-      let dd : d′ ≡ d = cc in
+      let here = is-good a d s q .same in
+      let there = ap f e ∙ is-good b d′ s′ q′ .same in
+      let same = same-action here there in
       let ss : s′ ≡ s = cc in
-      let qb : f b ≡ handsBack d s = q′ ∙ (λ i. handsBack (dd i) (ss i)) in
-      let r = subst (Range H) q (in-hall a) in
-      works d s (r .0) (r .2) .once a b q qb (sym (found a d s q) ∙ e ∙ found b d s qb)
+      let qb : f b ≡ handsBack s by d = q′ ∙ (λ i. handsBack (ss i) by sym (same-desk here there) i) in
+      let r = subst (InHall H) q (in-hall a) in
+      works d s (r .0 .0) (r .1) .once a b q qb (sym (found a d s q) ∙ e ∙ found b d s qb)
 
   -- The guarantee of Definition 2.1.
-  pub guaranteed : Guarantee (deedAt (run H (fresh H) cs))
+  pub guaranteed : Guarantee (effectAt (run (step H) (fresh H) cs))
   guaranteed = record {
-    pair = λ a. partner a (f a);
+    pair = λ a. partnerAt a;
     earlier = λ a d s q. is-good a d s q .earlier;
     same = λ a d s q. is-good a d s q .same;
     once = is-once;

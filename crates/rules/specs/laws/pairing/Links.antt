@@ -8,12 +8,12 @@ use lib.ListN.{getD}
 use lib.Dec.{eqb}
 use borrow.Author.Tests.{eqb-true, eqb-false}
 use Rattle.rules.specs.Hall.{Hall, State, allScreens, deskOf, screenIndex}
-use Rattle.rules.specs.History.{Deed, collects, drops, handsBack, isRetirement, lacksRoom, nothing, retires, swaps, takes}
+use Rattle.rules.specs.History.{Action, Effect, _by_, collects, drops, handsBack, isRetirement, noAction, outOfRoom, retires, swaps, takes}
 use Rattle.rules.specs.Steps.{Call, step}
-use Rattle.rules.specs.laws.history.Actions.{isSwap}
+use Rattle.rules.specs.laws.history.Actions.{isSwap, same-action}
 use Rattle.rules.specs.laws.history.OwedSession.{held-kept, owed-kept, swap-owes}
 use Rattle.rules.specs.laws.history.ScreenIndex.{screen-in, screen-stored}
-use Rattle.rules.specs.laws.history.StepEffects.{Did, Dropped, Formed, Swapped, Took, deedOf, did-as}
+use Rattle.rules.specs.laws.history.StepEffects.{Dropped, Formed, StateChange, Swapped, Took, effectIn, state-change-as}
 
 -- The link of a screen.
 pub data Link : Type 0 where
@@ -23,7 +23,7 @@ pub data Link : Type 0 where
   beforeSwap : ℕ → Link
   -- the swap has come, and this desk still owes the session
   beforeRetire : ℕ → Link
-  -- its take is linked to the retirement at this place
+  -- its take is linked to the retirement at this index
   linkedTo : ℕ → Link
 
 -- What a take makes of it (at this screen or another, and its position), a swap (its desk and position) and a retire (its desk and place).
@@ -45,60 +45,60 @@ onRetire e n (beforeSwap q) = beforeSwap q
 onRetire e n (beforeRetire q) = cond (eqb e q) (linkedTo n) (beforeRetire q)
 onRetire e n (linkedTo r) = linkedTo r
 
--- and what the deed at place n makes of the link of the screen at place x
-abbrev pub next : Hall → ℕ → ℕ → Deed → Link → Link
-next H x n (takes d c p v) l = onTake (eqb (screenIndex H d c) x) p l
-next H x n (drops d c) l = cond (eqb (screenIndex H d c) x) unlinked l
-next H x n (swaps e p) l = onSwap e p l
-next H x n (retires e s) l = onRetire e n l
-next H x n (lacksRoom e) l = l
-next H x n (collects e) l = l
-next H x n (handsBack e s) l = l
-next H x n nothing l = l
+-- and what an action of desk d at index n makes of the link of screen x of the hall
+abbrev pub next : Hall → ℕ → ℕ → ℕ → Action → Link → Link
+next H x n d (takes c p v) l = onTake (eqb (screenIndex H d c) x) p l
+next H x n d (drops c) l = cond (eqb (screenIndex H d c) x) unlinked l
+next H x n d (swaps p) l = onSwap d p l
+next H x n d (retires s) l = onRetire d n l
+next H x n d outOfRoom l = l
+next H x n d collects l = l
+next H x n d (handsBack s) l = l
+next H x n d noAction l = l
 
--- its link before place n
-abbrev pub link : Hall → (ℕ → Deed) → ℕ → ℕ → Link
+-- its link before index n
+abbrev pub link : Hall → (ℕ → Effect) → ℕ → ℕ → Link
 link H f x zero = unlinked
-link H f x (suc n) = next H x n (f n) (link H f x n)
+link H f x (suc n) = next H x n (f n .desk) (f n .action) (link H f x n)
 
 -- What the state says of a screen that shows v.
-abbrev pub Agree : (ℕ → Deed) → State → ℕ → Link → Type 0
+abbrev pub Agree : (ℕ → Effect) → State → ℕ → Link → Type 0
 Agree f st v unlinked = v ≡ 0
 Agree f st v (beforeSwap p) = (v ≡ 0 → ⊥) × (1 ≤ p) × (v ≡ getD (st .held) (p - 1) 0)
 Agree f st v (beforeRetire e) = (v ≡ 0 → ⊥) × (1 ≤ e) × (v ≡ deskOf st e .owed)
-Agree f st v (linkedTo r) = (v ≡ 0 → ⊥) × ((d s : ℕ) → f r ≡ retires d s → v ≡ s)
+Agree f st v (linkedTo r) = (v ≡ 0 → ⊥) × ((d s : ℕ) → f r ≡ retires s by d → v ≡ s)
 
--- and of each of the hall's screens, before place n
-abbrev pub ScreensAgree : Hall → (ℕ → Deed) → ℕ → State → Type 0
+-- and of each of the hall's screens, before index n
+abbrev pub ScreensAgree : Hall → (ℕ → Effect) → ℕ → State → Type 0
 ScreensAgree H f n st = (x : ℕ) → x < allScreens H → Agree f st (getD (st .shown) x 0) (link H f x n)
 
-empty-unlinked : (f : ℕ → Deed) (st : State) (v : ℕ) (l : Link) → Agree f st v l → v ≡ 0 → l ≡ unlinked
+empty-unlinked : (f : ℕ → Effect) (st : State) (v : ℕ) (l : Link) → Agree f st v l → v ≡ 0 → l ≡ unlinked
 empty-unlinked f st v unlinked a z = refl
 empty-unlinked f st v (beforeSwap p) a z = absurd (a .0 z)
 empty-unlinked f st v (beforeRetire e) a z = absurd (a .0 z)
 empty-unlinked f st v (linkedTo r) a z = absurd (a .0 z)
 
 -- One call.
-module _ (H : Hall) (st : State) (formed : Formed H st) (f : ℕ → Deed) (n : ℕ) where
+module _ (H : Hall) (st : State) (formed : Formed H st) (f : ℕ → Effect) (n : ℕ) where
   -- while no swap comes at the position, and no retire of the desk
-  before-swap-kept : (D : Deed) (after : State) → Did H st D after → (v p : ℕ) → ((d : ℕ) → D ≡ swaps d p → ⊥) → Agree f st v (beforeSwap p)
+  before-swap-kept : (d : ℕ) (a : Action) (after : State) → StateChange H st d a after → (v p : ℕ) → (a ≡ swaps p → ⊥) → Agree f st v (beforeSwap p)
       → Agree f after v (beforeSwap p)
-  before-swap-kept D after k v p no-swap a = (a .0, a .1, a .2 ∙ sym (held-kept H st D after k p (a .1) no-swap))
+  before-swap-kept d a after k v p no-swap ag = (ag .0, ag .1, ag .2 ∙ sym (held-kept H st d a after k p (ag .1) no-swap))
 
-  before-retire-kept : (D : Deed) (after : State) → Did H st D after → (v e : ℕ) → ((s : ℕ) → D ≡ retires e s → ⊥) → Agree f st v (beforeRetire e)
-      → Agree f after v (beforeRetire e)
-  before-retire-kept D after k v e no-retire a =
-      (a .0, a .1, a .2 ∙ sym (owed-kept H st formed D after k e (a .1) (λ z. a .0 (a .2 ∙ z)) no-retire))
+  before-retire-kept : (d : ℕ) (a : Action) (after : State) → StateChange H st d a after → (v e : ℕ) → ((s : ℕ) → a ≡ retires s → d ≡ e → ⊥)
+      → Agree f st v (beforeRetire e) → Agree f after v (beforeRetire e)
+  before-retire-kept d a after k v e no-retire ag =
+      (ag .0, ag .1, ag .2 ∙ sym (owed-kept H st formed d a after k e (ag .1) (λ z. ag .0 (ag .2 ∙ z)) no-retire))
 
-  -- a deed that is no swap and no retire, of a screen that shows v before it and after it
-  agree-kept : (D : Deed) (after : State) → Did H st D after → isSwap D ≡ false → isRetirement D ≡ false → (v : ℕ) (l : Link) → Agree f st v l
-      → Agree f after v l
-  agree-kept D after k no-swap no-retire v unlinked a = a
-  agree-kept D after k no-swap no-retire v (beforeSwap p) a =
-      before-swap-kept D after k v p (λ d q. true≢false (sym (ap isSwap q) ∙ no-swap)) a
-  agree-kept D after k no-swap no-retire v (beforeRetire e) a =
-      before-retire-kept D after k v e (λ s q. true≢false (sym (ap isRetirement q) ∙ no-retire)) a
-  agree-kept D after k no-swap no-retire v (linkedTo r) a = a
+  -- an action that is no swap and no retire, of a screen that shows v before it and after it
+  agree-kept : (d : ℕ) (a : Action) (after : State) → StateChange H st d a after → isSwap a ≡ false → isRetirement a ≡ false → (v : ℕ) (l : Link)
+      → Agree f st v l → Agree f after v l
+  agree-kept d a after k no-swap no-retire v unlinked ag = ag
+  agree-kept d a after k no-swap no-retire v (beforeSwap p) ag =
+      before-swap-kept d a after k v p (λ q. true≢false (sym (ap isSwap q) ∙ no-swap)) ag
+  agree-kept d a after k no-swap no-retire v (beforeRetire e) ag =
+      before-retire-kept d a after k v e (λ s q same. true≢false (sym (ap isRetirement q) ∙ no-retire)) ag
+  agree-kept d a after k no-swap no-retire v (linkedTo r) ag = ag
 
   take-agree : (d c p w : ℕ) (after : State) → Took H st d c p w after → (v : ℕ) (b : Bool) (l : Link) → (b ≡ true → v ≡ 0) → Agree f st v l
       → Agree f after (cond b w v) (onTake b p l)
@@ -114,7 +114,7 @@ module _ (H : Hall) (st : State) (formed : Formed H st) (f : ℕ → Deed) (n : 
   drop-agree : (d c : ℕ) (after : State) → Dropped H st d c after → (v : ℕ) (b : Bool) (l : Link) → Agree f st v l
       → Agree f after (cond b 0 v) (cond b unlinked l)
   drop-agree d c after k v true l a = refl
-  drop-agree d c after k v false l a = agree-kept (drops d c) after k refl refl v l a
+  drop-agree d c after k v false l a = agree-kept d (drops c) after k refl refl v l a
 
   swap-agree : (d p : ℕ) (after : State) → Swapped H st d p after → (v : ℕ) (l : Link) → Agree f st v l → Agree f after v (onSwap d p l)
   swap-agree d p after k v unlinked a = a
@@ -123,64 +123,65 @@ module _ (H : Hall) (st : State) (formed : Formed H st) (f : ℕ → Deed) (n : 
       by-cases : (b : Bool) → eqb p q ≡ b → Agree f after v (cond b (beforeRetire d) (beforeSwap q))
       by-cases true t =
           (a .0, k .desk .0, a .2 ∙ ap (λ (m : ℕ). getD (st .held) (m - 1) 0) (sym (eqb-true p q t)) ∙ sym (swap-owes H st formed d p after k))
-      by-cases false t = before-swap-kept (swaps d p) after k v q (λ e u. eqb-false p q t (cc)) a
+      by-cases false t = before-swap-kept d (swaps p) after k v q (λ u. eqb-false p q t (cc)) a
   swap-agree d p after k v (beforeRetire e) a =
-      before-retire-kept (swaps d p) after k v e (λ s u. true≢false (cc)) a
+      before-retire-kept d (swaps p) after k v e (λ s u same. true≢false (cc)) a
   swap-agree d p after k v (linkedTo r) a = a
 
-  retire-agree : (d s : ℕ) (after : State) → Did H st (retires d s) after → f n ≡ retires d s → (v : ℕ) (l : Link) → Agree f st v l
+  retire-agree : (d s : ℕ) (after : State) → StateChange H st d (retires s) after → f n ≡ retires s by d → (v : ℕ) (l : Link) → Agree f st v l
       → Agree f after v (onRetire d n l)
   retire-agree d s after k q v unlinked a = a
   retire-agree d s after k q v (beforeSwap p) a =
-      before-swap-kept (retires d s) after k v p (λ e u. true≢false (cc)) a
+      before-swap-kept d (retires s) after k v p (λ u. true≢false (cc)) a
   retire-agree d s after k q v (beforeRetire e) a = by-cases (eqb d e) refl
     where
       retired : d ≡ e → v ≡ s
       retired t = a .2 ∙ ap (λ (m : ℕ). deskOf st m .owed) (sym t) ∙ k .done .owed
 
       by-cases : (b : Bool) → eqb d e ≡ b → Agree f after v (cond b (linkedTo n) (beforeRetire e))
-      by-cases true t = (a .0, λ x w u. let vs : v ≡ s = retired (eqb-true d e t) in cc)
-      by-cases false t = before-retire-kept (retires d s) after k v e (λ w u. eqb-false d e t (cc)) a
+      by-cases true t = (a .0, λ x w u. let vs : v ≡ s = retired (eqb-true d e t) in let same = same-action q u in cc)
+      by-cases false t = before-retire-kept d (retires s) after k v e (λ w u same. eqb-false d e t same) a
   retire-agree d s after k q v (linkedTo r) a = a
 
   module _ (ag : ScreensAgree H f n st) where
-    pub agree-step : (c : Call) → f n ≡ deedOf H st c → ScreensAgree H f (suc n) (step H st c .after)
-    agree-step c q x hx = at (f n) (step H st c .after) refl (did-as H st c (f n) (sym q))
+    pub agree-step : (c : Call) → f n ≡ effectIn H st c → ScreensAgree H f (suc n) (step H st c .after)
+    agree-step c q x hx = at (f n .desk) (f n .action) (step H st c .after) refl (state-change-as H st c (f n) (sym q))
       where
         -- the screen shows what it showed
         shown : (after : State) (l : Link) → after .shown ≡ st .shown → Agree f after (getD (st .shown) x 0) l → Agree f after (getD (after .shown) x 0) l
         shown after l e a = subst (λ (vs : List ℕ). Agree f after (getD vs x 0) l) (sym e) a
 
-        unchanged : (D : Deed) (after : State) → Did H st D after → isSwap D ≡ false → isRetirement D ≡ false → after .shown ≡ st .shown
+        unchanged : (d : ℕ) (a : Action) (after : State) → StateChange H st d a after → isSwap a ≡ false → isRetirement a ≡ false → after .shown ≡ st .shown
             → Agree f after (getD (after .shown) x 0) (link H f x n)
-        unchanged D after k no-swap no-retire e =
-            shown after (link H f x n) e (agree-kept D after k no-swap no-retire (getD (st .shown) x 0) (link H f x n) (ag x hx))
+        unchanged d a after k no-swap no-retire e =
+            shown after (link H f x n) e (agree-kept d a after k no-swap no-retire (getD (st .shown) x 0) (link H f x n) (ag x hx))
 
-        at : (D : Deed) (after : State) → f n ≡ D → Did H st D after → Agree f after (getD (after .shown) x 0) (next H x n D (link H f x n))
-        at (takes d c p w) after q k =
+        at : (d : ℕ) (a : Action) (after : State) → f n ≡ a by d → StateChange H st d a after
+            → Agree f after (getD (after .shown) x 0) (next H x n d a (link H f x n))
+        at d (takes c p w) after q k =
             subst (λ (v : ℕ). Agree f after v (onTake (eqb (screenIndex H d c) x) p (link H f x n)))
             (sym (ap (λ (s : State). getD (s .shown) x 0) (k .state) ∙ screen-stored H (st .shown) (formed .screens) d c w x (k .desk) (k .screen)))
             (take-agree d c p w after k (getD (st .shown) x 0) (eqb (screenIndex H d c) x) (link H f x n)
             (λ z. ap (λ (m : ℕ). getD (st .shown) m 0) (sym (eqb-true (screenIndex H d c) x z)) ∙ k .empty) (ag x hx))
-        at (drops d c) after q k =
+        at d (drops c) after q k =
             subst (λ (v : ℕ). Agree f after v (cond (eqb (screenIndex H d c) x) unlinked (link H f x n)))
             (sym (ap (λ (s : State). getD (s .shown) x 0) (k .state) ∙ screen-stored H (st .shown) (formed .screens) d c 0 x (k .desk) (k .screen)))
             (drop-agree d c after k (getD (st .shown) x 0) (eqb (screenIndex H d c) x) (link H f x n) (ag x hx))
-        at (swaps d p) after q k =
+        at d (swaps p) after q k =
             shown after (onSwap d p (link H f x n)) (ap (λ (s : State). s .shown) (k .state))
             (swap-agree d p after k (getD (st .shown) x 0) (link H f x n) (ag x hx))
-        at (retires d s) after q k =
+        at d (retires s) after q k =
             shown after (onRetire d n (link H f x n)) (ap (λ (s : State). s .shown) (k .state))
             (retire-agree d s after k q (getD (st .shown) x 0) (link H f x n) (ag x hx))
-        at (lacksRoom d) after q k = unchanged (lacksRoom d) after k refl refl (ap (λ (s : State). s .shown) (k .state))
-        at (collects d) after q k = unchanged (collects d) after k refl refl (ap (λ (s : State). s .shown) (k .state))
-        at (handsBack d s) after q k = unchanged (handsBack d s) after k refl refl (ap (λ (s : State). s .shown) (k .state))
-        at nothing after q k = unchanged nothing after k refl refl (ap (λ (s : State). s .shown) k)
+        at d outOfRoom after q k = unchanged d outOfRoom after k refl refl (ap (λ (s : State). s .shown) (k .state))
+        at d collects after q k = unchanged d collects after k refl refl (ap (λ (s : State). s .shown) (k .state))
+        at d (handsBack s) after q k = unchanged d (handsBack s) after k refl refl (ap (λ (s : State). s .shown) (k .state))
+        at d noAction after q k = unchanged d noAction after k refl refl (ap (λ (s : State). s .shown) k)
 
     -- an accepted take finds its screen unlinked
-    pub take-finds-unlinked : (c : Call) → f n ≡ deedOf H st c → (d s p v : ℕ)
-        → f n ≡ takes d s p v → link H f (screenIndex H d s) n ≡ unlinked
+    pub take-finds-unlinked : (c : Call) → f n ≡ effectIn H st c → (d s p v : ℕ)
+        → f n ≡ takes s p v by d → link H f (screenIndex H d s) n ≡ unlinked
     take-finds-unlinked c q d s p v t =
-        let k = did-as H st c (takes d s p v) (sym q ∙ t) in
+        let k = state-change-as H st c (takes s p v by d) (sym q ∙ t) in
         let there = screen-in H d s (k .desk .0) (k .desk .1) (k .screen .0) (k .screen .1) in
         empty-unlinked f st _ (link H f (screenIndex H d s) n) (ag (screenIndex H d s) there) (k .empty)

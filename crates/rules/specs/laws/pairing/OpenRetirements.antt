@@ -10,7 +10,7 @@ use lib.ListN.{length, getD, drop, length-append}
 use lib.Seq.{getD-drop, getD-take}
 use lib.Dec.{eqb}
 use Rattle.rules.specs.Hall.{Desk, Hall, State, TestedSlot, allScreens, screenIndex}
-use Rattle.rules.specs.History.{Deed, collects, drops, handsBack, lacksRoom, nothing, retires, swaps, takes}
+use Rattle.rules.specs.History.{Action, Effect, _by_, collects, drops, handsBack, noAction, outOfRoom, retires, swaps, takes}
 use Rattle.rules.specs.Lists.{occurrences}
 use Rattle.rules.specs.Steps.{begin, beginAt, handBack, mark, markEach, markedOf, nextScreens, owe, scan, settle, settleIf, unmarkedOf}
 use Rattle.rules.specs.laws.desk.Collect.{Scanning, by-scan, copiesOn, readOn, scanned-within}
@@ -26,8 +26,8 @@ ties r (beforeSwap p) = 0
 ties r (beforeRetire e) = 0
 ties r (linkedTo q) = indicator q r
 
--- 1 if one of the first k screens is, before place n
-abbrev pub live : Hall → (ℕ → Deed) → ℕ → ℕ → ℕ → ℕ
+-- 1 if one of the first k screens is, before index n
+abbrev pub live : Hall → (ℕ → Effect) → ℕ → ℕ → ℕ → ℕ
 live H f n zero r = 0
 live H f n (suc k) r = max (live H f n k r) (ties r (link H f k n))
 
@@ -60,30 +60,30 @@ ties-if : (r most : ℕ) (b : Bool) (x y : Link) → ties r x ≤ most → ties 
 ties-if r most true x y h g = h
 ties-if r most false x y h g = g
 
-ties-next : (H : Hall) (x n : ℕ) (D : Deed) (l : Link) (r : ℕ) → r < n → ties r (next H x n D l) ≤ ties r l
-ties-next H x n (takes d c p v) unlinked r h = ties-if r 0 (eqb (screenIndex H d c) x) (beforeSwap p) unlinked (omega arith) (omega arith)
-ties-next H x n (takes d c p v) (beforeSwap q) r h = omega arith
-ties-next H x n (takes d c p v) (beforeRetire q) r h = omega arith
-ties-next H x n (takes d c p v) (linkedTo q) r h = omega arith
-ties-next H x n (drops d c) l r h = ties-if r (ties r l) (eqb (screenIndex H d c) x) unlinked l (omega arith) (omega arith)
-ties-next H x n (swaps e p) unlinked r h = omega arith
-ties-next H x n (swaps e p) (beforeSwap q) r h = ties-if r 0 (eqb p q) (beforeRetire e) (beforeSwap q) (omega arith) (omega arith)
-ties-next H x n (swaps e p) (beforeRetire q) r h = omega arith
-ties-next H x n (swaps e p) (linkedTo q) r h = omega arith
-ties-next H x n (retires e s) unlinked r h = omega arith
-ties-next H x n (retires e s) (beforeSwap q) r h = omega arith
-ties-next H x n (retires e s) (beforeRetire q) r h =
-    ties-if r 0 (eqb e q) (linkedTo n) (beforeRetire q) (omega (arith, indicator-other n r (λ t. omega arith))) (omega arith)
-ties-next H x n (retires e s) (linkedTo q) r h = omega arith
-ties-next H x n (lacksRoom d) l r h = omega arith
-ties-next H x n (collects d) l r h = omega arith
-ties-next H x n (handsBack e s) l r h = omega arith
-ties-next H x n nothing l r h = omega arith
+ties-next : (H : Hall) (x n d : ℕ) (a : Action) (l : Link) (r : ℕ) → r < n → ties r (next H x n d a l) ≤ ties r l
+ties-next H x n d (takes c p v) unlinked r h = ties-if r 0 (eqb (screenIndex H d c) x) (beforeSwap p) unlinked (omega arith) (omega arith)
+ties-next H x n d (takes c p v) (beforeSwap q) r h = omega arith
+ties-next H x n d (takes c p v) (beforeRetire q) r h = omega arith
+ties-next H x n d (takes c p v) (linkedTo q) r h = omega arith
+ties-next H x n d (drops c) l r h = ties-if r (ties r l) (eqb (screenIndex H d c) x) unlinked l (omega arith) (omega arith)
+ties-next H x n d (swaps p) unlinked r h = omega arith
+ties-next H x n d (swaps p) (beforeSwap q) r h = ties-if r 0 (eqb p q) (beforeRetire d) (beforeSwap q) (omega arith) (omega arith)
+ties-next H x n d (swaps p) (beforeRetire q) r h = omega arith
+ties-next H x n d (swaps p) (linkedTo q) r h = omega arith
+ties-next H x n d (retires s) unlinked r h = omega arith
+ties-next H x n d (retires s) (beforeSwap q) r h = omega arith
+ties-next H x n d (retires s) (beforeRetire q) r h =
+    ties-if r 0 (eqb d q) (linkedTo n) (beforeRetire q) (omega (arith, indicator-other n r (λ t. omega arith))) (omega arith)
+ties-next H x n d (retires s) (linkedTo q) r h = omega arith
+ties-next H x n d outOfRoom l r h = omega arith
+ties-next H x n d collects l r h = omega arith
+ties-next H x n d (handsBack s) l r h = omega arith
+ties-next H x n d noAction l r h = omega arith
 
-module _ (H : Hall) (f : ℕ → Deed) (n : ℕ) where
+module _ (H : Hall) (f : ℕ → Effect) (n : ℕ) where
   live-next : (k r : ℕ) → r < n → live H f (suc n) k r ≤ live H f n k r
   live-next zero r h = omega arith
-  live-next (suc k) r h = omega (arith, live-next k r h, ties-next H k n (f n) (link H f k n) r h)
+  live-next (suc k) r h = omega (arith, live-next k r h, ties-next H k n (f n .desk) (f n .action) (link H f k n) r h)
 
   live-up : (S k r : ℕ) → k ≤ S → live H f n k r ≤ live H f n S r
   live-up zero zero r h = omega arith
@@ -117,7 +117,7 @@ module _ (H : Hall) (f : ℕ → Deed) (n : ℕ) where
 
   -- One screen more: no more than one retirement more, and none unless the screen shows s.
   one-screen-more : (d s : ℕ) (st : State) → ScreensAgree H f n st → (us : List ℕ) → ((r : ℕ) → occurrences r us ≤ 1)
-      → ((r : ℕ) → 1 ≤ occurrences r us → f r ≡ retires d s) → (k : ℕ) → k < allScreens H
+      → ((r : ℕ) → 1 ≤ occurrences r us → f r ≡ retires s by d) → (k : ℕ) → k < allScreens H
       → sumOver (live H f n (suc k)) us ≤ sumOver (live H f n k) us + indicator s (getD (st .shown) k 0)
   one-screen-more d s st ag us one mine k h = omega (arith, sum-max (live H f n k) (λ r. ties r (link H f k n)) us, by-cases (link H f k n) (ag k h))
     where
@@ -141,25 +141,25 @@ marks-cover-reads s g (v ∷ vs) ps grows within start =
     (omega (arith, mark-finds-a-copy s v ps, grows 0 (omega arith), within 1 (omega arith)))
 
 -- The retirements of s not handed back: those made before the pass under way began, and the later ones.
-pub record Held (H : Hall) (f : ℕ → Deed) (s n : ℕ) (D : Desk) (old new : List ℕ) : Type 0 where
+pub record Held (H : Hall) (f : ℕ → Effect) (s n : ℕ) (D : Desk) (old new : List ℕ) : Type 0 where
   pub sum : length old + length new ≡ copiesOn s D
   pub tests : sumOver (live H f n (allScreens H)) old ≤ testedCopies s (D .tested)
   pub marks : sumOver (live H f n (D .scanned)) old ≤ occurrences s (markedOf (D .tested))
   pub waits : sumOver (live H f n (allScreens H)) new ≤ occurrences s (D .waiting)
 
-pub record Tokens (H : Hall) (f : ℕ → Deed) (s n : ℕ) (D : Desk) (count : ℕ → ℕ) : Type 0 where
+pub record Tokens (H : Hall) (f : ℕ → Effect) (s n : ℕ) (D : Desk) (count : ℕ → ℕ) : Type 0 where
   pub old : List ℕ
   pub new : List ℕ
   pub same : (r : ℕ) → occurrences r old + occurrences r new ≡ count r
   pub held : Held H f s n D old new
 
 -- the same retirements, at another place or with another list
-pub tokens-with : {H : Hall} {f : ℕ → Deed} {s n m : ℕ} {D E : Desk} {count : ℕ → ℕ} (t : Tokens H f s n D count) → Held H f s m E (t .old) (t .new)
+pub tokens-with : {H : Hall} {f : ℕ → Effect} {s n m : ℕ} {D E : Desk} {count : ℕ → ℕ} (t : Tokens H f s n D count) → Held H f s m E (t .old) (t .new)
     → Tokens H f s m E count
 tokens-with t held = record { old = t .old; new = t .new; same = t .same; held = held }
 
 -- One leaves that no screen is linked to.
-pub record Leaves (H : Hall) (f : ℕ → Deed) (s n : ℕ) (D : Desk) (count : ℕ → ℕ) : Type 0 where
+pub record Leaves (H : Hall) (f : ℕ → Effect) (s n : ℕ) (D : Desk) (count : ℕ → ℕ) : Type 0 where
   pub it : ℕ
   pub loose : live H f n (allScreens H) it ≡ 0
   pub old : List ℕ
@@ -193,7 +193,7 @@ pick g (r ∷ us) h = by-cases (ℕ-discrete (g r) 0) (pick g us)
           less = λ g′. omega (arith, p .less g′);
         }
 
-module _ (H : Hall) (f : ℕ → Deed) (s n : ℕ) (count : ℕ → ℕ) where
+module _ (H : Hall) (f : ℕ → Effect) (s n : ℕ) (count : ℕ → ℕ) where
   -- one place later, with the same list
   pub tokens-later : (D : Desk) (o : ℕ) → ((r : ℕ) → 1 ≤ count r → r < n) → Tokens H f s n D count → Tokens H f s (suc n) (owe D o) count
   tokens-later D o earlier t =
@@ -233,7 +233,7 @@ module _ (H : Hall) (f : ℕ → Deed) (s n : ℕ) (count : ℕ → ℕ) where
       by-cases (p ∷ ps) e g = t
 
   -- (b) and (c)
-  pub scan-tokens : (d : ℕ) (st : State) → ScreensAgree H f n st → ((r : ℕ) → count r ≤ 1) → ((r : ℕ) → 1 ≤ count r → f r ≡ retires d s)
+  pub scan-tokens : (d : ℕ) (st : State) → ScreensAgree H f n st → ((r : ℕ) → count r ≤ 1) → ((r : ℕ) → 1 ≤ count r → f r ≡ retires s by d)
       → 1 ≤ allScreens H → length (st .shown) ≡ allScreens H → (A : Desk) → Scanning (allScreens H) (A .scanned) (A .tested) → Tokens H f s n A count
       → Tokens H f s n (settle (allScreens H) (scan (st .shown) A)) count
   scan-tokens d st ag one mine hS hl A g t = by-scan (λ (X : Desk). Tokens H f s n X count) (allScreens H) (st .shown) A hS hl g (λ e. t) on over

@@ -10,50 +10,51 @@ use lib.ListN.{length}
 use lib.Dec.{eqb}
 use borrow.Author.Tests.{eq-eqb, ne-eqb}
 use Rattle.rules.specs.Hall.{Desk, Hall, State, allScreens, deskOf, screenIndex}
-use Rattle.rules.specs.History.{Deed, DroppedBefore, Linked, collects, drops, handsBack, isHandBack, lacksRoom, nothing, own, retires, swaps, takes}
+use Rattle.rules.specs.History.{Action, DroppedBefore, Effect, Linked, _by_, byDesk, collects, drops, handsBack, isHandBack, noAction, outOfRoom, retires}
+use Rattle.rules.specs.History.{swaps, takes}
 use Rattle.rules.specs.Lists.{occurrences}
 use Rattle.rules.specs.Steps.{Call, begin, collect, end, owe, retire, run, step}
 use Rattle.rules.specs.laws.desk.Collect.{Orderly, beforeHandBack, begin-keeps}
 use Rattle.rules.specs.laws.desk.Sound.{Sound, sound-orderly}
-use Rattle.rules.specs.laws.history.Actions.{own-handed, own-hands-back, own-retires}
+use Rattle.rules.specs.laws.history.Actions.{by-own-desk, own-action, same-action}
 use Rattle.rules.specs.laws.history.DeskInvariants.{sound-step}
-use Rattle.rules.specs.laws.history.RunSplitting.{Tells, tells-first, tells-rest}
+use Rattle.rules.specs.laws.history.RunSplitting.{Gives, gives-first, gives-rest}
 use Rattle.rules.specs.laws.history.ScreenIndex.{screen-in}
-use Rattle.rules.specs.laws.history.StepEffects.{EffectOn, Formed, Range, deedOf, effect, formed-step}
+use Rattle.rules.specs.laws.history.StepEffects.{DeskChangeIn, Formed, InHall, desk-change, effectIn, formed-step}
 use Rattle.rules.specs.laws.lists.Lists.{indicator, indicator-at-most-one, indicator-other, indicator-same, occurrences-append}
 use Rattle.rules.specs.laws.pairing.LinkedTakes.{linked-dropped}
 use Rattle.rules.specs.laws.pairing.Links.{ScreensAgree, agree-step, link, linkedTo, take-finds-unlinked, unlinked}
 use Rattle.rules.specs.laws.pairing.OpenRetirements.{Leaves, Tokens, begin-tokens, hand-back-other, hand-back-same, live-at, live-at-most-one}
 use Rattle.rules.specs.laws.pairing.OpenRetirements.{scan-tokens, ties, tokens-later, tokens-with}
 
--- A hand-back at place a, of session s to desk d, may be paired with the retirement at place r.
-pub record MayPair (f : ℕ → Deed) (d s a r : ℕ) : Type 0 where
+-- A hand-back at index a, of session s to desk d, may be paired with the retirement at index r.
+pub record MayPair (f : ℕ → Effect) (d s a r : ℕ) : Type 0 where
   pub earlier : r < a
-  pub same : f r ≡ retires d s
+  pub same : f r ≡ retires s by d
   pub dropped : (i : ℕ) → Linked f i r → DroppedBefore f i a
 
--- The pairing before place n: count is 1 at a retirement that is not paired yet, and else 0.
-pub record Guard (H : Hall) (f : ℕ → Deed) (d s n : ℕ) (D : Desk) : Type 0 where
+-- The pairing before index n: count is 1 at a retirement that is not paired yet, and else 0.
+pub record Guard (H : Hall) (f : ℕ → Effect) (d s n : ℕ) (D : Desk) : Type 0 where
   pub count : ℕ → ℕ
   pub tokens : Tokens H f s n D count
   pub single : (r : ℕ) → count r ≤ 1
-  pub mine : (r : ℕ) → 1 ≤ count r → (r < n) × (f r ≡ retires d s)
+  pub mine : (r : ℕ) → 1 ≤ count r → (r < n) × (f r ≡ retires s by d)
   pub pair : ℕ → ℕ
-  pub good : (a : ℕ) → a < n → f a ≡ handsBack d s → MayPair f d s a (pair a)
-  pub once : (a b : ℕ) → a < n → b < n → f a ≡ handsBack d s → f b ≡ handsBack d s → pair a ≡ pair b → a ≡ b
-  pub unused : (a r : ℕ) → a < n → f a ≡ handsBack d s → 1 ≤ count r → pair a ≡ r → ⊥
+  pub good : (a : ℕ) → a < n → f a ≡ handsBack s by d → MayPair f d s a (pair a)
+  pub once : (a b : ℕ) → a < n → b < n → f a ≡ handsBack s by d → f b ≡ handsBack s by d → pair a ≡ pair b → a ≡ b
+  pub unused : (a r : ℕ) → a < n → f a ≡ handsBack s by d → 1 ≤ count r → pair a ≡ r → ⊥
 
--- the places before n + 1 with such a hand-back, where it is not at n
-before-last : (f : ℕ → Deed) (d s n : ℕ) → (f n ≡ handsBack d s → ⊥) → (a : ℕ) → a < suc n → f a ≡ handsBack d s → a < n
+-- the indices before n + 1 with such a hand-back, where it is not at n
+before-last : (f : ℕ → Effect) (d s n : ℕ) → (f n ≡ handsBack s by d → ⊥) → (a : ℕ) → a < suc n → f a ≡ handsBack s by d → a < n
 before-last f d s n not-here a h q = by-cases (ℕ-discrete a n)
   where
     by-cases : Dec (a ≡ n) → a < n
     by-cases (yes t) = absurd (not-here (ap f (sym t) ∙ q))
     by-cases (no t) = omega arith
 
-module _ (H : Hall) (f : ℕ → Deed) (d s n : ℕ) where
-  -- no hand-back of s to d is at place n
-  guard-kept : (D E : Desk) → (f n ≡ handsBack d s → ⊥) → (g : Guard H f d s n D) → Tokens H f s (suc n) E (g .count) → Guard H f d s (suc n) E
+module _ (H : Hall) (f : ℕ → Effect) (d s n : ℕ) where
+  -- no hand-back of s to d is at index n
+  guard-kept : (D E : Desk) → (f n ≡ handsBack s by d → ⊥) → (g : Guard H f d s n D) → Tokens H f s (suc n) E (g .count) → Guard H f d s (suc n) E
   guard-kept D E ne g t = record {
     count = g .count;
     tokens = t;
@@ -65,11 +66,11 @@ module _ (H : Hall) (f : ℕ → Deed) (d s n : ℕ) where
     unused = λ a r h q c e. g .unused a r (under a h q) q c e;
   }
     where
-      under : (a : ℕ) → a < suc n → f a ≡ handsBack d s → a < n
+      under : (a : ℕ) → a < suc n → f a ≡ handsBack s by d → a < n
       under = before-last f d s n ne
 
-  -- the desk retires s at place n
-  guard-retire : (D : Desk) → D .owed ≡ s → f n ≡ retires d s → Guard H f d s n D → Guard H f d s (suc n) (retire D)
+  -- the desk retires s at index n
+  guard-retire : (D : Desk) → D .owed ≡ s → f n ≡ retires s by d → Guard H f d s n D → Guard H f d s (suc n) (retire D)
   guard-retire D o e g = record {
     count = λ r. indicator r n + g .count r;
     tokens = record {
@@ -108,20 +109,20 @@ module _ (H : Hall) (f : ℕ → Deed) (d s n : ℕ) where
       one r (yes q) = rw q (omega (arith, none, indicator-at-most-one n n))
       one r (no q) = omega (arith, indicator-other r n q, g .single r)
 
-      own : (r : ℕ) → 1 ≤ indicator r n + g .count r → Dec (r ≡ n) → (r < suc n) × (f r ≡ retires d s)
+      own : (r : ℕ) → 1 ≤ indicator r n + g .count r → Dec (r ≡ n) → (r < suc n) × (f r ≡ retires s by d)
       own r h (yes q) = (omega arith, ap f q ∙ e)
       own r h (no q) = let m = g .mine r (omega (arith, indicator-other r n q)) in (omega (arith, m .0), m .1)
 
-      under : (a : ℕ) → a < suc n → f a ≡ handsBack d s → a < n
-      under = before-last f d s n (λ q. true≢false (cc))
+      under : (a : ℕ) → a < suc n → f a ≡ handsBack s by d → a < n
+      under = before-last f d s n (λ q. let differ = same-action e q in true≢false (cc))
 
-      apart : (a r : ℕ) → a < n → f a ≡ handsBack d s → 1 ≤ indicator r n + g .count r → g .pair a ≡ r → Dec (r ≡ n) → ⊥
+      apart : (a r : ℕ) → a < n → f a ≡ handsBack s by d → 1 ≤ indicator r n + g .count r → g .pair a ≡ r → Dec (r ≡ n) → ⊥
       apart a r h q c z (yes w) = omega (arith, g .good a h q .earlier)
       apart a r h q c z (no w) = g .unused a r h q (omega (arith, indicator-other r n w)) z
 
-  -- s is handed back to the desk at place n
-  guard-hand-back : (D E : Desk) → ((m : ℕ) → Range H (f m)) → ((i x c p v : ℕ) → f i ≡ takes x c p v → link H f (screenIndex H x c) i ≡ unlinked)
-      → f n ≡ handsBack d s → (g : Guard H f d s n D) → Leaves H f s n E (g .count) → Guard H f d s (suc n) E
+  -- s is handed back to the desk at index n
+  guard-hand-back : (D E : Desk) → ((m : ℕ) → InHall H (f m)) → ((i x c p v : ℕ) → f i ≡ takes c p v by x → link H f (screenIndex H x c) i ≡ unlinked)
+      → f n ≡ handsBack s by d → (g : Guard H f d s n D) → Leaves H f s n E (g .count) → Guard H f d s (suc n) E
   guard-hand-back D E in-hall finds-free e g l = record {
     count = left;
     tokens =
@@ -155,51 +156,51 @@ module _ (H : Hall) (f : ℕ → Deed) (d s n : ℕ) where
 
       drops′ : (i : ℕ) → Linked f i (l .it) → DroppedBefore f i n
       drops′ i k =
-          let r = subst (Range H) (k .take) (in-hall i) in
+          let r = subst (InHall H) (k .take) (in-hall i) in
           linked-dropped H f in-hall i (l .it) k (finds-free i (k .desk) (k .screen) (k .position) (k .shown) (k .take)) n (g .mine (l .it) was .0)
-          (unlinked-now (screenIndex H (k .desk) (k .screen)) (screen-in H (k .desk) (k .screen) (r .0) (r .1) (r .2) (r .3)))
+          (unlinked-now (screenIndex H (k .desk) (k .screen)) (screen-in H (k .desk) (k .screen) (r .0 .0) (r .0 .1) (r .1 .0) (r .1 .1)))
 
       fits : MayPair f d s n (l .it)
       fits = record { earlier = g .mine (l .it) was .0; same = g .mine (l .it) was .1; dropped = drops′ }
 
-      is-good : (a : ℕ) → a < suc n → f a ≡ handsBack d s → Dec (a ≡ n) → MayPair f d s a (pair′ a)
+      is-good : (a : ℕ) → a < suc n → f a ≡ handsBack s by d → Dec (a ≡ n) → MayPair f d s a (pair′ a)
       is-good a h q (yes t) = subst (λ (m : ℕ). MayPair f d s m (pair′ a)) (sym t) (subst (λ (m : ℕ). MayPair f d s n m) (sym (now a t)) fits)
       is-good a h q (no t) = subst (λ (m : ℕ). MayPair f d s a m) (sym (past a t)) (g .good a (omega arith) q)
 
-      is-once : (a b : ℕ) → a < suc n → b < suc n → f a ≡ handsBack d s → f b ≡ handsBack d s → pair′ a ≡ pair′ b → Dec (a ≡ n) → Dec (b ≡ n) → a ≡ b
+      is-once : (a b : ℕ) → a < suc n → b < suc n → f a ≡ handsBack s by d → f b ≡ handsBack s by d → pair′ a ≡ pair′ b → Dec (a ≡ n) → Dec (b ≡ n) → a ≡ b
       is-once a b h h′ q q′ z (yes t) (yes u) = t ∙ sym u
       is-once a b h h′ q q′ z (yes t) (no u) = absurd (g .unused b (l .it) (omega arith) q′ was (sym (past b u) ∙ sym z ∙ now a t))
       is-once a b h h′ q q′ z (no t) (yes u) = absurd (g .unused a (l .it) (omega arith) q was (sym (past a t) ∙ z ∙ now b u))
       is-once a b h h′ q q′ z (no t) (no u) = g .once a b (omega arith) (omega arith) q q′ (sym (past a t) ∙ z ∙ past b u)
 
-      is-unused : (a r : ℕ) → a < suc n → f a ≡ handsBack d s → 1 ≤ left r → pair′ a ≡ r → Dec (a ≡ n) → ⊥
+      is-unused : (a r : ℕ) → a < suc n → f a ≡ handsBack s by d → 1 ≤ left r → pair′ a ≡ r → Dec (a ≡ n) → ⊥
       is-unused a r h q c z (yes t) = let e = sym (now a t) ∙ z in omega (arith, l .same r, g .single r, ap (indicator r) e, indicator-same r)
       is-unused a r h q c z (no t) = g .unused a r (omega arith) q (omega (arith, l .same r)) (sym (past a t) ∙ z)
 
 -- One call.
-module _ (H : Hall) (f : ℕ → Deed) (in-hall : (m : ℕ) → Range H (f m))
-    (finds-free : (i x c p v : ℕ) → f i ≡ takes x c p v → link H f (screenIndex H x c) i ≡ unlinked) (hS : 1 ≤ allScreens H) (d s : ℕ) (hd : 1 ≤ d)
+module _ (H : Hall) (f : ℕ → Effect) (in-hall : (m : ℕ) → InHall H (f m))
+    (finds-free : (i x c p v : ℕ) → f i ≡ takes c p v by x → link H f (screenIndex H x c) i ≡ unlinked) (hS : 1 ≤ allScreens H) (d s : ℕ) (hd : 1 ≤ d)
     (hs : s ≡ 0 → ⊥) where
   guard-step : (n : ℕ) (st : State) (c : Call) → Formed H st → Orderly (allScreens H) (deskOf st d) → ScreensAgree H f n st
-      → f n ≡ deedOf H st c
+      → f n ≡ effectIn H st c
       → Guard H f d s n (deskOf st d) → Guard H f d s (suc n) (deskOf (step H st c .after) d)
   guard-step n st c formed ok ag q g =
-      by-cases (own d (f n)) refl
-      (subst (λ (D : Deed). EffectOn H st d (deskOf (step H st c .after) d) (own d D)) (sym q) (effect H st formed d hd c))
+      by-action (byDesk d (f n)) refl
+      (subst (λ (e : Effect). DeskChangeIn H st d (deskOf (step H st c .after) d) (byDesk d e)) (sym q) (desk-change H st formed d hd c))
     where
       below : (r : ℕ) → 1 ≤ g .count r → r < n
       below r h = g .mine r h .0
 
-      -- the deed at n is no hand-back of the desk
-      no-hand-back : (D : Deed) → own d (f n) ≡ D → isHandBack D ≡ false → f n ≡ handsBack d s → ⊥
-      no-hand-back D o other t =
-          true≢false (ap isHandBack (sym (own-hands-back d s) ∙ ap (own d) (sym t) ∙ o) ∙ other)
+      -- the action at n is no hand-back of the desk
+      no-hand-back : (a : Action) → byDesk d (f n) ≡ a → isHandBack a ≡ false → f n ≡ handsBack s by d → ⊥
+      no-hand-back a own other t =
+          true≢false (ap isHandBack (sym (by-own-desk d (handsBack s)) ∙ ap (byDesk d) (sym t) ∙ own) ∙ other)
 
       -- the list stays as it is
-      same-list : (D : Deed) → own d (f n) ≡ D → isHandBack D ≡ false → (o : ℕ) → deskOf (step H st c .after) d ≡ owe (deskOf st d) o
+      same-list : (a : Action) → byDesk d (f n) ≡ a → isHandBack a ≡ false → (o : ℕ) → deskOf (step H st c .after) d ≡ owe (deskOf st d) o
           → Guard H f d s (suc n) (deskOf (step H st c .after) d)
-      same-list D p other o e =
-          rw e (guard-kept H f d s n (deskOf st d) (owe (deskOf st d) o) (no-hand-back D p other) g
+      same-list a own other o e =
+          rw e (guard-kept H f d s n (deskOf st d) (owe (deskOf st d) o) (no-hand-back a own other) g
           (tokens-later H f s n (g .count) (deskOf st d) o below (g .tokens)))
 
       -- another session is retired
@@ -216,14 +217,14 @@ module _ (H : Hall) (f : ℕ → Deed) (in-hall : (m : ℕ) → Range H (f m))
           scan-tokens H f s n (g .count) d st ag (g .single) (λ r h. g .mine r h .1) hS (formed .screens) (begin (deskOf st d))
           (begin-keeps (allScreens H) (deskOf st d) hS ok .going) (begin-tokens H f s n (g .count) (deskOf st d) (ok .going) (g .tokens))
 
-      retiring : (v : ℕ) → deskOf st d .owed ≡ v → f n ≡ retires d v → Dec (s ≡ v) → Guard H f d s (suc n) (retire (deskOf st d))
-      retiring v o y (yes t) = guard-retire H f d s n (deskOf st d) (o ∙ sym t) (y ∙ ap (retires d) (sym t)) g
+      retiring : (v : ℕ) → deskOf st d .owed ≡ v → f n ≡ retires v by d → Dec (s ≡ v) → Guard H f d s (suc n) (retire (deskOf st d))
+      retiring v o y (yes t) = guard-retire H f d s n (deskOf st d) (o ∙ sym t) (y ∙ (λ i. retires (sym t i) by d)) g
       retiring v o y (no t) =
           guard-kept H f d s n (deskOf st d) (retire (deskOf st d))
-          (λ u. true≢false (cc)) g (retired-other v o t)
+          (λ u. let differ = same-action y u in true≢false (cc)) g (retired-other v o t)
 
       -- a collect that replies another session, or 0
-      collecting : (v : ℕ) → collect (allScreens H) (st .shown) (deskOf st d) .session ≡ v → (s ≡ v → ⊥) → (f n ≡ handsBack d s → ⊥)
+      collecting : (v : ℕ) → collect (allScreens H) (st .shown) (deskOf st d) .session ≡ v → (s ≡ v → ⊥) → (f n ≡ handsBack s by d → ⊥)
           → Guard H f d s (suc n) (collect (allScreens H) (st .shown) (deskOf st d) .after)
       collecting v e ne other =
           let E = collect (allScreens H) (st .shown) (deskOf st d) .after in
@@ -231,46 +232,46 @@ module _ (H : Hall) (f : ℕ → Deed) (in-hall : (m : ℕ) → Range H (f m))
           (tokens-later H f s n (g .count) E (E .owed) below
           (hand-back-other H f s n (g .count) (beforeHandBack (allScreens H) (st .shown) (deskOf st d)) (λ u. ne (u ∙ e)) before-back))
 
-      handing : (v : ℕ) → collect (allScreens H) (st .shown) (deskOf st d) .session ≡ v → f n ≡ handsBack d v → Dec (s ≡ v)
+      handing : (v : ℕ) → collect (allScreens H) (st .shown) (deskOf st d) .session ≡ v → f n ≡ handsBack v by d → Dec (s ≡ v)
           → Guard H f d s (suc n) (collect (allScreens H) (st .shown) (deskOf st d) .after)
       handing v e y (yes t) =
           guard-hand-back H f d s n (deskOf st d) (collect (allScreens H) (st .shown) (deskOf st d) .after) in-hall finds-free
-          (y ∙ ap (handsBack d) (sym t)) g
+          (y ∙ (λ i. handsBack (sym t i) by d)) g
           (hand-back-same H f s n (g .count) (beforeHandBack (allScreens H) (st .shown) (deskOf st d)) hs (t ∙ sym e) before-back)
-      handing v e y (no t) = collecting v e t (λ u. let k : handsBack d v ≡ handsBack d s = sym y ∙ u in t (cc))
+      handing v e y (no t) = collecting v e t (λ u. let same = same-action y u in t (cc))
 
-      by-cases : (D : Deed) → own d (f n) ≡ D → EffectOn H st d (deskOf (step H st c .after) d) D
+      by-action : (a : Action) → byDesk d (f n) ≡ a → DeskChangeIn H st d (deskOf (step H st c .after) d) a
           → Guard H f d s (suc n) (deskOf (step H st c .after) d)
-      by-cases (takes by x p v) o e = same-list (takes by x p v) o refl (e .owed) (e .after)
-      by-cases (drops by x) o e = same-list (drops by x) o refl (e .owed) (e .after)
-      by-cases (swaps by p) o e = same-list (swaps by p) o refl (e .owed) (e .after)
-      by-cases (retires by v) o e = rw (e .after) (retiring v (e .owed) (own-retires d by v (f n) o) (ℕ-discrete s v))
-      by-cases (lacksRoom by) o e = same-list (lacksRoom by) o refl (deskOf st d .owed) (e .after)
-      by-cases (collects by) o e = rw (e .after) (collecting 0 (e .session) hs (no-hand-back (collects by) o refl))
-      by-cases (handsBack by v) o e = rw (e .1 .after) (handing v (e .1 .session) (own-handed d by v (f n) o) (ℕ-discrete s v))
-      by-cases nothing o e = same-list nothing o refl (e .owed) (e .after)
+      by-action (takes x p v) o e = same-list (takes x p v) o refl (e .owed) (e .after)
+      by-action (drops x) o e = same-list (drops x) o refl (e .owed) (e .after)
+      by-action (swaps p) o e = same-list (swaps p) o refl (e .owed) (e .after)
+      by-action (retires v) o e = rw (e .after) (retiring v (e .owed) (own-action d (f n) (retires v) (λ z. true≢false (cc)) o) (ℕ-discrete s v))
+      by-action outOfRoom o e = same-list outOfRoom o refl (deskOf st d .owed) (e .after)
+      by-action collects o e = rw (e .after) (collecting 0 (e .session) hs (no-hand-back collects o refl))
+      by-action (handsBack v) o e = rw (e .1 .after) (handing v (e .1 .session) (own-action d (f n) (handsBack v) (λ z. true≢false (cc)) o) (ℕ-discrete s v))
+      by-action noAction o e = same-list noAction o refl (e .owed) (e .after)
 
-  -- A list of calls, whose deeds f tells from place n on.
-  pub guard-along : (cs : List Call) (st : State) (n : ℕ) → Tells f n (run H st cs) → Formed H st → Sound (allScreens H) (deskOf st d)
-      → ScreensAgree H f n st → Guard H f d s n (deskOf st d) → Guard H f d s (n + length cs) (deskOf (end H st cs) d)
-  guard-along [] st n tells formed ok ag g = subst (λ (m : ℕ). Guard H f d s m (deskOf st d)) (omega arith) g
-  guard-along (c ∷ cs) st n tells formed ok ag g =
-      let q = tells-first tells in
-      subst (λ (m : ℕ). Guard H f d s m (deskOf (end H (step H st c .after) cs) d)) (omega arith)
-      (guard-along cs (step H st c .after) (suc n) (tells-rest tells) (formed-step H st formed c) (sound-step H d hS hd st c formed ok)
+  -- A list of calls, whose effects f gives from index n on.
+  pub guard-along : (cs : List Call) (st : State) (n : ℕ) → Gives f n (run (step H) st cs) → Formed H st → Sound (allScreens H) (deskOf st d)
+      → ScreensAgree H f n st → Guard H f d s n (deskOf st d) → Guard H f d s (n + length cs) (deskOf (end (step H) st cs) d)
+  guard-along [] st n gives formed ok ag g = subst (λ (m : ℕ). Guard H f d s m (deskOf st d)) (omega arith) g
+  guard-along (c ∷ cs) st n gives formed ok ag g =
+      let q = gives-first gives in
+      subst (λ (m : ℕ). Guard H f d s m (deskOf (end (step H) (step H st c .after) cs) d)) (omega arith)
+      (guard-along cs (step H st c .after) (suc n) (gives-rest gives) (formed-step H st formed c) (sound-step H d hS hd st c formed ok)
       (agree-step H st formed f n ag c q) (guard-step n st c formed (sound-orderly (allScreens H) (deskOf st d) ok) ag q g))
 
 -- An accepted take finds its screen unlinked.
-pub takes-find-unlinked : (H : Hall) (f : ℕ → Deed) (cs : List Call) (st : State) (n : ℕ) → Tells f n (run H st cs) → Formed H st
-    → ScreensAgree H f n st → (m x c p v : ℕ) → f (n + m) ≡ takes x c p v → link H f (screenIndex H x c) (n + m) ≡ unlinked
-takes-find-unlinked H f [] st n tells formed ag m x y p v t =
-    absurd (true≢false (cc (tells .at m)))
-takes-find-unlinked H f (c ∷ cs) st n tells formed ag zero x y p v t =
+pub takes-find-unlinked : (H : Hall) (f : ℕ → Effect) (cs : List Call) (st : State) (n : ℕ) → Gives f n (run (step H) st cs) → Formed H st
+    → ScreensAgree H f n st → (m x c p v : ℕ) → f (n + m) ≡ takes c p v by x → link H f (screenIndex H x c) (n + m) ≡ unlinked
+takes-find-unlinked H f [] st n gives formed ag m x y p v t =
+    absurd (let differ = same-action (gives .at m) t in true≢false (cc))
+takes-find-unlinked H f (c ∷ cs) st n gives formed ag zero x y p v t =
     let e : n ≡ n + 0 = omega arith in
     subst (λ (k : ℕ). link H f (screenIndex H x y) k ≡ unlinked) e
-    (take-finds-unlinked H st formed f n ag c (tells-first tells) x y p v (ap f e ∙ t))
-takes-find-unlinked H f (c ∷ cs) st n tells formed ag (suc m) x y p v t =
+    (take-finds-unlinked H st formed f n ag c (gives-first gives) x y p v (ap f e ∙ t))
+takes-find-unlinked H f (c ∷ cs) st n gives formed ag (suc m) x y p v t =
     let u : suc n + m ≡ n + suc m = omega arith in
     subst (λ (k : ℕ). link H f (screenIndex H x y) k ≡ unlinked) u
-    (takes-find-unlinked H f cs (step H st c .after) (suc n) (tells-rest tells) (formed-step H st formed c)
-    (agree-step H st formed f n ag c (tells-first tells)) m x y p v (ap f u ∙ t))
+    (takes-find-unlinked H f cs (step H st c .after) (suc n) (gives-rest gives) (formed-step H st formed c)
+    (agree-step H st formed f n ag c (gives-first gives)) m x y p v (ap f u ∙ t))

@@ -12,14 +12,14 @@ use Rattle.rules.specs.Hall.{Hall, TestedSlot, allScreens, maxAllScreens
 use Rattle.rules.specs.Lists.{chunks, every, occurrences}
 use Rattle.rules.specs.Steps.{Call, perform}
 use Rattle.rules.specs.Table.{decode, decodeDesk, encode, hallIn, headerWords, marksIn, need, ones, recordSound, recordWidth, recordsIn, scanSound}
-use Rattle.rules.specs.Table.{slotsIn, usedIn, widthFor, written}
+use Rattle.rules.specs.Table.{slotsIn, tableAfter, usedIn, widthFor}
 use Rattle.rules.specs.laws.desk.Decoding.{list-parts, marks-read, passed, ready-length, records-back, small-drop, tested-length, waiting-length}
 use Rattle.rules.specs.laws.desk.Encoding.{ones-marks}
 use Rattle.rules.specs.laws.desk.Marks.{markCount}
 use Rattle.rules.specs.laws.desk.Sound.{ScanFits, Sound, occurrences-list, ones-append}
 use Rattle.rules.specs.laws.lists.Bools.{and-left, and-right}
 use Rattle.rules.specs.laws.lists.Lists.{indicator, indicator-other}
-use Rattle.rules.specs.laws.table.EncodedStep.{All, Valid, written-is}
+use Rattle.rules.specs.laws.table.EncodedStep.{All, Valid, after-encoded}
 use Rattle.rules.specs.laws.table.TableSteps.{Known, asked}
 
 real-cnt : (l : List ℕ) → every (λ x. not (eqb x 0)) l ≡ true → occurrences 0 l ≡ 0
@@ -40,23 +40,23 @@ pass-of S (suc b) k (p ∷ T) l h m =
     (eqb-true (k % 2) 0 (and-left (eqb (k % 2) 0) (leb 2 k && ltb k S) h), leb-true 2 k (and-left (leb 2 k) (ltb k S) h1), ltb-true k S (and-right (leb 2 k) (ltb k S) h1), m)
 
 -- a record that passes the test is of a sound desk
-pub desk-sound : (S : ℕ) (r : List ℕ) → length r ≡ widthFor S → S ≤ maxAllScreens → recordSound S r ≡ true → Sound S (decodeDesk r)
+pub desk-sound : (S : ℕ) (r : List ℕ) → length r ≡ widthFor S → S ≤ maxAllScreens → recordSound S r ≡ true → Sound S (decodeDesk S r)
 unfolding decodeDesk
-desk-sound S r long most e =
+desk-sound S r long bounded e =
     let p = passed S r e in
     let b = getD r 3 0 in
-    let T = decodeDesk r .tested in
+    let T = decodeDesk S r .tested in
     let m : markCount T ≤ getD r 1 0 =
-    omega (arith, p .few, ones-marks T, ap ones (marks-read S r long most p), ones-append (take b (marksIn r)) (drop b (marksIn r)), ap ones (take-append-drop b (marksIn r))) in
+    omega (arith, p .few, ones-marks T, ap ones (marks-read S r long bounded p), ones-append (take b (marksIn r)) (drop b (marksIn r)), ap ones (take-append-drop b (marksIn r))) in
     record {
-      total = omega (arith, p .room, ready-length S r long most p, tested-length S r long most p, waiting-length S r long most p);
-      real = sym (occurrences-list 0 (decodeDesk r)) ∙ ap (occurrences 0) (list-parts S r long most p) ∙ real-cnt (take (usedIn r) (slotsIn S r)) (p .full);
-      pass = pass-of S b (getD r 1 0) T (tested-length S r long most p) (p .scan) m;
+      total = omega (arith, p .room, ready-length S r long bounded p, tested-length S r long bounded p, waiting-length S r long bounded p);
+      real = sym (occurrences-list 0 (decodeDesk S r)) ∙ ap (occurrences 0) (list-parts S r long bounded p) ∙ real-cnt (take (usedIn r) (slotsIn S r)) (p .full);
+      pass = pass-of S b (getD r 1 0) T (tested-length S r long bounded p) (p .scan) m;
     }
 
 module _ (S : ℕ) (hS : S ≤ maxAllScreens) where
   records-sound : (n : ℕ) (x : List ℕ) → n * widthFor S ≤ length x → every (recordSound S) (chunks n (widthFor S) x) ≡ true
-      → All (Sound S) (map decodeDesk (chunks n (widthFor S) x))
+      → All (Sound S) (map (decodeDesk S) (chunks n (widthFor S) x))
   records-sound zero x h e = tt
   records-sound (suc n) x h e =
       let w : ℕ = widthFor S in
@@ -75,9 +75,9 @@ valid t k =
     let l3 = length-drop (allScreens H) (drop (H .positions) (drop headerWords t)) in
     record {
       formed =
-          record { desks = length-map (recordsIn H t) decodeDesk ∙ length-records (H .desks) (recordWidth H) (drop (allScreens H) (drop (H .positions) (drop headerWords t))); screens = length-take-le (allScreens H) (drop (H .positions) (drop headerWords t)) (omega arith) };
+          record { desks = length-map (recordsIn H t) (decodeDesk (allScreens H)) ∙ length-records (H .desks) (recordWidth H) (drop (allScreens H) (drop (H .positions) (drop headerWords t))); screens = length-take-le (allScreens H) (drop (H .positions) (drop headerWords t)) (omega arith) };
       held = length-take-le (H .positions) (drop headerWords t) (omega arith);
-      desks = records-sound (allScreens H) (k .most) (H .desks) (drop (allScreens H) (drop (H .positions) (drop headerWords t))) (omega arith) (k .records);
+      desks = records-sound (allScreens H) (k .bounded) (H .desks) (drop (allScreens H) (drop (H .positions) (drop headerWords t))) (omega arith) (k .records);
     }
 
 glue : (a b c : ℕ) (x : List ℕ) → (take a x ++ (take b (drop a x) ++ take c (drop b (drop a x)))) ++ drop c (drop b (drop a x)) ≡ x
@@ -96,7 +96,7 @@ same-table t small k =
     let lx : length x ≡ length t - headerWords - H .positions - allScreens H =
     omega (arith, length-drop (allScreens H) (drop (H .positions) (drop headerWords t)), length-drop (H .positions) (drop headerWords t), length-drop headerWords t) in
     let records =
-    records-back (allScreens H) (H .desks) x (k .most) (omega arith)
+    records-back (allScreens H) (H .desks) x (k .bounded) (omega arith)
     (small-drop (allScreens H) (drop (H .positions) (drop headerWords t)) (small-drop (H .positions) (drop headerWords t) (small-drop headerWords t small)))
     (k .records) in
     let past : drop (need H) t ≡ drop (H .desks * recordWidth H) x =
@@ -109,7 +109,7 @@ same-table t small k =
 
 -- what an accepted call writes is the table of the state after it
 pub encoded : (t : List ℕ) (c : Call) → ((i : ℕ) → getD t i 0 < 65536) → Known t → asked t c ≡ 0
-    → written t c ≡ encode (hallIn t) (perform (hallIn t) (decode (hallIn t) t) c .after) ++ drop (need (hallIn t)) t
+    → tableAfter t c ≡ encode (hallIn t) (perform (hallIn t) (decode (hallIn t) t) c .after) ++ drop (need (hallIn t)) t
 encoded t c small k q =
-    ap (λ (x : List ℕ). written x c) (sym (same-table t small k))
-    ∙ written-is (hallIn t) (k .fits) (decode (hallIn t) t) (valid t k) (drop (need (hallIn t)) t) c q
+    ap (λ (x : List ℕ). tableAfter x c) (sym (same-table t small k))
+    ∙ after-encoded (hallIn t) (k .fits) (decode (hallIn t) t) (valid t k) (drop (need (hallIn t)) t) c q

@@ -12,15 +12,16 @@ use borrow.Author.Tests.{le-leb, eqb-false, ltb-true, not-true, leb-true}
 use Rattle.rules.specs.Hall.{Desk, Hall, Limits, State, allScreens, deskOf, emptyDesk, fresh, maxAllScreens, maxDesks, maxPositions, maxScreens}
 use Rattle.rules.specs.Hall.{screenIndex, usedSlots, withDesk, withHeld, withShown}
 use Rattle.rules.specs.Lists.{chunks, concat, every}
-use Rattle.rules.specs.Steps.{Call, Collect, Drop, Event, Retire, Swap, Take, collect, decide, end, firstNo, inRange, owe, perform, questions, retire}
-use Rattle.rules.specs.Steps.{run, step}
-use Rattle.rules.specs.Table.{TableDone, decode, decodeDesk, encode, encodeDesk, endTable, headerWords, inLimits, listOf, listOffset, need, openQuestions}
-use Rattle.rules.specs.Table.{openedTable, positionWord, putRecord, recordOf, recordSound, recordStart, recordWidth, recordsIn, runTable, screenWord}
-use Rattle.rules.specs.Table.{sound, stepIf, stepTable, written}
-use Rattle.rules.specs.laws.desk.Encoding.{desk-read-back}
-use Rattle.rules.specs.laws.desk.Sound.{Sound, collect-sound, encoded-sound, length-list, retire-sound, sound-owe}
+use Rattle.rules.specs.Steps.{Call, Collect, Drop, Event, Result, Retire, Step, Swap, Take, _sends_, accept, collect, decide, end, firstNo, inRange, owe}
+use Rattle.rules.specs.Steps.{perform, performStep, questions, retire, run, step}
+use Rattle.rules.specs.Table.{decode, decodeDesk, encode, encodeDesk, encodeTail, headerWords, inLimits, listOffset, need, openQuestions, openedTable}
+use Rattle.rules.specs.Table.{positionWord, putRecord, recordOf, recordSound, recordStart, recordWidth, recordsIn, screenWord, slotsFor, sound, stepIf}
+use Rattle.rules.specs.Table.{stepTable, tableAfter, tableAfterStep, tailWords}
+use Rattle.rules.specs.laws.desk.Encoding.{desk-read-back, length-slots-for, length-tail}
+use Rattle.rules.specs.laws.desk.Sound.{Sound, collect-sound, encoded-sound, retire-sound, sound-owe}
 use Rattle.rules.specs.laws.history.ScreenIndex.{screen-in}
-use Rattle.rules.specs.laws.history.StepEffects.{Formed, formed-step, holds, in-range, retire-questions}
+use Rattle.rules.specs.laws.history.StepEffects.{Formed, IsDesk, desk-asked, drop-asked, formed-step, holds, in-range, retire-asked, swap-asked}
+use Rattle.rules.specs.laws.history.StepEffects.{take-asked}
 use Rattle.rules.specs.laws.lists.Bools.{and-left, and-right, and-true}
 use Rattle.rules.specs.laws.lists.ListSlices.{get-mid, put-mid, set-mid, take-mid}
 
@@ -76,50 +77,53 @@ module _ (H : Hall) (fits : Fits H) where
   pub some-screens : 1 ≤ allScreens H
   some-screens = mul-pos (fits .desks .0) (fits .screens .0)
 
-  most : allScreens H ≤ maxAllScreens
-  most = mul-le-mul (fits .desks .1) (fits .screens .1)
+  bounded : allScreens H ≤ maxAllScreens
+  bounded = mul-le-mul (fits .desks .1) (fits .screens .1)
 
   pub valid-step : (st : State) (c : Call) → Valid H st → Valid H (step H st c .after)
   valid-step st c v = record {
     formed = formed-step H st (v .formed) c;
-    held = lh (firstNo (questions H st c)) c;
-    desks = by-cases (firstNo (questions H st c)) c refl;
+    held = held-length (firstNo (questions H st c)) (c .desk) (c .step);
+    desks = desks-sound (firstNo (questions H st c)) (c .desk) (c .step) refl;
   }
     where
-      P : Desk → Type 0
-      P = Sound (allScreens H)
+      afterwards : ℕ → ℕ → Step → State
+      afterwards n d s = let outcome = performStep H st d s in decide n st (outcome .session) (outcome .after) .after
 
-      lh : (n : ℕ) (c : Call) → length (decide n st (perform H st c) .after .held) ≡ H .positions
-      lh zero (Take x s p) = v .held
-      lh zero (Drop x s) = v .held
-      lh zero (Swap x p w) = length-set (st .held) (p - 1) w ∙ v .held
-      lh zero (Retire x) = v .held
-      lh zero (Collect x) = v .held
-      lh (suc n) c = v .held
+      held-length : (n d : ℕ) (s : Step) → length (afterwards n d s .held) ≡ H .positions
+      held-length zero d (Take c p) = v .held
+      held-length zero d (Drop c) = v .held
+      held-length zero d (Swap p w) = length-set (st .held) (p - 1) w ∙ v .held
+      held-length zero d Retire = v .held
+      held-length zero d Collect = v .held
+      held-length (suc n) d s = v .held
 
-      at : (x : ℕ) → Sound (allScreens H) (deskOf st x)
-      at x = all-get (Sound (allScreens H)) (st .desks) (x - 1) emptyDesk (empty-desk-sound (allScreens H)) (v .desks)
+      desk-sound : (d : ℕ) → Sound (allScreens H) (deskOf st d)
+      desk-sound d = all-get (Sound (allScreens H)) (st .desks) (d - 1) emptyDesk (empty-desk-sound (allScreens H)) (v .desks)
 
-      by-cases : (n : ℕ) (c : Call) → firstNo (questions H st c) ≡ n → All (Sound (allScreens H)) (decide n st (perform H st c) .after .desks)
-      by-cases zero (Take x s p) e = v .desks
-      by-cases zero (Drop x s) e = v .desks
-      by-cases zero (Swap x p w) e =
-          all-set (Sound (allScreens H)) (st .desks) (x - 1) _ (sound-owe (allScreens H) (getD (st .held) (p - 1) 0) (deskOf st x) (at x)) (v .desks)
-      by-cases zero (Retire x) e =
-          let y = retire-questions (inRange x (H .desks)) (not (eqb (deskOf st x .owed) 0)) (ltb (usedSlots (deskOf st x)) (2 * allScreens H)) e in
-          all-set (Sound (allScreens H)) (st .desks) (x - 1) (retire (deskOf st x))
-          (retire-sound (allScreens H) (deskOf st x) (eqb-false (deskOf st x .owed) 0 (not-true (eqb (deskOf st x .owed) 0) (y .1))) (ltb-true (usedSlots (deskOf st x)) (2 * allScreens H) (y .2)) (at x))
-          (v .desks)
-      by-cases zero (Collect x) e =
-          all-set (Sound (allScreens H)) (st .desks) (x - 1) (collect (allScreens H) (st .shown) (deskOf st x) .after)
-          (collect-sound (allScreens H) (st .shown) (deskOf st x) some-screens (v .formed .screens) (at x)) (v .desks)
-      by-cases (suc n) c e = v .desks
+      stored : (d : ℕ) (new : Desk) → Sound (allScreens H) new → All (Sound (allScreens H)) (set (st .desks) (d - 1) new)
+      stored d new ok = all-set (Sound (allScreens H)) (st .desks) (d - 1) new ok (v .desks)
+
+      desks-sound : (n d : ℕ) (s : Step) → firstNo (questions H st (d sends s)) ≡ n → All (Sound (allScreens H)) (afterwards n d s .desks)
+      desks-sound zero d (Take c p) e = v .desks
+      desks-sound zero d (Drop c) e = v .desks
+      desks-sound zero d (Swap p w) e = stored d _ (sound-owe (allScreens H) (getD (st .held) (p - 1) 0) (deskOf st d) (desk-sound d))
+      desks-sound zero d Retire e =
+          let asked = retire-asked H st d e in
+          stored d _ (retire-sound (allScreens H) (deskOf st d) (asked .owes) (asked .room) (desk-sound d))
+      desks-sound zero d Collect e =
+          stored d _ (collect-sound (allScreens H) (st .shown) (deskOf st d) some-screens (v .formed .screens) (desk-sound d))
+      desks-sound (suc n) d s e = v .desks
 
   pub length-encoded : (D : Desk) → Sound (allScreens H) D → length (encodeDesk (allScreens H) D) ≡ recordWidth H
   unfolding encodeDesk
   length-encoded D s =
-      omega
-      (arith, s .total, length-list D, length-append (listOf D) (replicate (2 * allScreens H - length (listOf D)) 0), length-replicate {A = ℕ} (2 * allScreens H - length (listOf D)) 0)
+      omega (
+        arith,
+        length-append (slotsFor (allScreens H) D) (encodeTail D),
+        length-slots-for (allScreens H) D (s .total),
+        length-tail D,
+      )
 
   -- the records, one after the other
   records-flat : (ds : List Desk) (rest : List ℕ) → All (Sound (allScreens H)) ds
@@ -135,15 +139,15 @@ module _ (H : Hall) (fits : Fits H) where
       omega
       (arith, length-append (encodeDesk (allScreens H) D) (concat (map (encodeDesk (allScreens H)) ds)), length-encoded D (h .0), length-flat ds (h .1))
 
-  desks-code : (ds : List Desk) → All (Sound (allScreens H)) ds → map decodeDesk (map (encodeDesk (allScreens H)) ds) ≡ ds
+  desks-code : (ds : List Desk) → All (Sound (allScreens H)) ds → map (decodeDesk (allScreens H)) (map (encodeDesk (allScreens H)) ds) ≡ ds
   desks-code [] h = refl
-  desks-code (D ∷ ds) h = λ i. desk-read-back (allScreens H) D (omega (arith, h .0 .total, most)) i ∷ desks-code ds (h .1) i
+  desks-code (D ∷ ds) h = λ i. desk-read-back (allScreens H) D (h .0 .total) (omega (arith, h .0 .total, bounded)) i ∷ desks-code ds (h .1) i
 
   all-sound : (ds : List Desk) → All (Sound (allScreens H)) ds → every (recordSound (allScreens H)) (map (encodeDesk (allScreens H)) ds) ≡ true
   all-sound [] h = refl
   all-sound (D ∷ ds) h =
       and-true (recordSound (allScreens H) (encodeDesk (allScreens H) D))
-      (every (recordSound (allScreens H)) (map (encodeDesk (allScreens H)) ds)) (encoded-sound (allScreens H) D most (h .0))
+      (every (recordSound (allScreens H)) (map (encodeDesk (allScreens H)) ds)) (encoded-sound (allScreens H) D bounded (h .0))
       (all-sound ds (h .1))
 
   -- the records before desk i, from 0, its own, and those after it
@@ -205,7 +209,7 @@ module _ (H : Hall) (fits : Fits H) where
 
     pub decode-encode : decode H (encode H st ++ rest) ≡ st
     decode-encode =
-        λ i. record { held = held-of-encode i; shown = (ap (take (allScreens H)) past-held ∙ take-at (st .shown) (concat (map (encodeDesk (allScreens H)) (st .desks)) ++ rest) (allScreens H) (v .formed .screens)) i; desks = (ap (map decodeDesk) records-of-encode ∙ desks-code (st .desks) (v .desks)) i }
+        λ i. record { held = held-of-encode i; shown = (ap (take (allScreens H)) past-held ∙ take-at (st .shown) (concat (map (encodeDesk (allScreens H)) (st .desks)) ++ rest) (allScreens H) (v .formed .screens)) i; desks = (ap (map (decodeDesk (allScreens H))) records-of-encode ∙ desks-code (st .desks) (v .desks)) i }
 
     pub length-table : length (encode H st) ≡ need H
     length-table =
@@ -227,9 +231,8 @@ module _ (H : Hall) (fits : Fits H) where
         ap (λ (x : List ℕ). (H .desks ∷ H .screens ∷ H .positions ∷ (h ++ (s ++ x))) ++ rest) e
         ∙ ap (λ (l : List ℕ). H .desks ∷ H .screens ∷ H .positions ∷ l) (simp append-assoc)
 
-    at-desk : (d m : ℕ) → cond {A = ℕ} (inRange d (H .desks)) m 6 ≡ 0 → Cut (st .desks) (d - 1)
-    at-desk d m e =
-        let i = in-range d (H .desks) (holds (inRange d (H .desks)) m 5 e .0) in cut (st .desks) (d - 1) (v .desks) (omega (arith, v .formed .desks))
+    at-desk : (d : ℕ) → IsDesk H d → Cut (st .desks) (d - 1)
+    at-desk d r = cut (st .desks) (d - 1) (v .desks) (omega (arith, v .formed .desks))
 
     -- one record replaced
     put-record-is : (d : ℕ) (x : Desk) → Cut (st .desks) (d - 1)
@@ -261,12 +264,14 @@ module _ (H : Hall) (fits : Fits H) where
         ap (λ (t : List ℕ). recordOf H t d) q
         ∙ take-mid a (encodeDesk (allScreens H) (deskOf st d)) (c .back ++ rest) (recordStart H d) n (recordWidth H) (c .wide)
 
-    record-decoded : (d : ℕ) → Cut (st .desks) (d - 1) → decodeDesk (recordOf H (encode H st ++ rest) d) ≡ deskOf st d
-    record-decoded d c = ap decodeDesk (record-of-encode d c) ∙ desk-read-back (allScreens H) (deskOf st d) (omega (arith, c .total, most))
+    record-decoded : (d : ℕ) → Cut (st .desks) (d - 1) → decodeDesk (allScreens H) (recordOf H (encode H st ++ rest) d) ≡ deskOf st d
+    record-decoded d c =
+        ap (decodeDesk (allScreens H)) (record-of-encode d c)
+        ∙ desk-read-back (allScreens H) (deskOf st d) (c .total) (omega (arith, c .total, bounded))
 
     -- the record of a desk of the hall
-    pub desk-record : (d : ℕ) → 1 ≤ d → d ≤ H .desks → recordOf H (encode H st ++ rest) d ≡ encodeDesk (allScreens H) (deskOf st d)
-    desk-record d h h′ = record-of-encode d (cut (st .desks) (d - 1) (v .desks) (omega (arith, v .formed .desks)))
+    pub desk-record : (d : ℕ) → IsDesk H d → recordOf H (encode H st ++ rest) d ≡ encodeDesk (allScreens H) (deskOf st d)
+    desk-record d r = record-of-encode d (at-desk d r)
 
     -- a position read, and written; a screen written
     position-word-is : (p : ℕ) → 1 ≤ p → p ≤ H .positions → getD (encode H st ++ rest) (positionWord p) 0 ≡ getD (st .held) (p - 1) 0
@@ -293,41 +298,42 @@ module _ (H : Hall) (fits : Fits H) where
         ∙ sym (as-shown (st .held) (set (st .shown) (screenIndex H d c) w) f)
 
     -- what an accepted call writes is the table of the state after it
-    pub written-is : (c : Call) → firstNo (questions H st c) ≡ 0 → written (encode H st ++ rest) c ≡ encode H (perform H st c .after) ++ rest
+    pub after-encoded : (c : Call) → firstNo (questions H st c) ≡ 0 → tableAfter (encode H st ++ rest) c ≡ encode H (perform H st c .after) ++ rest
     unfolding encodeDesk
-    written-is (Take d c p) e =
-        let y1 = holds (inRange d (H .desks)) _ 5 e in
-        let y2 = holds (inRange c (H .screens)) _ 6 (y1 .1) in
-        let ip = in-range p (H .positions) (holds (inRange p (H .positions)) _ 7 (y2 .1) .0) in
-        (λ i. set (encode H st ++ rest) (screenWord H d c) (position-word-is p (ip .0) (ip .1) i))
-        ∙ screen-written d c (getD (st .held) (p - 1) 0) (in-range d (H .desks) (y1 .0)) (in-range c (H .screens) (y2 .0))
-    written-is (Drop d c) e =
-        let y1 = holds (inRange d (H .desks)) _ 5 e in
-        let y2 = holds (inRange c (H .screens)) _ 6 (y1 .1) in
-        screen-written d c 0 (in-range d (H .desks) (y1 .0)) (in-range c (H .screens) (y2 .0))
-    written-is (Swap d p w) e =
-        let k = at-desk d _ e in
-        let ip = in-range p (H .positions) (holds (inRange p (H .positions)) _ 7 (holds (inRange d (H .desks)) _ 5 e .1) .0) in
-        let h : List ℕ = set (st .held) (p - 1) w in
-        let o = getD (st .held) (p - 1) 0 in
-        let a : List ℕ = H .desks ∷ H .screens ∷ H .positions ∷ (h ++ (st .shown ++ k .front)) in
-        let n : length a ≡ recordStart H d =
-        omega
-        (arith, length-append h (st .shown ++ k .front), length-append (st .shown) (k .front), length-set (st .held) (p - 1) w, v .held, v .formed .screens, k .starts) in
-        let z : recordStart H d ≡ recordStart H d + 0 = omega arith in
-        (λ i. set (position-written p w (ip .0) (ip .1) i) (z i) (position-word-is p (ip .0) (ip .1) i))
-        ∙ ap (λ (t : List ℕ). set t (recordStart H d + 0) o)
-        (as-record h (st .shown) (k .front) (encodeDesk (allScreens H) (deskOf st d)) (k .back) (concat (map (encodeDesk (allScreens H)) (st .desks))) (k .is))
-        ∙ set-mid a (encodeDesk (allScreens H) (deskOf st d)) (k .back ++ rest) (recordStart H d) n 0 o (omega (arith, k .wide))
-        ∙ sym
-        (as-record h (st .shown) (k .front) (encodeDesk (allScreens H) (owe (deskOf st d) o)) (k .back) (concat (map (encodeDesk (allScreens H)) (set (st .desks) (d - 1) (owe (deskOf st d) o)))) (k .put (owe (deskOf st d) o)))
-    written-is (Retire d) e =
-        let k = at-desk d _ e in
-        ap (λ (D : Desk). putRecord H (encode H st ++ rest) d (encodeDesk (allScreens H) (retire D))) (record-decoded d k) ∙ put-record-is d (retire (deskOf st d)) k
-    written-is (Collect d) e =
-        let k = at-desk d _ e in
-        (λ i. putRecord H (encode H st ++ rest) d (encodeDesk (allScreens H) (collect (allScreens H) (decode-encode i .shown) (record-decoded d k i) .after)))
-        ∙ put-record-is d (collect (allScreens H) (st .shown) (deskOf st d) .after) k
+    after-encoded c e = by-step (c .desk) (c .step) e
+      where
+        by-step : (d : ℕ) (s : Step) → firstNo (questions H st (d sends s)) ≡ 0
+            → tableAfterStep (encode H st ++ rest) d s ≡ encode H (performStep H st d s .after) ++ rest
+        by-step d (Take c p) e =
+            let asked = take-asked H st d c p e in
+            (λ i. set (encode H st ++ rest) (screenWord H d c) (position-word-is p (asked .position .0) (asked .position .1) i))
+            ∙ screen-written d c (getD (st .held) (p - 1) 0) (asked .desk) (asked .screen)
+        by-step d (Drop c) e = let asked = drop-asked H st d c e in screen-written d c 0 (asked .desk) (asked .screen)
+        by-step d (Swap p w) e =
+            let asked = swap-asked H st d p w e in
+            let k = at-desk d (asked .desk) in
+            let ip = asked .position in
+            let h : List ℕ = set (st .held) (p - 1) w in
+            let o = getD (st .held) (p - 1) 0 in
+            let a : List ℕ = H .desks ∷ H .screens ∷ H .positions ∷ (h ++ (st .shown ++ k .front)) in
+            let n : length a ≡ recordStart H d =
+            omega
+            (arith, length-append h (st .shown ++ k .front), length-append (st .shown) (k .front), length-set (st .held) (p - 1) w, v .held, v .formed .screens, k .starts) in
+            let z : recordStart H d ≡ recordStart H d + 0 = omega arith in
+            (λ i. set (position-written p w (ip .0) (ip .1) i) (z i) (position-word-is p (ip .0) (ip .1) i))
+            ∙ ap (λ (t : List ℕ). set t (recordStart H d + 0) o)
+            (as-record h (st .shown) (k .front) (encodeDesk (allScreens H) (deskOf st d)) (k .back) (concat (map (encodeDesk (allScreens H)) (st .desks))) (k .is))
+            ∙ set-mid a (encodeDesk (allScreens H) (deskOf st d)) (k .back ++ rest) (recordStart H d) n 0 o (omega (arith, k .wide))
+            ∙ sym
+            (as-record h (st .shown) (k .front) (encodeDesk (allScreens H) (owe (deskOf st d) o)) (k .back) (concat (map (encodeDesk (allScreens H)) (set (st .desks) (d - 1) (owe (deskOf st d) o)))) (k .put (owe (deskOf st d) o)))
+        by-step d Retire e =
+            let k = at-desk d (retire-asked H st d e .desk) in
+            ap (λ (D : Desk). putRecord H (encode H st ++ rest) d (encodeDesk (allScreens H) (retire D))) (record-decoded d k)
+            ∙ put-record-is d (retire (deskOf st d)) k
+        by-step d Collect e =
+            let k = at-desk d (desk-asked H st (d sends Collect) e) in
+            (λ i. putRecord H (encode H st ++ rest) d (encodeDesk (allScreens H) (collect (allScreens H) (decode-encode i .shown) (record-decoded d k i) .after)))
+            ∙ put-record-is d (collect (allScreens H) (st .shown) (deskOf st d) .after) k
 
   pub fresh-valid : Valid H (fresh H)
   fresh-valid = record {
@@ -341,7 +347,10 @@ module _ (H : Hall) (fits : Fits H) where
 
   empty-encoded : encodeDesk (allScreens H) emptyDesk ≡ replicate (recordWidth H) 0
   unfolding encodeDesk
-  empty-encoded = replicate-append-replicate listOffset (2 * allScreens H - 0) 0 ∙ alike (listOffset + (2 * allScreens H - 0)) (recordWidth H) (omega arith)
+  empty-encoded =
+      ap (λ (l : List ℕ). replicate listOffset 0 ++ l) (replicate-append-replicate (2 * allScreens H - 0) tailWords 0)
+      ∙ replicate-append-replicate listOffset (2 * allScreens H - 0 + tailWords) 0
+      ∙ alike (listOffset + (2 * allScreens H - 0 + tailWords)) (recordWidth H) (omega arith)
 
   concat-empty : (n : ℕ) → concat (map (encodeDesk (allScreens H)) (replicate n emptyDesk)) ≡ replicate (n * recordWidth H) 0
   concat-empty zero = alike 0 (0 * recordWidth H) (omega arith)
@@ -358,7 +367,7 @@ module _ (H : Hall) (fits : Fits H) where
           sym
           (ap (λ (l : List ℕ). replicate (H .positions) 0 ++ (replicate (allScreens H) 0 ++ l)) (concat-empty (H .desks)) ∙ ap (λ (l : List ℕ). replicate (H .positions) 0 ++ l) (replicate-append-replicate (allScreens H) (H .desks * recordWidth H) 0) ∙ replicate-append-replicate (H .positions) (allScreens H + H .desks * recordWidth H) 0 ∙ alike (H .positions + (allScreens H + H .desks * recordWidth H)) (need H - headerWords) (omega arith))
 
-  pub valid-end : (cs : List Call) (st : State) → Valid H st → Valid H (end H st cs)
+  pub valid-end : (cs : List Call) (st : State) → Valid H st → Valid H (end (step H) st cs)
   valid-end [] st v = v
   valid-end (c ∷ cs) st v = valid-end cs (step H st c .after) (valid-step st c v)
 
@@ -376,43 +385,44 @@ module _ (limits : Limits) (H : Hall) (inside : inLimits limits H ≡ true) wher
         (ap (every (recordSound (allScreens H))) (records-of-encode H fits st v rest) ∙ all-sound H fits (st .desks) (v .desks)))
 
     -- a step on the table is the step of the rules
-    pub table-step : (c : Call)
-        → stepTable limits (encode H st ++ rest) c ≡ record { answer = step H st c .answer; after = encode H (step H st c .after) ++ rest }
+    pub table-step : (c : Call) → stepTable limits (encode H st ++ rest) c ≡ record { answer = step H st c .answer; after = encode H (step H st c .after) ++ rest }
     unfolding stepTable
     table-step c =
-        ap (λ (b : Bool). stepIf b (encode H st ++ rest) c) encode-is-sound ∙ ap (λ (s : State). told s) (decode-encode H fits st v rest) ∙ by-cases (firstNo (questions H st c)) refl
+        ap (λ (b : Bool). stepIf b (encode H st ++ rest) c) encode-is-sound ∙ ap result (decode-encode H fits st v rest)
+        ∙ by-number (firstNo (questions H st c)) refl
       where
-        told : State → TableDone
-        told s =
-            let r = step H s c in
-            record { answer = r .answer; after = cond (eqb (r .answer .number) 0) (written (encode H st ++ rest) c) (encode H st ++ rest) }
+        result : State → Result (List ℕ)
+        result s = decide (firstNo (questions H s c)) (encode H st ++ rest) (perform H s c .session) (tableAfter (encode H st ++ rest) c)
 
-        by-cases : (n : ℕ) → firstNo (questions H st c) ≡ n
-            → _≡_ {A = TableDone} (let r = decide n st (perform H st c) in record { answer = r .answer; after = cond (eqb (r .answer .number) 0) (written (encode H st ++ rest) c) (encode H st ++ rest) }) (record { answer = decide n st (perform H st c) .answer; after = encode H (decide n st (perform H st c) .after) ++ rest })
-        by-cases zero e = λ i. record { answer = record { number = 0; session = perform H st c .session }; after = written-is H fits st v rest c e i }
-        by-cases (suc n) e =
-            λ i. record { answer = record { number = suc n; session = 0 }; after = cond (eqb·suc-zero n i) (written (encode H st ++ rest) c) (encode H st ++ rest) }
+        by-number : (n : ℕ) → firstNo (questions H st c) ≡ n
+            → let outcome = perform H st c in
+            let r = decide n st (outcome .session) (outcome .after) in
+            decide n (encode H st ++ rest) (outcome .session) (tableAfter (encode H st ++ rest) c)
+            ≡ record { answer = r .answer; after = encode H (r .after) ++ rest }
+        by-number zero e = λ i. accept (perform H st c .session) (after-encoded H fits st v rest c e i)
+        by-number (suc n) e = refl
 
-  pub table-run : (cs : List Call) (st : State) → Valid H st → (rest : List ℕ) → runTable limits (encode H st ++ rest) cs ≡ run H st cs
+  pub table-run : (cs : List Call) (st : State) → Valid H st → (rest : List ℕ) → run (stepTable limits) (encode H st ++ rest) cs ≡ run (step H) st cs
   table-run [] st v rest = refl
   table-run (c ∷ cs) st v rest =
-      ap (λ (r : TableDone). more r) (table-step st v rest c)
+      ap (λ (r : Result (List ℕ)). more r) (table-step st v rest c)
       ∙ ap {B = List Event} (λ es. record { call = c; answer = step H st c .answer } ∷ es) (table-run cs (step H st c .after) (valid-step H fits st c v) rest)
     where
-      more : TableDone → List Event
-      more r = record { call = c; answer = r .answer } ∷ runTable limits (r .after) cs
+      more : Result (List ℕ) → List Event
+      more r = record { call = c; answer = r .answer } ∷ run (stepTable limits) (r .after) cs
 
-  pub table-end : (cs : List Call) (st : State) → Valid H st → (rest : List ℕ) → endTable limits (encode H st ++ rest) cs ≡ encode H (end H st cs) ++ rest
+  pub table-end : (cs : List Call) (st : State) → Valid H st → (rest : List ℕ)
+      → end (stepTable limits) (encode H st ++ rest) cs ≡ encode H (end (step H) st cs) ++ rest
   table-end [] st v rest = refl
   table-end (c ∷ cs) st v rest =
-      ap (λ (r : TableDone). endTable limits (r .after) cs) (table-step st v rest c) ∙ table-end cs (step H st c .after) (valid-step H fits st c v) rest
+      ap (λ (r : Result (List ℕ)). end (stepTable limits) (r .after) cs) (table-step st v rest c) ∙ table-end cs (step H st c .after) (valid-step H fits st c v) rest
 
   -- The table stays sound: no step from an opening on is answered 5.
-  pub sound-table : (t : List ℕ) (cs : List Call) → sound limits (endTable limits (openedTable H t) cs) ≡ true
+  pub sound-table : (t : List ℕ) (cs : List Call) → sound limits (end (stepTable limits) (openedTable H t) cs) ≡ true
   sound-table t cs =
       let start = fresh-valid H fits in
       rw (opened-is-fresh H fits t, table-end cs (fresh H) start (drop (need H) t))
-      (encode-is-sound (end H (fresh H) cs) (valid-end H fits cs (fresh H) start) (drop (need H) t))
+      (encode-is-sound (end (step H) (fresh H) cs) (valid-end H fits cs (fresh H) start) (drop (need H) t))
 
 -- What an accepted opening asked of its hall and its table.
 pub hall-opens : (limits : Limits) (H : Hall) (t : List ℕ) → firstNo (openQuestions limits H t) ≡ 0 → (inLimits limits H ≡ true) × (need H ≤ length t)

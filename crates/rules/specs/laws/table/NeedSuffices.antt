@@ -11,15 +11,13 @@ use lib.Dec.{leb}
 use borrow.Author.Tests.{le-leb}
 use Rattle.rules.specs.Hall.{Hall, Limits, State, allScreens, maxAllScreens, maxDesks}
 use Rattle.rules.specs.Lists.{chunks, every}
-use Rattle.rules.specs.Steps.{Call, Collect, Drop, Retire, Swap, Take, collect, firstNo, perform, questions, retire}
-use Rattle.rules.specs.Table.{TableDone, decode, decodeDesk, encodeDesk, hallIn, headerWords, inLimits, maxWords, need, openQuestions, openTable}
-use Rattle.rules.specs.Table.{openedTable, positionWord, putRecord, recordOf, recordSound, recordStart, recordWidth, recordsIn, screenWord, sound}
-use Rattle.rules.specs.Table.{stepTable, widthFor, written}
+use Rattle.rules.specs.Steps.{Call, Collect, Drop, Retire, Swap, Take, collect, firstNo, perform, questions, retire, Result, Step, _sends_, accept}
+use Rattle.rules.specs.Table.{decode, decodeDesk, encodeDesk, hallIn, headerWords, inLimits, maxWords, need, openQuestions, openTable, openedTable, tableAfter, tableAfterStep}
+use Rattle.rules.specs.Table.{positionWord, putRecord, recordOf, recordSound, recordStart, recordWidth, recordsIn, screenWord, sound, stepTable, widthFor}
 use Rattle.rules.specs.laws.history.ScreenIndex.{screen-in}
-use Rattle.rules.specs.laws.history.StepEffects.{Formed, desk-fact, drop-facts, position-asked, swap-facts, swap-position-asked, take-facts}
-use Rattle.rules.specs.laws.table.DecodeStepEncode.{valid}
 use Rattle.rules.specs.laws.table.EncodedStep.{Fits}
 use Rattle.rules.specs.laws.table.TableSteps.{accepted-open, accepted-step, asked, known, refused-open, refused-step, unsound-step}
+use Rattle.rules.specs.laws.history.StepEffects.{take-asked, drop-asked, swap-asked, desk-asked}
 
 pub need-at-most : (H : Hall) → Fits H → need H ≤ maxWords
 need-at-most H o =
@@ -45,20 +43,20 @@ long-before a b H far =
     le-leb (need H) (length (a ++ b)) (omega (arith, far, length-append a b)) ∙ sym (le-leb (need H) (length a) far)
 
 -- what an accepted step writes, with the hall beside the table
-abbrev writtenIn : Hall → List ℕ → Call → List ℕ
-writtenIn H t (Take d c p) = set t (screenWord H d c) (getD t (positionWord p) 0)
-writtenIn H t (Drop d c) = set t (screenWord H d c) 0
-writtenIn H t (Swap d p v) = set (set t (positionWord p) v) (recordStart H d) (getD t (positionWord p) 0)
-writtenIn H t (Retire d) = putRecord H t d (encodeDesk (allScreens H) (retire (decodeDesk (recordOf H t d))))
-writtenIn H t (Collect d) =
-    putRecord H t d (encodeDesk (allScreens H) (collect (allScreens H) (decode H t .shown) (decodeDesk (recordOf H t d)) .after))
+abbrev afterIn : Hall → List ℕ → ℕ → Step → List ℕ
+afterIn H t d (Take c p) = set t (screenWord H d c) (getD t (positionWord p) 0)
+afterIn H t d (Drop c) = set t (screenWord H d c) 0
+afterIn H t d (Swap p v) = set (set t (positionWord p) v) (recordStart H d) (getD t (positionWord p) 0)
+afterIn H t d Retire = putRecord H t d (encodeDesk (allScreens H) (retire (decodeDesk (allScreens H) (recordOf H t d))))
+afterIn H t d Collect =
+    putRecord H t d (encodeDesk (allScreens H) (collect (allScreens H) (decode H t .shown) (decodeDesk (allScreens H) (recordOf H t d)) .after))
 
-written-is-in : (t : List ℕ) (c : Call) → written t c ≡ writtenIn (hallIn t) t c
-written-is-in t (Take d c p) = refl
-written-is-in t (Drop d c) = refl
-written-is-in t (Swap d p v) = refl
-written-is-in t (Retire d) = refl
-written-is-in t (Collect d) = refl
+after-is-in : (t : List ℕ) (d : ℕ) (s : Step) → tableAfterStep t d s ≡ afterIn (hallIn t) t d s
+after-is-in t d (Take c p) = refl
+after-is-in t d (Drop c) = refl
+after-is-in t d (Swap p v) = refl
+after-is-in t d Retire = refl
+after-is-in t d Collect = refl
 
 module _ (a b : List ℕ) (three : headerWords ≤ length a) where
   hall-same : hallIn (a ++ b) ≡ hallIn a
@@ -91,7 +89,7 @@ module _ (a b : List ℕ) (three : headerWords ≤ length a) where
           held =
               (ap (take (H .positions)) (drop-append-left headerWords a b (omega (arith, far))) ∙ take-append-le (H .positions) (drop headerWords a) b (omega (arith, far))) i;
           shown = (ap (take (allScreens H)) past-header ∙ take-append-le (allScreens H) (drop (H .positions) (drop headerWords a)) b (omega (arith, far))) i;
-          desks = map decodeDesk (records-same i);
+          desks = map (decodeDesk (allScreens H)) (records-same i);
         }
 
     -- the record of a desk of the hall
@@ -122,32 +120,30 @@ module _ (a b : List ℕ) (three : headerWords ≤ length a) where
     set-same : (t : List ℕ) (i v : ℕ) → length t ≡ length a → i < need H → set (t ++ b) i v ≡ set t i v ++ b
     set-same t i v l h = set-append-left t b i v (omega (arith, far))
 
-    written-before : (st : State) → Formed H st → (c : Call) → firstNo (questions H st c) ≡ 0 → writtenIn H (a ++ b) c ≡ writtenIn H a c ++ b
-    written-before st formed (Take d c p) e =
-        let f = take-facts H st d c p e in
-        let at-most = position-asked H st d c p e in
-        let screen = screen-in H d c (f .0) (f .1) (f .2) (f .3) in
-        ap (set (a ++ b) (screenWord H d c)) (word-same (positionWord p) (omega (arith, f .4)))
+    after-before : (st : State) (d : ℕ) (s : Step) → firstNo (questions H st (d sends s)) ≡ 0 → afterIn H (a ++ b) d s ≡ afterIn H a d s ++ b
+    after-before st d (Take c p) e =
+        let f = take-asked H st d c p e in
+        let screen = screen-in H d c (f .desk .0) (f .desk .1) (f .screen .0) (f .screen .1) in
+        ap (set (a ++ b) (screenWord H d c)) (word-same (positionWord p) (omega (arith, f .position)))
         ∙ set-same a (screenWord H d c) (getD a (positionWord p) 0) refl (omega arith)
-    written-before st formed (Drop d c) e =
-        let f = drop-facts H st d c e in
-        let screen = screen-in H d c (f .0) (f .1) (f .2) (f .3) in
+    after-before st d (Drop c) e =
+        let f = drop-asked H st d c e in
+        let screen = screen-in H d c (f .desk .0) (f .desk .1) (f .screen .0) (f .screen .1) in
         set-same a (screenWord H d c) 0 refl (omega arith)
-    written-before st formed (Swap d p v) e =
-        let f = swap-facts H st d p v e in
-        let at-most = swap-position-asked H st d p v e in
-        let room = fits d (f .0, f .1) in
-        let m : suc (d - 1) * recordWidth H ≤ H .desks * recordWidth H = mul-le-mul-right (recordWidth H) (omega arith) in
-        (λ i. set (set-same a (positionWord p) v refl (omega (arith, f .2)) i) (recordStart H d) (word-same (positionWord p) (omega (arith, f .2)) i))
-        ∙ set-same (set a (positionWord p) v) (recordStart H d) (getD a (positionWord p) 0) (length-set a (positionWord p) v) (omega arith)
-    written-before st formed (Retire d) e =
-        let r = desk-fact H st d _ e in
-        ap (λ (words : List ℕ). putRecord H (a ++ b) d (encodeDesk (allScreens H) (retire (decodeDesk words)))) (record-same d r)
-        ∙ put-same-rest d r (encodeDesk (allScreens H) (retire (decodeDesk (recordOf H a d))))
-    written-before st formed (Collect d) e =
-        let r = desk-fact H st d _ e in
-        (λ i. putRecord H (a ++ b) d (encodeDesk (allScreens H) (collect (allScreens H) (decode-same i .shown) (decodeDesk (record-same d r i)) .after)))
-        ∙ put-same-rest d r (encodeDesk (allScreens H) (collect (allScreens H) (decode H a .shown) (decodeDesk (recordOf H a d)) .after))
+    after-before st d (Swap p v) e =
+        let f = swap-asked H st d p v e in
+        let room = fits d (f .desk) in
+        let m : suc (d - 1) * recordWidth H ≤ H .desks * recordWidth H = mul-le-mul-right (recordWidth H) (omega (arith, f .desk)) in
+        (λ i. set (set-same a (positionWord p) v refl (omega (arith, f .position)) i) (recordStart H d) (word-same (positionWord p) (omega (arith, f .position)) i))
+        ∙ set-same (set a (positionWord p) v) (recordStart H d) (getD a (positionWord p) 0) (length-set a (positionWord p) v) (omega (arith, f .desk))
+    after-before st d Retire e =
+        let r = desk-asked H st (d sends Retire) e in
+        ap (λ (words : List ℕ). putRecord H (a ++ b) d (encodeDesk (allScreens H) (retire (decodeDesk (allScreens H) words)))) (record-same d r)
+        ∙ put-same-rest d r (encodeDesk (allScreens H) (retire (decodeDesk (allScreens H) (recordOf H a d))))
+    after-before st d Collect e =
+        let r = desk-asked H st (d sends Collect) e in
+        (λ i. putRecord H (a ++ b) d (encodeDesk (allScreens H) (collect (allScreens H) (decode-same i .shown) (decodeDesk (allScreens H) (record-same d r i)) .after)))
+        ∙ put-same-rest d r (encodeDesk (allScreens H) (collect (allScreens H) (decode H a .shown) (decodeDesk (allScreens H) (recordOf H a d)) .after))
 
 -- ---- Soundness does not look past the need.
 module _ (limits : Limits) (a b : List ℕ) (three : headerWords ≤ length a) (enough : inLimits limits (hallIn a) ≡ true → need (hallIn a) ≤ length a) where
@@ -168,11 +164,11 @@ module _ (limits : Limits) (a b : List ℕ) (three : headerWords ≤ length a) (
   pub step-append : (c : Call) → stepTable limits (a ++ b) c ≡ record { answer = stepTable limits a c .answer; after = stepTable limits a c .after ++ b }
   step-append c = by-sound (sound limits a) refl
     where
-      done : TableDone → TableDone
-      done r = record { answer = r .answer; after = r .after ++ b }
+      followed : Result (List ℕ) → Result (List ℕ)
+      followed r = record { answer = r .answer; after = r .after ++ b }
 
-      by-sound : (x : Bool) → sound limits a ≡ x → stepTable limits (a ++ b) c ≡ done (stepTable limits a c)
-      by-sound false s = unsound-step limits (a ++ b) c (sound-same ∙ s) ∙ sym (ap done (unsound-step limits a c s))
+      by-sound : (x : Bool) → sound limits a ≡ x → stepTable limits (a ++ b) c ≡ followed (stepTable limits a c)
+      by-sound false s = unsound-step limits (a ++ b) c (sound-same ∙ s) ∙ sym (ap followed (unsound-step limits a c s))
       by-sound true s = by-number (asked a c) refl
         where
           far : need (hallIn a) ≤ length a
@@ -189,27 +185,27 @@ module _ (limits : Limits) (a b : List ℕ) (three : headerWords ≤ length a) (
               ap (λ (H : Hall). firstNo (questions H (decode H (a ++ b)) c)) (hall-same a b three)
               ∙ ap (λ (st : State). firstNo (questions (hallIn a) st c)) (decode-same a b three (hallIn a) far)
 
-          written-same : asked a c ≡ 0 → written (a ++ b) c ≡ written a c ++ b
-          written-same q =
-              written-is-in (a ++ b) c ∙ ap (λ (H : Hall). writtenIn H (a ++ b) c) (hall-same a b three)
-              ∙ written-before a b three (hallIn a) far (decode (hallIn a) a) (valid a (known limits a s) .formed) c q
-              ∙ ap (λ (l : List ℕ). l ++ b) (sym (written-is-in a c))
+          after-same : asked a c ≡ 0 → tableAfter (a ++ b) c ≡ tableAfter a c ++ b
+          after-same q =
+              after-is-in (a ++ b) (c .desk) (c .step) ∙ ap (λ (H : Hall). afterIn H (a ++ b) (c .desk) (c .step)) (hall-same a b three)
+              ∙ after-before a b three (hallIn a) far (decode (hallIn a) a) (c .desk) (c .step) q
+              ∙ ap (λ (l : List ℕ). l ++ b) (sym (after-is-in a (c .desk) (c .step)))
 
-          by-number : (n : ℕ) → asked a c ≡ n → stepTable limits (a ++ b) c ≡ done (stepTable limits a c)
+          by-number : (n : ℕ) → asked a c ≡ n → stepTable limits (a ++ b) c ≡ followed (stepTable limits a c)
           by-number zero q =
               accepted-step limits (a ++ b) c (sound-same ∙ s) (asked-same ∙ q)
-              ∙ (λ i. record { answer = record { number = 0; session = outcome-same i }; after = written-same q i })
-              ∙ sym (ap done (accepted-step limits a c s q))
+              ∙ (λ i. accept (outcome-same i) (after-same q i))
+              ∙ sym (ap followed (accepted-step limits a c s q))
           by-number (suc n) q =
-              refused-step limits (a ++ b) c n (sound-same ∙ s) (asked-same ∙ q) ∙ sym (ap done (refused-step limits a c n s q))
+              refused-step limits (a ++ b) c n (sound-same ∙ s) (asked-same ∙ q) ∙ sym (ap followed (refused-step limits a c n s q))
 
 -- ---- The opening.
 module _ (limits : Limits) (H : Hall) (a b : List ℕ) (far : need H ≤ length a) where
   pub open-append : openTable limits H (a ++ b) ≡ record { answer = openTable limits H a .answer; after = openTable limits H a .after ++ b }
   open-append = by-number (firstNo (openQuestions limits H a)) refl
     where
-      done : TableDone → TableDone
-      done r = record { answer = r .answer; after = r .after ++ b }
+      followed : Result (List ℕ) → Result (List ℕ)
+      followed r = record { answer = r .answer; after = r .after ++ b }
 
       same : firstNo (openQuestions limits H (a ++ b)) ≡ firstNo (openQuestions limits H a)
       same = rw (long-before a b H far)
@@ -219,9 +215,9 @@ module _ (limits : Limits) (H : Hall) (a b : List ℕ) (far : need H ≤ length 
           let front : List ℕ = H .desks ∷ H .screens ∷ H .positions ∷ replicate (need H - headerWords) 0 in
           ap (λ (l : List ℕ). front ++ l) (drop-append-left (need H) a b far) ∙ sym (append-assoc front (drop (need H) a) b)
 
-      by-number : (n : ℕ) → firstNo (openQuestions limits H a) ≡ n → openTable limits H (a ++ b) ≡ done (openTable limits H a)
+      by-number : (n : ℕ) → firstNo (openQuestions limits H a) ≡ n → openTable limits H (a ++ b) ≡ followed (openTable limits H a)
       by-number zero q =
           accepted-open limits H (a ++ b) (same ∙ q)
-          ∙ (λ i. record { answer = record { number = 0; session = 0 }; after = opened-append i })
-          ∙ sym (ap done (accepted-open limits H a q))
-      by-number (suc n) q = refused-open limits H (a ++ b) n (same ∙ q) ∙ sym (ap done (refused-open limits H a n q))
+          ∙ (λ i. accept 0 (opened-append i))
+          ∙ sym (ap followed (accepted-open limits H a q))
+      by-number (suc n) q = refused-open limits H (a ++ b) n (same ∙ q) ∙ sym (ap followed (refused-open limits H a n q))

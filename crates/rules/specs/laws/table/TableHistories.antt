@@ -11,12 +11,12 @@ use Rattle.rules.specs.Demands.{Demand2, Demand3, HandedBackWithin, coun
 use Rattle.rules.specs.Hall.{Desk, Hall, Limits, allScreens, deskOf, fresh, usedSlots}
 use Rattle.rules.specs.History.{handBacks, handBacksOf, isHandBack, isHandBackOf, isRetirement, isRetirementOf, retirements, retirementsOf}
 use Rattle.rules.specs.Lists.{occurrences}
-use Rattle.rules.specs.Steps.{Call, Event, end, firstNo, inRange, run}
-use Rattle.rules.specs.Table.{encode, encodeDesk, endTable, inLimits, listIn, listOf, need, openIf, openQuestions, openTable, openedTable, recordOf}
-use Rattle.rules.specs.Table.{runTable, usedIn}
+use Rattle.rules.specs.Steps.{Call, Event, decide, end, firstNo, inRange, run, step}
+use Rattle.rules.specs.Table.{encode, encodeDesk, inLimits, listOf, need, openQuestions, openTable, openedTable, recordOf, slotsIn, stepTable, usedIn}
 use Rattle.rules.specs.laws.desk.Collect.{copiesOn}
-use Rattle.rules.specs.laws.desk.Sound.{length-list, occurrences-list}
-use Rattle.rules.specs.laws.history.Demand3.{back-in-time, list-bound, never-lacks-room, on-list, three-is-enough}
+use Rattle.rules.specs.laws.desk.Encoding.{length-list, slots-read-back}
+use Rattle.rules.specs.laws.desk.Sound.{occurrences-list}
+use Rattle.rules.specs.laws.history.Demand3.{back-in-time, list-bound, never-out-of-room, on-list, three-is-enough}
 use Rattle.rules.specs.laws.history.DeskInvariants.{copies-run, sound-run}
 use Rattle.rules.specs.laws.history.InitialState.{fresh-copies, fresh-formed, fresh-sound}
 use Rattle.rules.specs.laws.history.RunSplitting.{no-session-zero, outsider-counts, run-take}
@@ -30,21 +30,21 @@ use Rattle.rules.specs.laws.table.EncodedStep.{valid-end}
 pub opening-asks : (limits : Limits) (H : Hall) (t : List ℕ) → openTable limits H t .answer .number ≡ 0
     → (firstNo (openQuestions limits H t) ≡ 0) × (openTable limits H t .after ≡ openedTable H t)
 unfolding openTable
-opening-asks limits H t ok = by-cases (firstNo (openQuestions limits H t)) refl ok
+opening-asks limits H t ok = by-number (firstNo (openQuestions limits H t)) refl ok
   where
-    by-cases : (n : ℕ) → firstNo (openQuestions limits H t) ≡ n → openIf n H t .answer .number ≡ 0
-        → (firstNo (openQuestions limits H t) ≡ 0) × (openIf n H t .after ≡ openedTable H t)
-    by-cases zero e z = (e, refl)
-    by-cases (suc n) e z = absurd (omega arith)
+    by-number : (n : ℕ) → firstNo (openQuestions limits H t) ≡ n → decide n t 0 (openedTable H t) .answer .number ≡ 0
+        → (firstNo (openQuestions limits H t) ≡ 0) × (decide n t 0 (openedTable H t) .after ≡ openedTable H t)
+    by-number zero e z = (e, refl)
+    by-number (suc n) e z = absurd (omega arith)
 
 -- ---- A desk's list and counts, as they stand in its record.
 pub counts-encoded : (S : ℕ) (D : Desk) → usedIn (encodeDesk S D) ≡ usedSlots D
 unfolding encodeDesk
 counts-encoded S D = refl
 
-list-encoded : (S : ℕ) (D : Desk) → take (usedIn (encodeDesk S D)) (listIn (encodeDesk S D)) ≡ listOf D
-unfolding encodeDesk
-list-encoded S D = take-at (listOf D) (replicate (2 * S - length (listOf D)) 0) (usedSlots D) (length-list D)
+list-encoded : (S : ℕ) (D : Desk) → usedSlots D ≤ 2 * S → take (usedIn (encodeDesk S D)) (slotsIn S (encodeDesk S D)) ≡ listOf D
+list-encoded S D room =
+    (λ i. take (counts-encoded S D i) (slots-read-back S D room i)) ∙ take-at (listOf D) (replicate (2 * S - length (listOf D)) 0) (usedSlots D) (length-list D)
 
 module _ (limits : Limits) (H : Hall) (inside : inLimits limits H ≡ true) (t : List ℕ) (cs : List Call) where
   abbrev fits : Fits H
@@ -53,57 +53,59 @@ module _ (limits : Limits) (H : Hall) (inside : inLimits limits H ≡ true) (t :
   some : 1 ≤ allScreens H
   some = some-screens H fits
 
-  run-is : runTable limits (openedTable H t) cs ≡ run H (fresh H) cs
+  run-is : run (stepTable limits) (openedTable H t) cs ≡ run (step H) (fresh H) cs
   run-is = rw (opened-is-fresh H fits t) (table-run limits H inside cs (fresh H) (fresh-valid H fits) (drop (need H) t))
 
-  end-is : (i : ℕ) → endTable limits (openedTable H t) (take i cs) ≡ encode H (end H (fresh H) (take i cs)) ++ drop (need H) t
+  end-is : (i : ℕ) → end (stepTable limits) (openedTable H t) (take i cs) ≡ encode H (end (step H) (fresh H) (take i cs)) ++ drop (need H) t
   end-is i = rw (opened-is-fresh H fits t) (table-end limits H inside (take i cs) (fresh H) (fresh-valid H fits) (drop (need H) t))
 
-  valid : (i : ℕ) → Valid H (end H (fresh H) (take i cs))
+  valid : (i : ℕ) → Valid H (end (step H) (fresh H) (take i cs))
   valid i = valid-end H fits (take i cs) (fresh H) (fresh-valid H fits)
 
   -- the record of desk d after the first i calls
   record-after : (i d : ℕ) → (1 ≤ d) × (d ≤ H .desks)
-      → recordOf H (endTable limits (openedTable H t) (take i cs)) d ≡ encodeDesk (allScreens H) (deskOf (end H (fresh H) (take i cs)) d)
+      → recordOf H (end (stepTable limits) (openedTable H t) (take i cs)) d ≡ encodeDesk (allScreens H) (deskOf (end (step H) (fresh H) (take i cs)) d)
   record-after i d r =
-      ap (λ (l : List ℕ). recordOf H l d) (end-is i) ∙ desk-record H fits (end H (fresh H) (take i cs)) (valid i) (drop (need H) t) d (r .0) (r .1)
+      ap (λ (l : List ℕ). recordOf H l d) (end-is i) ∙ desk-record H fits (end (step H) (fresh H) (take i cs)) (valid i) (drop (need H) t) d r
 
   counts-after : (d i : ℕ)
-      → retirements d (take i (run H (fresh H) cs)) ≡ handBacks d (take i (run H (fresh H) cs)) + countsOfDesk H (endTable limits (openedTable H t) (take i cs)) d
-  counts-after d i = rw (run-take H i cs (fresh H)) (by-cases (inRange d (H .desks)) refl)
+      → retirements d (take i (run (step H) (fresh H) cs)) ≡ handBacks d (take i (run (step H) (fresh H) cs)) + countsOfDesk H (end (stepTable limits) (openedTable H t) (take i cs)) d
+  counts-after d i = rw (run-take (step H) i cs (fresh H)) (by-cases (inRange d (H .desks)) refl)
     where
       by-cases : (b : Bool) → inRange d (H .desks) ≡ b
-          → retirements d (run H (fresh H) (take i cs)) ≡ handBacks d (run H (fresh H) (take i cs)) + cond b (usedIn (recordOf H (endTable limits (openedTable H t) (take i cs)) d)) 0
+          → retirements d (run (step H) (fresh H) (take i cs)) ≡ handBacks d (run (step H) (fresh H) (take i cs)) + cond b (usedIn (recordOf H (end (stepTable limits) (openedTable H t) (take i cs)) d)) 0
       by-cases true q =
           let r = in-range d (H .desks) q in
           on-list H some (take i cs) d (r .0)
-          ∙ ap (λ (n : ℕ). handBacks d (run H (fresh H) (take i cs)) + n)
-          (sym (ap usedIn (record-after i d r) ∙ counts-encoded (allScreens H) (deskOf (end H (fresh H) (take i cs)) d)))
+          ∙ ap (λ (n : ℕ). handBacks d (run (step H) (fresh H) (take i cs)) + n)
+          (sym (ap usedIn (record-after i d r) ∙ counts-encoded (allScreens H) (deskOf (end (step H) (fresh H) (take i cs)) d)))
       by-cases false q =
           omega
           (arith, outsider-counts H d (out-of-range d (H .desks) q) isRetirement refl (take i cs) (fresh H), outsider-counts H d (out-of-range d (H .desks) q) isHandBack refl (take i cs) (fresh H))
 
-  list-after : (d i : ℕ) → retirements d (take i (run H (fresh H) cs)) ≤ handBacks d (take i (run H (fresh H) cs)) + 2 * allScreens H
-  list-after d i = rw (run-take H i cs (fresh H)) (by-cases (inRange d (H .desks)) refl)
+  list-after : (d i : ℕ) → retirements d (take i (run (step H) (fresh H) cs)) ≤ handBacks d (take i (run (step H) (fresh H) cs)) + 2 * allScreens H
+  list-after d i = rw (run-take (step H) i cs (fresh H)) (by-cases (inRange d (H .desks)) refl)
     where
       by-cases : (b : Bool) → inRange d (H .desks) ≡ b
-          → retirements d (run H (fresh H) (take i cs)) ≤ handBacks d (run H (fresh H) (take i cs)) + 2 * allScreens H
+          → retirements d (run (step H) (fresh H) (take i cs)) ≤ handBacks d (run (step H) (fresh H) (take i cs)) + 2 * allScreens H
       by-cases true q = list-bound H some (take i cs) d (in-range d (H .desks) q .0)
       by-cases false q = omega (arith, outsider-counts H d (out-of-range d (H .desks) q) isRetirement refl (take i cs) (fresh H))
 
   copies-after : (d s i : ℕ)
-      → retirementsOf d s (take i (run H (fresh H) cs)) ≡ handBacksOf d s (take i (run H (fresh H) cs)) + occurrences s (listOfDesk H (endTable limits (openedTable H t) (take i cs)) d)
-  copies-after d s i = rw (run-take H i cs (fresh H)) (by-cases (inRange d (H .desks)) refl (ℕ-discrete s 0))
+      → retirementsOf d s (take i (run (step H) (fresh H) cs)) ≡ handBacksOf d s (take i (run (step H) (fresh H) cs)) + occurrences s (listOfDesk H (end (stepTable limits) (openedTable H t) (take i cs)) d)
+  copies-after d s i = rw (run-take (step H) i cs (fresh H)) (by-cases (inRange d (H .desks)) refl (ℕ-discrete s 0))
     where
       listed : (1 ≤ d) × (d ≤ H .desks)
-          → occurrences s (let words = recordOf H (endTable limits (openedTable H t) (take i cs)) d in take (usedIn words) (listIn words)) ≡ copiesOn s (deskOf (end H (fresh H) (take i cs)) d)
+          → occurrences s (let words = recordOf H (end (stepTable limits) (openedTable H t) (take i cs)) d in take (usedIn words) (slotsIn (allScreens H) words)) ≡ copiesOn s (deskOf (end (step H) (fresh H) (take i cs)) d)
       listed r =
-          ap (λ (words : List ℕ). occurrences s (take (usedIn words) (listIn words))) (record-after i d r)
-          ∙ ap (occurrences s) (list-encoded (allScreens H) (deskOf (end H (fresh H) (take i cs)) d))
-          ∙ occurrences-list s (deskOf (end H (fresh H) (take i cs)) d)
+          ap (λ (words : List ℕ). occurrences s (take (usedIn words) (slotsIn (allScreens H) words))) (record-after i d r)
+          ∙ ap (occurrences s)
+          (list-encoded (allScreens H) (deskOf (end (step H) (fresh H) (take i cs)) d)
+          (sound-run H d some (r .0) (take i cs) (fresh H) (fresh-formed H) (fresh-sound H d) .total))
+          ∙ occurrences-list s (deskOf (end (step H) (fresh H) (take i cs)) d)
 
       by-cases : (b : Bool) → inRange d (H .desks) ≡ b → Dec (s ≡ 0)
-          → retirementsOf d s (run H (fresh H) (take i cs)) ≡ handBacksOf d s (run H (fresh H) (take i cs)) + occurrences s (cond b (let words = recordOf H (endTable limits (openedTable H t) (take i cs)) d in take (usedIn words) (listIn words)) [])
+          → retirementsOf d s (run (step H) (fresh H) (take i cs)) ≡ handBacksOf d s (run (step H) (fresh H) (take i cs)) + occurrences s (cond b (let words = recordOf H (end (stepTable limits) (openedTable H t) (take i cs)) d in take (usedIn words) (slotsIn (allScreens H) words)) [])
       by-cases true q (yes z) =
           let r = in-range d (H .desks) q in
           let real = sound-run H d some (r .0) (take i cs) (fresh H) (fresh-formed H) (fresh-sound H d) .real in
@@ -118,15 +120,15 @@ module _ (limits : Limits) (H : Hall) (inside : inLimits limits H ≡ true) (t :
           omega
           (arith, outsider-counts H d (out-of-range d (H .desks) q) (isRetirementOf s) refl (take i cs) (fresh H), outsider-counts H d (out-of-range d (H .desks) q) (isHandBackOf s) refl (take i cs) (fresh H))
 
-  pub demand2-opened : Demand2 H (runTable limits (openedTable H t) cs) (λ i. endTable limits (openedTable H t) (take i cs))
+  pub demand2-opened : Demand2 H (run (stepTable limits) (openedTable H t) cs) (λ i. end (stepTable limits) (openedTable H t) (take i cs))
   demand2-opened =
-      subst (λ (history : List Event). Demand2 H history (λ i. endTable limits (openedTable H t) (take i cs))) (sym run-is)
+      subst (λ (history : List Event). Demand2 H history (λ i. end (stepTable limits) (openedTable H t) (take i cs))) (sym run-is)
       (record { guarantee = guaranteed H some cs; sessions = same-session H cs (fresh H) (fresh-formed H); counts = copies-after })
 
-  pub demand3-opened : Demand3 H (runTable limits (openedTable H t) cs) (λ i. endTable limits (openedTable H t) (take i cs))
+  pub demand3-opened : Demand3 H (run (stepTable limits) (openedTable H t) cs) (λ i. end (stepTable limits) (openedTable H t) (take i cs))
   demand3-opened =
-      subst (λ (history : List Event). Demand3 H history (λ i. endTable limits (openedTable H t) (take i cs))) (sym run-is)
-      (record { room = never-lacks-room H some cs; list = list-after; counts = counts-after; back = back-in-time H some cs (3 * allScreens H) (three-is-enough (allScreens H) some) })
+      subst (λ (history : List Event). Demand3 H history (λ i. end (stepTable limits) (openedTable H t) (take i cs))) (sym run-is)
+      (record { room = never-out-of-room H some cs; list = list-after; counts = counts-after; back = back-in-time H some cs (3 * allScreens H) (three-is-enough (allScreens H) some) })
 
-  pub back-opened : HandedBackWithin (sharperBound (allScreens H)) (runTable limits (openedTable H t) cs)
+  pub back-opened : HandedBackWithin (sharperBound (allScreens H)) (run (stepTable limits) (openedTable H t) cs)
   back-opened = subst (HandedBackWithin (sharperBound (allScreens H))) (sym run-is) (back-in-time H some cs (sharperBound (allScreens H)) (omega arith))

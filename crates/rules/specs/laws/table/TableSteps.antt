@@ -11,9 +11,9 @@ use lib.Dec.{leb, eqb, eqb·suc-zero, T}
 use borrow.Author.Tests.{leb-true}
 use Rattle.rules.specs.Hall.{Desk, Hall, Limits, TestedSlot, allScreens, deskOf, emptyDesk, maxAllScreens, screenIndex}
 use Rattle.rules.specs.Lists.{chunks, every}
-use Rattle.rules.specs.Steps.{Call, beginAt, collect, collectSeeing, decide, firstNo, perform, questions}
-use Rattle.rules.specs.Table.{TableDone, decode, decodeDesk, hallIn, headerWords, inLimits, need, openIf, openQuestions, openTable, openedTable}
-use Rattle.rules.specs.Table.{positionWord, recordOf, recordSound, recordStart, recordWidth, recordsIn, screenWord, sound, stepIf, stepTable, written}
+use Rattle.rules.specs.Steps.{Call, accept, beginAt, collect, collectSeeing, decide, firstNo, perform, questions, refuse}
+use Rattle.rules.specs.Table.{decode, decodeDesk, hallIn, headerWords, inLimits, need, openQuestions, openTable, openedTable, positionWord, recordOf}
+use Rattle.rules.specs.Table.{recordSound, recordStart, recordWidth, recordsIn, screenWord, sound, stepIf, stepTable, tableAfter}
 use Rattle.rules.specs.laws.history.ScreenIndex.{screen-in}
 use Rattle.rules.specs.laws.lists.Bools.{and-left, and-right}
 use Rattle.rules.specs.laws.table.EncodedStep.{Fits, limits-fit}
@@ -22,35 +22,25 @@ use Rattle.rules.specs.laws.table.EncodedStep.{Fits, limits-fit}
 abbrev pub asked : List ℕ → Call → ℕ
 asked t c = firstNo (questions (hallIn t) (decode (hallIn t) t) c)
 
-pub unsound-step : (limits : Limits) (t : List ℕ) (c : Call) → sound limits t ≡ false → stepTable limits t c ≡ record { answer = record { number = 5; session = 0 }; after = t }
+pub unsound-step : (limits : Limits) (t : List ℕ) (c : Call) → sound limits t ≡ false → stepTable limits t c ≡ refuse 5 t
 unfolding stepTable
 unsound-step limits t c e = ap (λ (b : Bool). stepIf b t c) e
 
-told-by : List ℕ → Call → ℕ → TableDone
-told-by t c n =
-    let r = decide n (decode (hallIn t) t) (perform (hallIn t) (decode (hallIn t) t) c) in
-    record { answer = r .answer; after = cond (eqb (r .answer .number) 0) (written t c) t }
-
-sound-step : (limits : Limits) (t : List ℕ) (c : Call) → sound limits t ≡ true → stepTable limits t c ≡ told-by t c (asked t c)
-unfolding stepTable told-by
-sound-step limits t c e = ap (λ (b : Bool). stepIf b t c) e
-
-pub refused-step : (limits : Limits) (t : List ℕ) (c : Call) (n : ℕ) → sound limits t ≡ true → asked t c ≡ suc n
-    → stepTable limits t c ≡ record { answer = record { number = suc n; session = 0 }; after = t }
-unfolding told-by
+pub refused-step : (limits : Limits) (t : List ℕ) (c : Call) (n : ℕ) → sound limits t ≡ true → asked t c ≡ suc n → stepTable limits t c ≡ refuse (suc n) t
+unfolding stepTable
 refused-step limits t c n e q =
-    sound-step limits t c e ∙ ap (told-by t c) q
-    ∙ (λ i. record { answer = record { number = suc n; session = 0 }; after = cond (eqb·suc-zero n i) (written t c) t })
+    ap (λ (b : Bool). stepIf b t c) e ∙ ap (λ (m : ℕ). decide m t (perform (hallIn t) (decode (hallIn t) t) c .session) (tableAfter t c)) q
 
 pub accepted-step : (limits : Limits) (t : List ℕ) (c : Call) → sound limits t ≡ true → asked t c ≡ 0
-    → stepTable limits t c ≡ record { answer = record { number = 0; session = perform (hallIn t) (decode (hallIn t) t) c .session }; after = written t c }
-unfolding told-by
-accepted-step limits t c e q = sound-step limits t c e ∙ ap (told-by t c) q
+    → stepTable limits t c ≡ accept (perform (hallIn t) (decode (hallIn t) t) c .session) (tableAfter t c)
+unfolding stepTable
+accepted-step limits t c e q =
+    ap (λ (b : Bool). stepIf b t c) e ∙ ap (λ (m : ℕ). decide m t (perform (hallIn t) (decode (hallIn t) t) c .session) (tableAfter t c)) q
 
 -- ---- a sound table
 pub record Known (t : List ℕ) : Type 0 where
   pub fits : Fits (hallIn t)
-  pub most : allScreens (hallIn t) ≤ maxAllScreens
+  pub bounded : allScreens (hallIn t) ≤ maxAllScreens
   pub long : need (hallIn t) ≤ length t
   pub records : every (recordSound (allScreens (hallIn t))) (recordsIn (hallIn t) t) ≡ true
 
@@ -68,7 +58,7 @@ known limits t s =
     let fits = limits-fit limits H (and-left (inLimits limits H) (long && records) s) in
     record {
       fits = fits;
-      most = mul-le-mul (fits .desks .1) (fits .screens .1);
+      bounded = mul-le-mul (fits .desks .1) (fits .screens .1);
       long = leb-true (need H) (length t) (and-left long records later);
       records = and-right long records later;
     }
@@ -83,10 +73,10 @@ known limits t s =
 row-at : (n w i : ℕ) (x : List ℕ) → drop (i * w) (drop w x) ≡ drop (suc i * w) x
 row-at n w i x = let e : w + i * w ≡ suc i * w = omega arith in drop-drop (i * w) w x ∙ ap (λ (k : ℕ). drop k x) e
 
-records-at : (n w : ℕ) (x : List ℕ) (i : ℕ) → i < n → getD (map decodeDesk (chunks n w x)) i emptyDesk ≡ decodeDesk (take w (drop (i * w) x))
-records-at zero w x i h = absurd (omega arith)
-records-at (suc n) w x zero h = let e : 0 ≡ 0 * w = omega arith in ap (λ (k : ℕ). decodeDesk (take w (drop k x))) e
-records-at (suc n) w x (suc i) h = records-at n w (drop w x) i (omega arith) ∙ ap (λ (y : List ℕ). decodeDesk (take w y)) (row-at n w i x)
+records-at : (S n w : ℕ) (x : List ℕ) (i : ℕ) → i < n → getD (map (decodeDesk S) (chunks n w x)) i emptyDesk ≡ decodeDesk S (take w (drop (i * w) x))
+records-at S zero w x i h = absurd (omega arith)
+records-at S (suc n) w x zero h = let e : 0 ≡ 0 * w = omega arith in ap (λ (k : ℕ). decodeDesk S (take w (drop k x))) e
+records-at S (suc n) w x (suc i) h = records-at S n w (drop w x) i (omega arith) ∙ ap (λ (y : List ℕ). decodeDesk S (take w y)) (row-at n w i x)
 
 pub every-record-at : (f : List ℕ → Bool) (n w : ℕ) (x : List ℕ) (i : ℕ) → i < n → every f (chunks n w x) ≡ true → f (take w (drop (i * w) x)) ≡ true
 every-record-at f zero w x i h q = absurd (omega arith)
@@ -132,10 +122,10 @@ pub shown-word : (t : List ℕ) (d c : ℕ) → 1 ≤ d → d ≤ hallIn t .desk
     → getD (decode (hallIn t) t .shown) (screenIndex (hallIn t) d c) 0 ≡ getD t (screenWord (hallIn t) d c) 0
 shown-word t d c h1 h2 h3 h4 = shown-at t (screenIndex (hallIn t) d c) (screen-in (hallIn t) d c h1 h2 h3 h4)
 
-pub desk-word : (t : List ℕ) (d : ℕ) → 1 ≤ d → d ≤ hallIn t .desks → deskOf (decode (hallIn t) t) d ≡ decodeDesk (recordOf (hallIn t) t d)
+pub desk-word : (t : List ℕ) (d : ℕ) → 1 ≤ d → d ≤ hallIn t .desks → deskOf (decode (hallIn t) t) d ≡ decodeDesk (allScreens (hallIn t)) (recordOf (hallIn t) t d)
 desk-word t d h g =
-    records-at (hallIn t .desks) (recordWidth (hallIn t)) (drop (allScreens (hallIn t)) (drop (hallIn t .positions) (drop headerWords t))) (d - 1) (omega arith)
-    ∙ ap (λ (y : List ℕ). decodeDesk (take (recordWidth (hallIn t)) y)) (record-part t d)
+    records-at (allScreens (hallIn t)) (hallIn t .desks) (recordWidth (hallIn t)) (drop (allScreens (hallIn t)) (drop (hallIn t .positions) (drop headerWords t))) (d - 1) (omega arith)
+    ∙ ap (λ (y : List ℕ). decodeDesk (allScreens (hallIn t)) (take (recordWidth (hallIn t)) y)) (record-part t d)
 
 pub owed-word : (t : List ℕ) (d : ℕ) → 1 ≤ d → d ≤ hallIn t .desks → deskOf (decode (hallIn t) t) d .owed ≡ getD t (recordStart (hallIn t) d) 0
 unfolding decodeDesk
@@ -154,12 +144,10 @@ collect-seeing S shown D = ap (λ (n : ℕ). collectSeeing S (take 2 (drop n sho
     same-scanned (p ∷ T) = refl
 
 -- ---- the opening
-pub refused-open : (limits : Limits) (H : Hall) (t : List ℕ) (n : ℕ) → firstNo (openQuestions limits H t) ≡ suc n
-    → openTable limits H t ≡ record { answer = record { number = suc n; session = 0 }; after = t }
+pub refused-open : (limits : Limits) (H : Hall) (t : List ℕ) (n : ℕ) → firstNo (openQuestions limits H t) ≡ suc n → openTable limits H t ≡ refuse (suc n) t
 unfolding openTable
-refused-open limits H t n q = ap (λ (m : ℕ). openIf m H t) q
+refused-open limits H t n q = ap (λ (m : ℕ). decide m t 0 (openedTable H t)) q
 
-pub accepted-open : (limits : Limits) (H : Hall) (t : List ℕ) → firstNo (openQuestions limits H t) ≡ 0
-    → openTable limits H t ≡ record { answer = record { number = 0; session = 0 }; after = openedTable H t }
+pub accepted-open : (limits : Limits) (H : Hall) (t : List ℕ) → firstNo (openQuestions limits H t) ≡ 0 → openTable limits H t ≡ accept 0 (openedTable H t)
 unfolding openTable
-accepted-open limits H t q = ap (λ (m : ℕ). openIf m H t) q
+accepted-open limits H t q = ap (λ (m : ℕ). decide m t 0 (openedTable H t)) q

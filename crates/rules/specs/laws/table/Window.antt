@@ -9,27 +9,19 @@ use lib.ListN.{length, getD, take, drop, set, length-append, length-drop}
 use lib.Seq.{ext-getD, getD-drop, getD-set-other, getD-take, length-take-le}
 use Rattle.rules.specs.Bytes.{IsBytes, Words16, bytesOfWords, overwriteWords, wordsOfBytes}
 use Rattle.rules.specs.Hall.{Hall, Limits, allScreens}
-use Rattle.rules.specs.Steps.{Call, Collect, Drop, Retire, Swap, Take, collect, inRange, retire}
-use Rattle.rules.specs.Table.{decode, decodeDesk, encodeDesk, hallIn, headerWords, need, positionWord, putRecord, recordOf, recordStart, recordWidth}
-use Rattle.rules.specs.Table.{screenWord, sound, stepTable, written}
+use Rattle.rules.specs.Steps.{Call, Collect, Drop, Retire, Swap, Take, collect, retire, Step, _sends_}
+use Rattle.rules.specs.Table.{decode, decodeDesk, encodeDesk, hallIn, headerWords, need, positionWord, putRecord, recordOf, recordStart, recordWidth, tableAfter, tableAfterStep}
+use Rattle.rules.specs.Table.{screenWord, sound, stepTable}
 use Rattle.rules.specs.laws.bytes.Bytes.{words-length}
 use Rattle.rules.specs.laws.bytes.Front.{bytes-append, front-overwritten-back}
 use Rattle.rules.specs.laws.history.ScreenIndex.{screen-in}
-use Rattle.rules.specs.laws.history.StepEffects.{desk-fact, drop-facts, holds, in-range, take-facts}
 use Rattle.rules.specs.laws.lists.ListSlices.{put-is}
 use Rattle.rules.specs.laws.table.EncodedStep.{Fits}
 use Rattle.rules.specs.laws.table.TableSteps.{Known, asked, known, record-within}
-use Rattle.rules.specs.laws.table.WordBounds.{by-step, written-length}
+use Rattle.rules.specs.laws.table.WordBounds.{by-step, after-length}
+use Rattle.rules.specs.laws.history.StepEffects.{IsDesk, desk-asked, take-asked, drop-asked, swap-asked}
 
 -- ---- On words.
--- the desk that a call names
-abbrev pub deskIn : Call → ℕ
-deskIn (Take d c p) = d
-deskIn (Drop d c) = d
-deskIn (Swap d p session) = d
-deskIn (Retire d) = d
-deskIn (Collect d) = d
-
 -- where the positions and the screens end, and the records begin
 abbrev pub recordsStart : Hall → ℕ
 recordsStart hall = headerWords + hall .positions + allScreens hall
@@ -43,7 +35,7 @@ pub record Outside (hall : Hall) (d i : ℕ) : Type 0 where
 pub record Rewritten (d : ℕ) (old words : List ℕ) : Type 0 where
   pub fits : Fits (hallIn words)
   pub long : need (hallIn words) ≤ length words
-  pub desk : (1 ≤ d) × (d ≤ hallIn words .desks)
+  pub desk : IsDesk (hallIn words) d
   pub kept : (i : ℕ) → Outside (hallIn words) d i → getD words i 0 ≡ getD old i 0
 
 module _ (limits : Limits) (t : List ℕ) (small : Words16 t) (s : sound limits t ≡ true) where
@@ -61,50 +53,53 @@ module _ (limits : Limits) (t : List ℕ) (small : Words16 t) (s : sound limits 
       (arith, fits, same, length-append (take a t) (w ++ drop n (drop a t)), length-append w (drop n (drop a t)), length-take-le a t (omega (arith, fits)), length-drop n (drop a t), length-drop a t) in
       put-is t w a n fits wide i (getD t i 0) (λ j l e. absurd (omega (arith, out .own (omega arith)))) (λ _. refl)
 
-  desk-there : (c : Call) → asked t c ≡ 0 → (1 ≤ deskIn c) × (deskIn c ≤ hallIn t .desks)
-  desk-there (Take d c p) e = desk-fact (hallIn t) (decode (hallIn t) t) d _ e
-  desk-there (Drop d c) e = desk-fact (hallIn t) (decode (hallIn t) t) d _ e
-  desk-there (Swap d p session) e = desk-fact (hallIn t) (decode (hallIn t) t) d _ e
-  desk-there (Retire d) e = desk-fact (hallIn t) (decode (hallIn t) t) d _ e
-  desk-there (Collect d) e = desk-fact (hallIn t) (decode (hallIn t) t) d _ e
+  desk-there : (c : Call) → asked t c ≡ 0 → IsDesk (hallIn t) (c .desk)
+  desk-there c e = desk-asked (hallIn t) (decode (hallIn t) t) c e
 
-  written-outside : (c : Call) → asked t c ≡ 0 → (i : ℕ) → Outside (hallIn t) (deskIn c) i → getD (written t c) i 0 ≡ getD t i 0
-  written-outside (Take d c p) e i out =
-      let f = take-facts (hallIn t) (decode (hallIn t) t) d c p e in
-      getD-set-other t (screenWord (hallIn t) d c) i (getD t (positionWord p) 0) 0
-      (λ z. omega (arith, out .shared (omega arith), screen-in (hallIn t) d c (f .0) (f .1) (f .2) (f .3)))
-  written-outside (Drop d c) e i out =
-      let f = drop-facts (hallIn t) (decode (hallIn t) t) d c e in
-      getD-set-other t (screenWord (hallIn t) d c) i 0 0
-      (λ z. omega (arith, out .shared (omega arith), screen-in (hallIn t) d c (f .0) (f .1) (f .2) (f .3)))
-  written-outside (Swap d p session) e i out =
-      let position =
-      in-range p (hallIn t .positions) (holds (inRange p (hallIn t .positions)) _ 7 (holds (inRange d (hallIn t .desks)) _ 5 e .1) .0) in
-      getD-set-other (set t (positionWord p) session) (recordStart (hallIn t) d) i (getD t (positionWord p) 0) 0
-      (λ z. omega (arith, out .own (omega arith)))
-      ∙ getD-set-other t (positionWord p) i session 0 (λ z. omega (arith, out .shared (omega arith), position))
-  written-outside (Retire d) e i out = put-keeps d (encodeDesk (allScreens (hallIn t)) (retire (decodeDesk (recordOf (hallIn t) t d)))) (desk-there (Retire d) e) (written-length limits t (Retire d) small s e) i out
-  written-outside (Collect d) e i out = put-keeps d (encodeDesk (allScreens (hallIn t)) (collect (allScreens (hallIn t)) (decode (hallIn t) t .shown) (decodeDesk (recordOf (hallIn t) t d)) .after)) (desk-there (Collect d) e) (written-length limits t (Collect d) small s e) i out
+  after-outside : (c : Call) → asked t c ≡ 0 → (i : ℕ) → Outside (hallIn t) (c .desk) i → getD (tableAfter t c) i 0 ≡ getD t i 0
+  after-outside c e = by-step (c .desk) (c .step) e
+    where
+      by-step : (d : ℕ) (x : Step) → asked t (d sends x) ≡ 0 → (i : ℕ) → Outside (hallIn t) d i → getD (tableAfterStep t d x) i 0 ≡ getD t i 0
+      by-step d (Take c p) e i out =
+          let f = take-asked (hallIn t) (decode (hallIn t) t) d c p e in
+          getD-set-other t (screenWord (hallIn t) d c) i (getD t (positionWord p) 0) 0
+          (λ z. omega (arith, out .shared (omega arith), screen-in (hallIn t) d c (f .desk .0) (f .desk .1) (f .screen .0) (f .screen .1)))
+      by-step d (Drop c) e i out =
+          let f = drop-asked (hallIn t) (decode (hallIn t) t) d c e in
+          getD-set-other t (screenWord (hallIn t) d c) i 0 0
+          (λ z. omega (arith, out .shared (omega arith), screen-in (hallIn t) d c (f .desk .0) (f .desk .1) (f .screen .0) (f .screen .1)))
+      by-step d (Swap p session) e i out =
+          let position = swap-asked (hallIn t) (decode (hallIn t) t) d p session e .position in
+          getD-set-other (set t (positionWord p) session) (recordStart (hallIn t) d) i (getD t (positionWord p) 0) 0
+          (λ z. omega (arith, out .own (omega arith)))
+          ∙ getD-set-other t (positionWord p) i session 0 (λ z. omega (arith, out .shared (omega arith), position))
+      by-step d Retire e i out =
+          put-keeps d (encodeDesk (allScreens (hallIn t)) (retire (decodeDesk (allScreens (hallIn t)) (recordOf (hallIn t) t d)))) (desk-there (d sends Retire) e)
+          (after-length limits t (d sends Retire) small s e) i out
+      by-step d Collect e i out =
+          put-keeps d
+          (encodeDesk (allScreens (hallIn t)) (collect (allScreens (hallIn t)) (decode (hallIn t) t .shown) (decodeDesk (allScreens (hallIn t)) (recordOf (hallIn t) t d)) .after))
+          (desk-there (d sends Collect) e) (after-length limits t (d sends Collect) small s e) i out
 
-  written-again : (c : Call) → asked t c ≡ 0 → Rewritten (deskIn c) t (written t c)
-  written-again c e =
-      let header : (i : ℕ) → i < headerWords → getD t i 0 ≡ getD (written t c) i 0 =
-      λ i h. sym (written-outside c e i (record { shared = λ g. absurd (omega arith); own = λ g. absurd (omega arith) })) in
-      let hall : hallIn t ≡ hallIn (written t c) =
+  after-again : (c : Call) → asked t c ≡ 0 → Rewritten (c .desk) t (tableAfter t c)
+  after-again c e =
+      let header : (i : ℕ) → i < headerWords → getD t i 0 ≡ getD (tableAfter t c) i 0 =
+      λ i h. sym (after-outside c e i (record { shared = λ g. absurd (omega arith); own = λ g. absurd (omega arith) })) in
+      let hall : hallIn t ≡ hallIn (tableAfter t c) =
       λ j. record { desks = header 0 (omega arith) j; screens = header 1 (omega arith) j; positions = header 2 (omega arith) j } in
       record {
         fits = subst Fits hall (k .fits);
-        long = subst (λ (H : Hall). need H ≤ length (written t c)) hall (omega (arith, k .long, written-length limits t c small s e));
-        desk = subst (λ (H : Hall). (1 ≤ deskIn c) × (deskIn c ≤ H .desks)) hall (desk-there c e);
+        long = subst (λ (H : Hall). need H ≤ length (tableAfter t c)) hall (omega (arith, k .long, after-length limits t c small s e));
+        desk = subst (λ (H : Hall). IsDesk H (c .desk)) hall (desk-there c e);
         kept =
-            subst (λ (H : Hall). (i : ℕ) → Outside H (deskIn c) i → getD (written t c) i 0 ≡ getD t i 0) hall (written-outside c e);
+            subst (λ (H : Hall). (i : ℕ) → Outside H (c .desk) i → getD (tableAfter t c) i 0 ≡ getD t i 0) hall (after-outside c e);
       }
 
 -- "an accepted call writes only the words its step names": they are in the two parts
-pub step-rewritten : (limits : Limits) (t : List ℕ) → Words16 t → (c : Call) → stepTable limits t c .answer .number ≡ 0 → Rewritten (deskIn c) t (stepTable limits t c .after)
+pub step-rewritten : (limits : Limits) (t : List ℕ) → Words16 t → (c : Call) → stepTable limits t c .answer .number ≡ 0 → Rewritten (c .desk) t (stepTable limits t c .after)
 step-rewritten limits t small c =
-    by-step limits (λ r. r .answer .number ≡ 0 → Rewritten (deskIn c) t (r .after)) t c (λ q. absurd (omega arith)) (λ n a q. absurd (omega arith))
-    (λ s a q. written-again limits t small s c a)
+    by-step limits (λ r. r .answer .number ≡ 0 → Rewritten (c .desk) t (r .after)) t c (λ q. absurd (omega arith)) (λ n a q. absurd (omega arith))
+    (λ s a q. after-again limits t small s c a)
 
 -- ---- On bytes.
 -- the words from place a up to e, laid over their own bytes

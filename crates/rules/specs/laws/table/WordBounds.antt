@@ -7,19 +7,20 @@ use mathlib.Core.List.{List, [], _∷_, _++_, map}
 use lib.ListN.{length, getD, take, drop, set, replicate, length-append, length-drop, length-replicate, length-take}
 use lib.Dec.{ltb, eqb}
 use borrow.Author.Tests.{ltb-true, ltb-false, eqb-false, not-true}
-use Rattle.rules.specs.Bytes.{Call16, Words16}
-use Rattle.rules.specs.Demands.{refusals}
+use Rattle.rules.specs.Bytes.{Call16, Step16, Words16}
+use Rattle.rules.specs.Demands.{refusals, stepRefusals}
 use Rattle.rules.specs.Hall.{Desk, Hall, Limits, State, TestedSlot, allScreens, deskOf, emptyDesk, maxAllScreens, screenIndex, usedSlots}
 use Rattle.rules.specs.Lists.{occurrences}
-use Rattle.rules.specs.Steps.{Call, Collect, Drop, Question, Retire, Swap, Take, collect, decide, firstNo, inRange, perform, questions, retire}
-use Rattle.rules.specs.Table.{TableDone, allMarks, decode, decodeDesk, encode, encodeDesk, hallIn, headerWords, listOf, listOffset, markWords, marksIn}
+use Rattle.rules.specs.Steps.{Call, Collect, Drop, Question, Result, Retire, Step, Swap, Take, _sends_, accept, collect, decide, firstNo, perform}
+use Rattle.rules.specs.Steps.{performStep, questions, refuse, retire}
+use Rattle.rules.specs.Table.{allMarks, decode, decodeDesk, encode, encodeDesk, encodeTail, hallIn, headerWords, listOf, listOffset, markWords, marksIn}
 use Rattle.rules.specs.Table.{marksOf, need, openQuestions, openTable, openedTable, positionWord, putRecord, recordOf, recordStart, recordWidth}
-use Rattle.rules.specs.Table.{screenWord, slotsOf, sound, stepTable, wordOfBits, wordsOfBits, written}
+use Rattle.rules.specs.Table.{screenWord, slotsFor, slotsIn, slotsOf, sound, stepTable, tableAfter, tableAfterStep, wordOfBits, wordsOfBits}
 use Rattle.rules.specs.laws.desk.Collect.{collect-copies, copiesOn, owed-collect, retire-copies}
 use Rattle.rules.specs.laws.desk.Decoding.{small-drop, small-take}
 use Rattle.rules.specs.laws.desk.Marks.{testedCopies}
 use Rattle.rules.specs.laws.desk.Sound.{ScanFits, Sound, collect-sound, occurrences-list, retire-sound, sound-orderly}
-use Rattle.rules.specs.laws.history.StepEffects.{holds, in-range, retire-questions}
+use Rattle.rules.specs.laws.history.StepEffects.{desk-asked, retire-asked}
 use Rattle.rules.specs.laws.lists.Lists.{indicator, indicator-other, indicator-same}
 use Rattle.rules.specs.laws.table.DecodeStepEncode.{encoded, valid}
 use Rattle.rules.specs.laws.table.EncodedStep.{Fits, Valid, all-get, empty-desk-sound, hall-opens, length-table, limits-fit, some-screens, valid-step}
@@ -84,6 +85,9 @@ scanned-small : (S k : ℕ) (t : List TestedSlot) → ScanFits S k t → k ≤ S
 scanned-small S k [] p = omega arith
 scanned-small S k (q ∷ qs) p = omega arith
 
+tail-words : (D : Desk) → Words16 (encodeTail D)
+tail-words D i = omega arith
+
 record-words : (S : ℕ) (D : Desk) → S ≤ maxAllScreens → Desk16 S D → Words16 (encodeDesk S D)
 unfolding encodeDesk
 record-words S D h k = at
@@ -91,19 +95,22 @@ record-words S D h k = at
     bits : List Bool
     bits = marksOf (D .tested) ++ replicate (allMarks - length (D .tested)) false
 
-    rest : Words16 (listOf D ++ replicate (2 * S - length (listOf D)) 0)
-    rest =
+    slots : Words16 (slotsFor S D)
+    slots =
         below-append 65536 (listOf D) (replicate (2 * S - length (listOf D)) 0)
         (words-if-no-large-copies (listOf D) (λ s l. occurrences-list s D ∙ k .sessions s l)) (words-zeros (2 * S - length (listOf D)))
 
-    at : Words16 (D .owed ∷ D .scanned ∷ length (D .ready) ∷ length (D .tested) ∷ length (D .waiting) ∷ (wordsOfBits markWords (marksOf (D .tested) ++ replicate (allMarks - length (D .tested)) false) ++ (listOf D ++ replicate (2 * S - length (listOf D)) 0)))
+    behind : Words16 (slotsFor S D ++ encodeTail D)
+    behind = below-append 65536 (slotsFor S D) (encodeTail D) slots (tail-words D)
+
+    at : Words16 (D .owed ∷ D .scanned ∷ length (D .ready) ∷ length (D .tested) ∷ length (D .waiting) ∷ (wordsOfBits markWords bits ++ (slotsFor S D ++ encodeTail D)))
     at zero = k .owed
     at (suc zero) = omega (arith, scanned-small S (D .scanned) (D .tested) (k .sound .pass))
     at (suc (suc zero)) = omega (arith, k .sound .total)
     at (suc (suc (suc zero))) = omega (arith, k .sound .total)
     at (suc (suc (suc (suc zero)))) = omega (arith, k .sound .total)
     at (suc (suc (suc (suc (suc i))))) =
-        below-append 65536 (wordsOfBits markWords bits) (listOf D ++ replicate (2 * S - length (listOf D)) 0) (mark-words markWords bits) rest i
+        below-append 65536 (wordsOfBits markWords bits) (slotsFor S D ++ encodeTail D) (mark-words markWords bits) behind i
 
 -- as it is read
 copies-on-slots : (s : ℕ) (xs : List ℕ) (bits : List Bool) → testedCopies s (slotsOf xs bits) ≡ occurrences s xs
@@ -112,14 +119,14 @@ copies-on-slots s (x ∷ xs) [] = omega (arith, copies-on-slots s xs [])
 copies-on-slots s (x ∷ xs) (true ∷ bits) = omega (arith, copies-on-slots s xs bits)
 copies-on-slots s (x ∷ xs) (false ∷ bits) = omega (arith, copies-on-slots s xs bits)
 
-no-large-sessions : (r : List ℕ) → Words16 r → (s : ℕ) → 65536 ≤ s → copiesOn s (decodeDesk r) ≡ 0
+no-large-sessions : (S : ℕ) (r : List ℕ) → Words16 r → (s : ℕ) → 65536 ≤ s → copiesOn s (decodeDesk S r) ≡ 0
 unfolding decodeDesk
-no-large-sessions r h s l =
+no-large-sessions S r h s l =
     let a = getD r 2 0 in
     let b = getD r 3 0 in
     let c = getD r 4 0 in
-    let list : List ℕ = drop listOffset r in
-    let g = small-drop listOffset r h in
+    let list : List ℕ = slotsIn S r in
+    let g = small-take (2 * S) (drop listOffset r) (small-drop listOffset r h) in
     omega
     (arith, no-large-copies s (take a list) l (small-take a list g), copies-on-slots s (take b (drop a list)) (take b (marksIn r)), no-large-copies s (take b (drop a list)) l (small-take b (drop a list) (small-drop a list g)), no-large-copies s (take c (drop (a + b) list)) l (small-take c (drop (a + b) list) (small-drop (a + b) list g)))
 
@@ -132,7 +139,7 @@ desk-read t d h k r =
       owed = rw (owed-word t d (r .0) (r .1)) (h (recordStart H d));
       sessions =
           λ s l. ap (copiesOn s) (desk-word t d (r .0) (r .1))
-          ∙ no-large-sessions (recordOf H t d) (small-take (recordWidth H) (drop (recordStart H d) t) (small-drop (recordStart H d) t h)) s l;
+          ∙ no-large-sessions (allScreens H) (recordOf H t d) (small-take (recordWidth H) (drop (recordStart H d) t) (small-drop (recordStart H d) t h)) s l;
     }
 
 -- retire and collect keep it
@@ -159,31 +166,31 @@ module _ (S : ℕ) (shown : List ℕ) (D : Desk) (some : 1 ≤ S) (all : length 
       (λ l. let s = collect S shown D .session in omega (arith, collect-copies s S shown D some all (sound-orderly S D (k .sound)) (λ q. omega arith), k .sessions s l, indicator-same s))
 
 -- ---- A step, by its three cases.
-pub by-step : (limits : Limits) (Q : TableDone → Type 0) (t : List ℕ) (c : Call)
-    → Q (record { answer = record { number = 5; session = 0 }; after = t })
-    → ((n : ℕ) → asked t c ≡ suc n → Q (record { answer = record { number = suc n; session = 0 }; after = t }))
-    → (sound limits t ≡ true → asked t c ≡ 0 → Q (record { answer = record { number = 0; session = perform (hallIn t) (decode (hallIn t) t) c .session }; after = written t c }))
+pub by-step : (limits : Limits) (Q : Result (List ℕ) → Type 0) (t : List ℕ) (c : Call)
+    → Q (refuse 5 t)
+    → ((n : ℕ) → asked t c ≡ suc n → Q (refuse (suc n) t))
+    → (sound limits t ≡ true → asked t c ≡ 0 → Q (accept (perform (hallIn t) (decode (hallIn t) t) c .session) (tableAfter t c)))
     → Q (stepTable limits t c)
 by-step limits Q t c unsound refused accepted = at (sound limits t) refl
   where
-    told : (n : ℕ) → asked t c ≡ n → sound limits t ≡ true → Q (stepTable limits t c)
-    told zero q s = subst Q (sym (accepted-step limits t c s q)) (accepted s q)
-    told (suc n) q s = subst Q (sym (refused-step limits t c n s q)) (refused n q)
+    by-number : (n : ℕ) → asked t c ≡ n → sound limits t ≡ true → Q (stepTable limits t c)
+    by-number zero q s = subst Q (sym (accepted-step limits t c s q)) (accepted s q)
+    by-number (suc n) q s = subst Q (sym (refused-step limits t c n s q)) (refused n q)
 
     at : (b : Bool) → sound limits t ≡ b → Q (stepTable limits t c)
-    at true s = told (asked t c) refl s
+    at true s = by-number (asked t c) refl s
     at false s = subst Q (sym (unsound-step limits t c s)) unsound
 
 -- the opening, by its two
-pub by-open : (limits : Limits) (Q : TableDone → Type 0) (H : Hall) (t : List ℕ)
-    → ((n : ℕ) → firstNo (openQuestions limits H t) ≡ suc n → Q (record { answer = record { number = suc n; session = 0 }; after = t }))
-    → (firstNo (openQuestions limits H t) ≡ 0 → Q (record { answer = record { number = 0; session = 0 }; after = openedTable H t }))
+pub by-open : (limits : Limits) (Q : Result (List ℕ) → Type 0) (H : Hall) (t : List ℕ)
+    → ((n : ℕ) → firstNo (openQuestions limits H t) ≡ suc n → Q (refuse (suc n) t))
+    → (firstNo (openQuestions limits H t) ≡ 0 → Q (accept 0 (openedTable H t)))
     → Q (openTable limits H t)
-by-open limits Q H t refused accepted = told (firstNo (openQuestions limits H t)) refl
+by-open limits Q H t refused accepted = by-number (firstNo (openQuestions limits H t)) refl
   where
-    told : (n : ℕ) → firstNo (openQuestions limits H t) ≡ n → Q (openTable limits H t)
-    told zero q = subst Q (sym (accepted-open limits H t q)) (accepted q)
-    told (suc n) q = subst Q (sym (refused-open limits H t n q)) (refused n q)
+    by-number : (n : ℕ) → firstNo (openQuestions limits H t) ≡ n → Q (openTable limits H t)
+    by-number zero q = subst Q (sym (accepted-open limits H t q)) (accepted q)
+    by-number (suc n) q = subst Q (sym (refused-open limits H t n q)) (refused n q)
 
 -- ---- The number in an answer.
 -- the first question that is answered no gives its own number
@@ -197,11 +204,14 @@ first-no-is-asked (q ∷ qs) n h = by-cases (q .yes?) h (first-no-is-asked qs n)
     by-cases false e later = omega (arith, ap (indicator (suc n)) e, indicator-same (suc n))
 
 refusals-are-asked : (H : Hall) (st : State) (c : Call) → refusals c ≡ 5 ∷ map (λ q. q .number) (questions H st c)
-refusals-are-asked H st (Take d c p) = refl
-refusals-are-asked H st (Drop d c) = refl
-refusals-are-asked H st (Swap d p w) = refl
-refusals-are-asked H st (Retire d) = refl
-refusals-are-asked H st (Collect d) = refl
+refusals-are-asked H st c = by-step (c .step)
+  where
+    by-step : (s : Step) → stepRefusals s ≡ 5 ∷ map (λ q. q .number) (questions H st (c .desk sends s))
+    by-step (Take c p) = refl
+    by-step (Drop c) = refl
+    by-step (Swap p w) = refl
+    by-step Retire = refl
+    by-step Collect = refl
 
 -- "A refused call gives its number from document 01 and session 0, and every lent word .. keeps its content."
 pub step-refused : (limits : Limits) (t : List ℕ) (c : Call) (n : ℕ) → stepTable limits t c .answer .number ≡ suc n
@@ -223,20 +233,31 @@ step-refused limits t c =
     asks m q n e = omega (arith, first n, first-no-is-asked (questions (hallIn t) (decode (hallIn t) t) c) n (q ∙ e))
 
 -- ---- The session in an answer.
--- what an accepted call finds in range
-desk-asked : (b : Bool) (m : ℕ) → cond {A = ℕ} b m 6 ≡ 0 → b ≡ true
-desk-asked b m e = holds b m 5 e .0
-
 performed-small : (t : List ℕ) (c : Call) → Words16 t → Known t → asked t c ≡ 0 → perform (hallIn t) (decode (hallIn t) t) c .session < 65536
-performed-small t (Take d c p) h k q = small-take (hallIn t .positions) (drop headerWords t) (small-drop headerWords t h) (p - 1)
-performed-small t (Drop d c) h k q =
-    small-take (allScreens (hallIn t)) (drop (hallIn t .positions) (drop headerWords t)) (small-drop (hallIn t .positions) (drop headerWords t) (small-drop headerWords t h))
-    (screenIndex (hallIn t) d c)
-performed-small t (Swap d p w) h k q = small-take (hallIn t .positions) (drop headerWords t) (small-drop headerWords t h) (p - 1)
-performed-small t (Retire d) h k q = desk-read t d h k (in-range d (hallIn t .desks) (desk-asked (inRange d (hallIn t .desks)) _ q)) .owed
-performed-small t (Collect d) h k q =
-    collected-small (allScreens (hallIn t)) (decode (hallIn t) t .shown) (deskOf (decode (hallIn t) t) d) (some-screens (hallIn t) (k .fits))
-    (valid t k .formed .screens) (desk-read t d h k (in-range d (hallIn t .desks) (desk-asked (inRange d (hallIn t .desks)) _ q)))
+performed-small t c h k q = by-step (c .step)
+  where
+    H : Hall
+    H = hallIn t
+
+    held : (i : ℕ) → getD (decode (hallIn t) t .held) i 0 < 65536
+    held = small-take (hallIn t .positions) (drop headerWords t) (small-drop headerWords t h)
+
+    shown : (i : ℕ) → getD (decode (hallIn t) t .shown) i 0 < 65536
+    shown =
+        small-take (allScreens (hallIn t)) (drop (hallIn t .positions) (drop headerWords t))
+        (small-drop (hallIn t .positions) (drop headerWords t) (small-drop headerWords t h))
+
+    desk : Desk16 (allScreens (hallIn t)) (deskOf (decode (hallIn t) t) (c .desk))
+    desk = desk-read t (c .desk) h k (desk-asked (hallIn t) (decode (hallIn t) t) c q)
+
+    by-step : (s : Step) → performStep (hallIn t) (decode (hallIn t) t) (c .desk) s .session < 65536
+    by-step (Take c p) = held (p - 1)
+    by-step (Drop s) = shown (screenIndex (hallIn t) (c .desk) s)
+    by-step (Swap p w) = held (p - 1)
+    by-step Retire = desk .owed
+    by-step Collect =
+        collected-small (allScreens (hallIn t)) (decode (hallIn t) t .shown) (deskOf (decode (hallIn t) t) (c .desk)) (some-screens (hallIn t) (k .fits))
+        (valid t k .formed .screens) desk
 
 pub step-session : (limits : Limits) (t : List ℕ) (c : Call) → Words16 t → stepTable limits t c .answer .session < 65536
 step-session limits t c h = by-step limits (λ r. r .answer .session < 65536) t c (omega arith) (λ n q. omega arith) (λ s q. performed-small t c h (known limits t s) q)
@@ -251,34 +272,37 @@ put-words H t d words h g =
     below-append 65536 (take start t) (words ++ drop (recordWidth H) (drop start t)) (small-take start t h)
     (below-append 65536 words (drop (recordWidth H) (drop start t)) g (small-drop (recordWidth H) (drop start t) (small-drop start t h)))
 
-written-words : (t : List ℕ) (c : Call) → Words16 t → Call16 c → Known t → asked t c ≡ 0 → Words16 (written t c)
-written-words t (Take d c p) h w k q = words-set t (screenWord (hallIn t) d c) (getD t (positionWord p) 0) (h (positionWord p)) h
-written-words t (Drop d c) h w k q = words-set t (screenWord (hallIn t) d c) 0 (omega arith) h
-written-words t (Swap d p v) h w k q =
-    words-set (set t (positionWord p) v) (recordStart (hallIn t) d) (getD t (positionWord p) 0) (h (positionWord p))
-    (words-set t (positionWord p) v (w .2) h)
-written-words t (Retire d) h w k q =
-    let H : Hall = hallIn t in
-    let D : Desk = deskOf (decode H t) d in
-    let S : ℕ = allScreens H in
-    let y = retire-questions (inRange d (H .desks)) (not (eqb (D .owed) 0)) (ltb (usedSlots D) (2 * S)) q in
-    let r = in-range d (H .desks) (y .0) in
-    let k16 =
-    retire-16 S D (eqb-false (D .owed) 0 (not-true (eqb (D .owed) 0) (y .1))) (ltb-true (usedSlots D) (2 * S) (y .2)) (desk-read t d h k r) in
-    put-words H t d (encodeDesk S (retire (decodeDesk (recordOf H t d)))) h
-    (subst (λ (E : Desk). Words16 (encodeDesk S (retire E))) (desk-word t d (r .0) (r .1)) (record-words S (retire D) (k .most) k16))
-written-words t (Collect d) h w k q =
-    let H : Hall = hallIn t in
-    let st : State = decode H t in
-    let D : Desk = deskOf st d in
-    let S : ℕ = allScreens H in
-    let r = in-range d (H .desks) (desk-asked (inRange d (H .desks)) _ q) in
-    let k16 = collect-16 S (st .shown) D (some-screens (hallIn t) (k .fits)) (valid t k .formed .screens) (desk-read t d h k r) in
-    put-words H t d (encodeDesk S (collect S (st .shown) (decodeDesk (recordOf H t d)) .after)) h
-    (subst (λ (E : Desk). Words16 (encodeDesk S (collect S (st .shown) E .after))) (desk-word t d (r .0) (r .1)) (record-words S (collect S (st .shown) D .after) (k .most) k16))
+after-words : (t : List ℕ) (c : Call) → Words16 t → Call16 c → Known t → asked t c ≡ 0 → Words16 (tableAfter t c)
+after-words t c h w k q = by-step (c .desk) (c .step) (w .1) q
+  where
+    S : ℕ
+    S = allScreens (hallIn t)
+
+    st : State
+    st = decode (hallIn t) t
+
+    by-step : (d : ℕ) (s : Step) → Step16 s → asked t (d sends s) ≡ 0 → Words16 (tableAfterStep t d s)
+    by-step d (Take c p) w q = words-set t (screenWord (hallIn t) d c) (getD t (positionWord p) 0) (h (positionWord p)) h
+    by-step d (Drop c) w q = words-set t (screenWord (hallIn t) d c) 0 (omega arith) h
+    by-step d (Swap p v) w q =
+        words-set (set t (positionWord p) v) (recordStart (hallIn t) d) (getD t (positionWord p) 0) (h (positionWord p))
+        (words-set t (positionWord p) v (w .1) h)
+    by-step d Retire w q =
+        let asks = retire-asked (hallIn t) st d q in
+        let D : Desk = deskOf st d in
+        put-words (hallIn t) t d (encodeDesk S (retire (decodeDesk S (recordOf (hallIn t) t d)))) h
+        (subst (λ (E : Desk). Words16 (encodeDesk S (retire E))) (desk-word t d (asks .desk .0) (asks .desk .1))
+        (record-words S (retire D) (k .bounded) (retire-16 S D (asks .owes) (asks .room) (desk-read t d h k (asks .desk)))))
+    by-step d Collect w q =
+        let r = desk-asked (hallIn t) st (d sends Collect) q in
+        let D : Desk = deskOf st d in
+        put-words (hallIn t) t d (encodeDesk S (collect S (st .shown) (decodeDesk S (recordOf (hallIn t) t d)) .after)) h
+        (subst (λ (E : Desk). Words16 (encodeDesk S (collect S (st .shown) E .after))) (desk-word t d (r .0) (r .1))
+        (record-words S (collect S (st .shown) D .after) (k .bounded)
+        (collect-16 S (st .shown) D (some-screens (hallIn t) (k .fits)) (valid t k .formed .screens) (desk-read t d h k r))))
 
 pub step-words : (limits : Limits) (t : List ℕ) (c : Call) → Words16 t → Call16 c → Words16 (stepTable limits t c .after)
-step-words limits t c h w = by-step limits (λ r. Words16 (r .after)) t c h (λ n q. h) (λ s q. written-words t c h w (known limits t s) q)
+step-words limits t c h w = by-step limits (λ r. Words16 (r .after)) t c h (λ n q. h) (λ s q. after-words t c h w (known limits t s) q)
 
 -- ---- The opening.
 opened-words : (H : Hall) (t : List ℕ) → Words16 t → Fits H → Words16 (openedTable H t)
@@ -292,19 +316,19 @@ pub open-words : (limits : Limits) (H : Hall) (t : List ℕ) → Words16 t → W
 open-words limits H t h = by-open limits (λ r. Words16 (r .after)) H t (λ n q. h) (λ q. opened-words H t h (limits-fit limits H (hall-opens limits H t q .0)))
 
 -- ---- The length of the table.
-pub written-length : (limits : Limits) (t : List ℕ) (c : Call) → Words16 t → sound limits t ≡ true → asked t c ≡ 0 → length (written t c) ≡ length t
-written-length limits t c h s q =
+pub after-length : (limits : Limits) (t : List ℕ) (c : Call) → Words16 t → sound limits t ≡ true → asked t c ≡ 0 → length (tableAfter t c) ≡ length t
+after-length limits t c h s q =
     let H : Hall = hallIn t in
     let st : State = decode H t in
     let k = known limits t s in
     let o = k .fits in
     let after : State = perform H st c .after in
-    let v : Valid H after = subst (λ (n : ℕ). Valid H (decide n st (perform H st c) .after)) q (valid-step H o st c (valid t k)) in
+    let v : Valid H after = subst (λ (n : ℕ). Valid H (decide n st (perform H st c .session) (perform H st c .after) .after)) q (valid-step H o st c (valid t k)) in
     ap length (encoded t c h k q)
     ∙ omega (arith, length-append (encode H after) (drop (need H) t), length-table H o after v [], length-drop (need H) t, k .long)
 
 pub step-length : (limits : Limits) (t : List ℕ) (c : Call) → Words16 t → length (stepTable limits t c .after) ≡ length t
-step-length limits t c h = by-step limits (λ r. length (r .after) ≡ length t) t c refl (λ n q. refl) (λ s q. written-length limits t c h s q)
+step-length limits t c h = by-step limits (λ r. length (r .after) ≡ length t) t c refl (λ n q. refl) (λ s q. after-length limits t c h s q)
 
 pub open-length : (limits : Limits) (H : Hall) (t : List ℕ) → length (openTable limits H t .after) ≡ length t
 open-length limits H t =
