@@ -6,12 +6,11 @@ use mathlib.Core.List.{List}
 use mathlib.Core.Path.{_≡_, refl, sym, ap, _∙_}
 use lib.ListN.{length}
 use Rattle.rules.specs.Hall.{Hall, allScreens, hallLimits, maxAllScreens}
-use Rattle.rules.specs.Steps.{Call, Collect, Drop, Retire, Swap, Take, inRange}
+use Rattle.rules.specs.Steps.{Call, inRange}
 use Rattle.rules.specs.Table.{hallIn, recordStart, recordWidth, sound, startFor, stepTable, widthFor}
 use Rattle.rules.specs.laws.history.StepEffects.{in-range}
 use Rattle.rules.specs.laws.table.TableSteps.{Known, asked, known, record-within, refused-step, unsound-step}
-use Rattle.rules.specs.laws.table.Window.{deskIn}
-use Rattle.reply.specs.Answer.{told}
+use Rattle.reply.specs.Answer.{tableResult}
 use Rattle.board.specs.Admission.{admissionOf, locationOf}
 use Rattle.reply.specs.declared.Reply.{Reply}
 use Rattle.reply.specs.declared.Reply.the-variants.{NoDesk, Unsound}
@@ -33,7 +32,7 @@ pub record Admitted (t : List ℕ) (desk : ℕ) (p : Location) : Type 0 where
   pub all-is : p .all ≡ allScreens (hallIn t)
   pub start-is : p .start ≡ recordStart (hallIn t) desk
   pub end-is : p .end ≡ p .start + widthFor (p .all)
-  pub most : p .all ≤ maxAllScreens
+  pub bounded : p .all ≤ maxAllScreens
   pub room : p .end ≤ length t
 
 pub admitted : {t : List ℕ} {desk : ℕ} {p : Location} → At p ≡ admissionOf t desk → Admitted t desk p
@@ -57,7 +56,7 @@ admitted {t} {desk} {p} q = go (sound hallLimits t) (inRange desk (hallIn t .des
           all-is = all;
           start-is = start;
           end-is = omega (arith, all, start, end);
-          most = omega (arith, all, f .most);
+          bounded = omega (arith, all, f .bounded);
           room = omega (arith, end, f .long, record-within (hallIn t) desk (r .0) (r .1));
         }
 
@@ -67,19 +66,15 @@ admitted {t} {desk} {p} q = go (sound hallLimits t) (inRange desk (hallIn t .des
     go false b e g = let z : At p ≡ No Unsound = rw e at q in let never : _≡_ {A = ℕ} 0 1 = cc in absurd (omega arith)
 
 -- ---- refused: every call asks for its desk first
-no-desk : (t : List ℕ) (c : Call) → inRange (deskIn c) (hallIn t .desks) ≡ false → asked t c ≡ 6
-no-desk t (Take d i q) out = rw out
-no-desk t (Drop d i) out = rw out
-no-desk t (Swap d q v) out = rw out
-no-desk t (Retire d) out = rw out
-no-desk t (Collect d) out = rw out
+no-desk : (t : List ℕ) (c : Call) → inRange (c .desk) (hallIn t .desks) ≡ false → asked t c ≡ 6
+no-desk t c out = rw out
 
-pub refused : {t : List ℕ} {x : Reply} (c : Call) → No x ≡ admissionOf t (deskIn c) → told x t ≡ stepTable hallLimits t c
+pub refused : {t : List ℕ} {x : Reply} (c : Call) → No x ≡ admissionOf t (c .desk) → tableResult x t ≡ stepTable hallLimits t c
 unfolding admissionOf
-refused {t} {x} c q = go (sound hallLimits t) (inRange (deskIn c) (hallIn t .desks)) refl refl
+refused {t} {x} c q = go (sound hallLimits t) (inRange (c .desk) (hallIn t .desks)) refl refl
   where
-    go : (a b : Bool) → sound hallLimits t ≡ a → inRange (deskIn c) (hallIn t .desks) ≡ b → told x t ≡ stepTable hallLimits t c
-    go true true e g = let z : No x ≡ At (locationOf t (deskIn c)) = rw (e, g) at q in let never : _≡_ {A = ℕ} 0 1 = cc in absurd (omega arith)
+    go : (a b : Bool) → sound hallLimits t ≡ a → inRange (c .desk) (hallIn t .desks) ≡ b → tableResult x t ≡ stepTable hallLimits t c
+    go true true e g = let z : No x ≡ At (locationOf t (c .desk)) = rw (e, g) at q in let never : _≡_ {A = ℕ} 0 1 = cc in absurd (omega arith)
     go true false e g =
         let z : No x ≡ No NoDesk = rw (e, g) at q in
         let y : x ≡ NoDesk = cc in

@@ -25,7 +25,7 @@ pub record AtScreen (t : List ℕ) (d i a : ℕ) : Type 0 where
   pub first : 1 ≤ i
   pub yes-screen : inRange i (hallIn t .screens) ≡ true
   pub is : a ≡ screenWord (hallIn t) d i
-  pub most : a ≤ maxWords
+  pub bounded : a ≤ maxWords
   pub there : a < length t
   pub shows : getD (decode (hallIn t) t .shown) (screenIndex (hallIn t) d i) 0 ≡ getD t a 0
 
@@ -43,7 +43,7 @@ at-screen {t} {d} {i} {a} {p} e inside at =
       first = r .0;
       yes-screen = yes-screen;
       is = is;
-      most = omega (arith, is, within, f .most, f .fits .positions);
+      bounded = omega (arith, is, within, f .bounded, f .fits .positions);
       there = omega (arith, is, within, f .long);
       shows = shown-word t d i (e .range .0) (e .range .1) (r .0) (r .1) ∙ ap (λ (k : ℕ). getD t k 0) (sym is);
     }
@@ -72,7 +72,7 @@ pub record Lent (t : List ℕ) (d : ℕ) (p : Location) : Type 0 where
   pub part : lentRecord t p ≡ recordOf (hallIn t) t d
   pub sound : recordSound (p .all) (lentRecord t p) ≡ true
   pub encoded : Encoded (p .all) (lentRecord t p)
-  pub desk-is : decodeDesk (lentRecord t p) ≡ deskOf (decode (hallIn t) t) d
+  pub desk-is : decodeDesk (p .all) (lentRecord t p) ≡ deskOf (decode (hallIn t) t) d
   pub put : (ys : List ℕ) → withRecord t p ys ≡ putRecord (hallIn t) t d ys
 
 pub lent : {t : List ℕ} {d : ℕ} {p : Location} → Admitted t d p → ((i : ℕ) → getD t i 0 < 2 ^ 16) → Lent t d p
@@ -86,7 +86,7 @@ lent {t} {d} {p} e small =
     record {
       part = part;
       sound = passes;
-      encoded = sound-encoded (p .all) (lentRecord t p) (e .most) long (small-take n (drop (p .start) t) (small-drop (p .start) t small)) passes;
-      desk-is = ap decodeDesk part ∙ sym (desk-word t d (e .range .0) (e .range .1));
+      encoded = sound-encoded (p .all) (lentRecord t p) (e .bounded) long (small-take n (drop (p .start) t) (small-drop (p .start) t small)) passes;
+      desk-is = ap₂ decodeDesk (e .all-is) part ∙ sym (desk-word t d (e .range .0) (e .range .1));
       put = λ ys. ap₂ (λ (k b : ℕ). putMid b k t ys) n-is (e .start-is);
     }

@@ -13,7 +13,7 @@ use Rattle.rules.specs.Table.{headerWords, need, openQuestions, openTable}
 use Rattle.rules.specs.laws.table.EncodedStep.{hall-opens}
 use Rattle.rules.specs.laws.table.TableSteps.{accepted-open, refused-open}
 use Rattle.rules.specs.laws.table.WordBounds.{by-open}
-use Rattle.reply.specs.Answer.{answerOf, told}
+use Rattle.reply.specs.Answer.{answerOf, tableResult}
 use Rattle.reply.specs.declared.Reply.{Reply}
 use Rattle.reply.specs.declared.Reply.the-variants.{Accepted, BadDesks, BadPositions, BadScreens, TableShort}
 
@@ -42,9 +42,9 @@ module _ (H : Hall) (t : List ℕ) where
 
 -- what a table is left as, by the answer
 module _ (H : Hall) (t : List ℕ) (r : Reply) (e : answerOf r ≡ openTable hallLimits H t .answer) where
-  pub not-opened : (answerOf r .number ≡ 0 → ⊥) → told r t ≡ openTable hallLimits H t
+  pub not-opened : (answerOf r .number ≡ 0 → ⊥) → tableResult r t ≡ openTable hallLimits H t
   not-opened refused =
-      by-open hallLimits (λ d. answerOf r ≡ d .answer → told r t ≡ d) H t (λ n q a i. record { answer = a i; after = t })
+      by-open hallLimits (λ d. answerOf r ≡ d .answer → tableResult r t ≡ d) H t (λ n q a i. record { answer = a i; after = t })
       (λ q a. absurd (refused (ap (λ (x : Answer). x .number) a))) e
 
   pub is-opened : answerOf r .number ≡ 0 → firstNo (openQuestions hallLimits H t) ≡ 0
@@ -55,7 +55,7 @@ module _ (H : Hall) (t : List ℕ) (r : Reply) (e : answerOf r ≡ openTable hal
 -- the words from the header up to the need were cleared, and then the three of the header stored
 pub opened : (H : Hall) (t : List ℕ) (n : ℕ) (ys : List ℕ) → firstNo (openQuestions hallLimits H t) ≡ 0 → n ≡ need H
     → ys ≡ replicate (length (midOf headerWords (n - headerWords) t)) 0
-    → told (Accepted 0) (set (set (set (putMid headerWords (n - headerWords) t ys) 0 (H .desks)) 1 (H .screens)) 2 (H .positions)) ≡ openTable hallLimits H t
+    → tableResult (Accepted 0) (set (set (set (putMid headerWords (n - headerWords) t ys) 0 (H .desks)) 1 (H .screens)) 2 (H .positions)) ≡ openTable hallLimits H t
 opened H t n ys asked-all e q =
     let room : n ≤ length t = omega (arith, hall-opens hallLimits H t asked-all .1) in
     let zeros : ys ≡ replicate (need H - headerWords) 0 = rw (mid-len headerWords n t room, e) at q in

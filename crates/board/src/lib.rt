@@ -12,11 +12,10 @@ ghost use Prim.Native.Nat.{_+_, _-_, _*_, _≤_, _<_};
 ghost use lib.ListN.{length, drop as dropWords};
 ghost use Rattle.rules.specs.Hall.{hallLimits, hallOf, maxAllScreens, maxDesks, maxPositions};
 ghost use Rattle.rules.specs.Lists.{chunks, every};
-ghost use Rattle.rules.specs.Steps.{Collect, Drop, Retire, Swap, Take, inRange};
+ghost use Rattle.rules.specs.Steps.{Collect, Drop, Retire, Swap, Take, _sends_, inRange};
 ghost use Rattle.rules.specs.Table.{headerWords, inLimits, maxWords, need as hallNeed, openTable, recordSound, sound as soundTable, startFor, stepTable};
 ghost use Rattle.rules.specs.Table.{widthFor};
-ghost use Rattle.rules.specs.laws.table.Window.{deskIn};
-ghost use Rattle.reply.specs.Answer.{answerOf, told};
+ghost use Rattle.reply.specs.Answer.{answerOf, tableResult};
 ghost use Rattle.board.specs.Admission.{admissionOf, screenFor};
 ghost use Rattle.board.specs.Asked.{callOf};
 ghost use Rattle.board.specs.Opening.{OpeningAnswer};
@@ -197,7 +196,7 @@ pub fn opening(desks: u16, screens: u16, positions: u16, words: usize) -> Reply
 
 // Opening writes P, c, L and zeros up to the need.
 pub fn open(t: &mut [u16], desks: u16, screens: u16, positions: u16) -> Reply
-    ensures { λ r. ⌜ told r (now (t .exit)) ≡ openTable hallLimits (hallOf desks screens positions) (now (t .entry)) ⌝ }
+    ensures { λ r. ⌜ tableResult r (now (t .exit)) ≡ openTable hallLimits (hallOf desks screens positions) (now (t .entry)) ⌝ }
 {
     let r = opening(desks, screens, positions, t.len());
     if number(r) != 0 {
@@ -213,7 +212,7 @@ pub fn open(t: &mut [u16], desks: u16, screens: u16, positions: u16) -> Reply
 
 // Take: the screen shows the position's session; the reply is that session.
 pub fn take(t: &mut [u16], desk: u16, screen: u16, position: u16) -> Reply
-    ensures { λ r. ⌜ told r (now (t .exit)) ≡ stepTable hallLimits (now (t .entry)) (Take desk screen position) ⌝ }
+    ensures { λ r. ⌜ tableResult r (now (t .exit)) ≡ stepTable hallLimits (now (t .entry)) (desk sends Take screen position) ⌝ }
 {
     let admission = admit(t, desk);
     match admission {
@@ -244,7 +243,7 @@ pub fn take(t: &mut [u16], desk: u16, screen: u16, position: u16) -> Reply
 
 // Drop: the screen becomes 0; the reply is what it showed.
 pub fn drop(t: &mut [u16], desk: u16, screen: u16) -> Reply
-    ensures { λ r. ⌜ told r (now (t .exit)) ≡ stepTable hallLimits (now (t .entry)) (Drop desk screen) ⌝ }
+    ensures { λ r. ⌜ tableResult r (now (t .exit)) ≡ stepTable hallLimits (now (t .entry)) (desk sends Drop screen) ⌝ }
 {
     let admission = admit(t, desk);
     match admission {
@@ -268,7 +267,7 @@ pub fn drop(t: &mut [u16], desk: u16, screen: u16) -> Reply
 
 // Swap: the position holds the new session or 0; the reply is the old one, and the desk owes it.
 pub fn swap(t: &mut [u16], desk: u16, position: u16, session: u16) -> Reply
-    ensures { λ r. ⌜ told r (now (t .exit)) ≡ stepTable hallLimits (now (t .entry)) (Swap desk position session) ⌝ }
+    ensures { λ r. ⌜ tableResult r (now (t .exit)) ≡ stepTable hallLimits (now (t .entry)) (desk sends Swap position session) ⌝ }
 {
     let admission = admit(t, desk);
     match admission {
@@ -294,7 +293,7 @@ pub fn swap(t: &mut [u16], desk: u16, position: u16, session: u16) -> Reply
 
 // Retire: the owed session goes to the end of the list as waiting; nothing is owed; the reply is that session.
 pub fn retire(t: &mut [u16], desk: u16) -> Reply
-    ensures { λ r. ⌜ told r (now (t .exit)) ≡ stepTable hallLimits (now (t .entry)) (Retire desk) ⌝ }
+    ensures { λ r. ⌜ tableResult r (now (t .exit)) ≡ stepTable hallLimits (now (t .entry)) (desk sends Retire) ⌝ }
 {
     let admission = admit(t, desk);
     match admission {
@@ -310,7 +309,7 @@ pub fn retire(t: &mut [u16], desk: u16) -> Reply
 
 // Collect: (a) to (d), on the record of the desk, with the next two screens of the hall or the last one alone.
 pub fn collect(t: &mut [u16], desk: u16) -> Reply
-    ensures { λ r. ⌜ told r (now (t .exit)) ≡ stepTable hallLimits (now (t .entry)) (Collect desk) ⌝ }
+    ensures { λ r. ⌜ tableResult r (now (t .exit)) ≡ stepTable hallLimits (now (t .entry)) (desk sends Collect) ⌝ }
 {
     let admission = admit(t, desk);
     match admission {
@@ -343,7 +342,7 @@ pub enum Call {
 
 // The desk that a call names.
 pub fn desk_of(call: Call) -> u16
-    ensures { λ r. ⌜ r ≡ deskIn (callOf call) ⌝ }
+    ensures { λ r. ⌜ r ≡ callOf call .desk ⌝ }
 {
     match call {
         Call::Take(desk, _, _) => desk,
@@ -356,7 +355,7 @@ pub fn desk_of(call: Call) -> u16
 
 // The step that a call asks for.
 pub fn step(t: &mut [u16], call: Call) -> Reply
-    ensures { λ r. ⌜ told r (now (t .exit)) ≡ stepTable hallLimits (now (t .entry)) (callOf call) ⌝ }
+    ensures { λ r. ⌜ tableResult r (now (t .exit)) ≡ stepTable hallLimits (now (t .entry)) (callOf call) ⌝ }
 {
     match call {
         Call::Take(desk, screen, position) => take(t, desk, screen, position),

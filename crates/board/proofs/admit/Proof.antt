@@ -63,7 +63,7 @@ word-requires-3 : tie.Need-word-requires-3
 word-requires-3 c κs = let a = c .before .before .before .before in let f = known hallLimits (T a) (is-sound a) in omega arith
 
 mul-s : tie.Need-mul-s
-mul-s c = let a = c .before .before .before .before .before in omega (arith, all-is c, known hallLimits (T a) (is-sound a) .most)
+mul-s c = let a = c .before .before .before .before .before in omega (arith, all-is c, known hallLimits (T a) (is-sound a) .bounded)
 
 sub-record-start : tie.Need-sub-record-start
 sub-record-start c = omega (arith, desk-range (c .before .before))

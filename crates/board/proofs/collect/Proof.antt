@@ -4,11 +4,11 @@ use native.Mathlib.Omega.{arith}
 use mathlib.Core.List.{List}
 use mathlib.Core.Path.{sym, _∙_}
 use borrow.Author.Needs.{needs}
-use Rattle.rules.specs.Steps.{Collect}
+use Rattle.rules.specs.Steps.{Collect, _sends_}
 use Rattle.board.specs.declared.Location.{Location}
 use Rattle.board.proofs.AdmissionLaws.{Admitted, admitted, refused}
 use Rattle.board.proofs.LocationLaws.{Lent, lent}
-use Rattle.board.proofs.StepLaws.{Reads, collect-told, reads}
+use Rattle.board.proofs.StepLaws.{Reads, collect-result, reads}
 use Rattle.board.proofs.collect.Statement.{statement}
 use Rattle.board.proofs.collect.Tie as tie
 
@@ -86,7 +86,7 @@ part-collect-record-end c = here (c .before .before .before .before .before .bef
 collect-record-requires : tie.Need-collect-record-requires
 collect-record-requires c κs =
     let b = c .before .before .before .before in
-    (record-lent (b .before .before .before) .encoded, omega (arith, reading b .scanned-is, here (b .before .before .before) .most), omega arith, omega arith)
+    (record-lent (b .before .before .before) .encoded, omega (arith, reading b .scanned-is, here (b .before .before .before) .bounded), omega arith, omega arith)
 
 mul-collect-record-2 : tie.Need-mul-collect-record-2
 mul-collect-record-2 c = let e = here (c .before .before .before .before .before) in omega arith
@@ -104,13 +104,13 @@ collect-record-requires-2 : tie.Need-collect-record-requires-2
 collect-record-requires-2 c κs =
     let b = c .before .before .before in
     let g = reading b in
-    (record-lent (b .before .before .before) .encoded, omega (arith, g .scanned-is, here (b .before .before .before) .most), omega arith, omega arith)
+    (record-lent (b .before .before .before) .encoded, omega (arith, g .scanned-is, here (b .before .before .before) .bounded), omega arith, omega arith)
 
 same-length : tie.Need-same-length
 same-length c = search needs
 
 returns : tie.Need-returns
-returns c = refused (Collect _) (sym (c .before .admission .given .1) ∙ c .before .before .before .admit .ensures)
+returns c = refused (_ sends Collect) (sym (c .before .admission .given .1) ∙ c .before .before .before .admit .ensures)
 
 same-length-2 : tie.Need-same-length-2
 same-length-2 c = search needs
@@ -120,7 +120,7 @@ returns-2 c =
     let b = c .before .before .before .before .before .before .before in
     let a = b .before .before .before in
     let r = c .before .before .collect-record .ensures in
-    collect-told (here a) (record-lent a) _ (reading b .see-two (c .before .before .before .before .before .if1 .taken)) _ _ (r .0) (r .1)
+    collect-result (here a) (record-lent a) _ (reading b .see-two (c .before .before .before .before .before .if1 .taken)) _ _ (r .0) (r .1)
 
 same-length-3 : tie.Need-same-length-3
 same-length-3 c = search needs
@@ -130,7 +130,7 @@ returns-3 c =
     let b = c .before .before .before .before .before .before in
     let a = b .before .before .before in
     let r = c .before .before .collect-record2 .ensures in
-    collect-told (here a) (record-lent a) _ (reading b .see-one (c .before .before .before .before .if1 .left)) _ _ (r .0) (r .1)
+    collect-result (here a) (record-lent a) _ (reading b .see-one (c .before .before .before .before .if1 .left)) _ _ (r .0) (r .1)
 
 pub collect-spec : {M : Type 1} → statement M
 collect-spec =

@@ -5,7 +5,7 @@ use mathlib.Core.Bool.{true}
 use mathlib.Core.List.{List}
 use mathlib.Core.Path.{_≡_, refl, sym, _∙_}
 use borrow.Author.Needs.{needs}
-use Rattle.rules.specs.Steps.{Drop, inRange}
+use Rattle.rules.specs.Steps.{Drop, inRange, _sends_}
 use Rattle.board.specs.declared.Location.{Location}
 use Rattle.board.proofs.AdmissionLaws.{Admitted, admitted, refused}
 use Rattle.board.proofs.LocationLaws.{AtScreen, at-screen}
@@ -53,10 +53,10 @@ returns : tie.Need-returns
 returns c = drop-no-screen (here (c .before .before)) _ (said-no (c .before .in-range .ensures) (c .if1 .taken))
 
 screen-at-requires : tie.Need-screen-at-requires
-screen-at-requires c κs = let s = at-screen (here (c .before .before)) (own c) refl in (s .desk, s .first, s .most)
+screen-at-requires c κs = let s = at-screen (here (c .before .before)) (own c) refl in (s .desk, s .first, s .bounded)
 
 mul-shown : tie.Need-mul-shown
-mul-shown c = omega (arith, screen c .most)
+mul-shown c = omega (arith, screen c .bounded)
 
 slice-read-shown : tie.Need-slice-read-shown
 slice-read-shown c = screen (c .before) .there
@@ -68,7 +68,7 @@ returns-2 : tie.Need-returns-2
 returns-2 c = let w = c .before .before in drop-screen-empty (here (w .before .before .before)) (screen w) (c .if2 .taken)
 
 mul-t : tie.Need-mul-t
-mul-t c = omega (arith, screen (c .before .before) .most)
+mul-t c = omega (arith, screen (c .before .before) .bounded)
 
 slice-write-t : tie.Need-slice-write-t
 slice-write-t c = screen (c .before .before) .there
@@ -77,7 +77,7 @@ same-length-3 : tie.Need-same-length-3
 same-length-3 c = search needs
 
 returns-3 : tie.Need-returns-3
-returns-3 c = refused (Drop _ _) (sym (c .before .admission .given .1) ∙ c .before .before .before .admit .ensures)
+returns-3 c = refused (_ sends Drop _) (sym (c .before .admission .given .1) ∙ c .before .before .before .admit .ensures)
 
 same-length-4 : tie.Need-same-length-4
 same-length-4 c = search needs

@@ -4,11 +4,11 @@ use native.Mathlib.Omega.{arith}
 use mathlib.Core.List.{List}
 use mathlib.Core.Path.{sym, _∙_}
 use borrow.Author.Needs.{needs}
-use Rattle.rules.specs.Steps.{Retire}
+use Rattle.rules.specs.Steps.{Retire, _sends_}
 use Rattle.board.specs.declared.Location.{Location}
 use Rattle.board.proofs.AdmissionLaws.{Admitted, admitted, refused}
 use Rattle.board.proofs.LocationLaws.{Lent, lent}
-use Rattle.board.proofs.StepLaws.{retire-told}
+use Rattle.board.proofs.StepLaws.{retire-result}
 use Rattle.board.proofs.retire.Statement.{statement}
 use Rattle.board.proofs.retire.Tie as tie
 
@@ -56,7 +56,7 @@ same-length : tie.Need-same-length
 same-length c = search needs
 
 returns : tie.Need-returns
-returns c = refused (Retire _) (sym (c .before .admission .given .1) ∙ c .before .before .before .admit .ensures)
+returns c = refused (_ sends Retire) (sym (c .before .admission .given .1) ∙ c .before .before .before .admit .ensures)
 
 same-length-2 : tie.Need-same-length-2
 same-length-2 c = search needs
@@ -65,7 +65,7 @@ returns-2 : tie.Need-returns-2
 returns-2 c =
     let a = c .before .before .before .before in
     let r = c .before .before .retire-record in
-    retire-told (here a) (record-lent a) (r .result) _ (r .ensures)
+    retire-result (here a) (record-lent a) (r .result) _ (r .ensures)
 
 pub retire-spec : {M : Type 1} → statement M
 retire-spec =

@@ -9,7 +9,7 @@ use mathlib.Core.Path.{_≡_, sym, _∙_, ap}
 use lib.ListN.{take, drop}
 use borrow.Author.Needs.{needs}
 use Rattle.rules.specs.Lists.{chunks, every}
-use Rattle.rules.specs.Table.{headerWords, recordSound, widthFor}
+use Rattle.rules.specs.Table.{headerWords, recordSound, widthFor, listOffset}
 use Rattle.board.proofs.SoundLaws.{one-bad, one-more, record-at, said-no, said-yes}
 use Rattle.board.proofs.sound_records.Statement.{statement}
 use Rattle.board.proofs.sound_records.Tie as tie
@@ -38,7 +38,10 @@ answer : (a : Asked) → a .sound-record .result ≡ recordSound (S a) (take (wi
 answer a =
     let o = a .before .before .before .before .before .before .args in
     let r = a .before .before .record-start in
-    a .sound-record .ensures ∙ ap (recordSound (S a)) (record-at (o .t .now) (r .result) (headerWords + o .l + o .s) (D a) (widthFor (S a)) (r .ensures .0))
+    let width : listOffset + 2 * S a ≡ widthFor (S a) = omega arith in
+    a .sound-record .ensures
+    ∙ ap (λ (w : ℕ). recordSound (S a) (take (r .result + w - r .result) (drop (r .result) (o .t .now)))) width
+    ∙ ap (recordSound (S a)) (record-at (o .t .now) (r .result) (headerWords + o .l + o .s) (D a) (widthFor (S a)) (r .ensures .0))
 
 mul-size : tie.Need-mul-size Inv-loop μ-loop
 mul-size c = search needs

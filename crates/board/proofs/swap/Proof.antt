@@ -5,7 +5,7 @@ use mathlib.Core.List.{List}
 use mathlib.Core.Path.{sym, _∙_}
 use lib.ListN.{length-set}
 use borrow.Author.Needs.{needs}
-use Rattle.rules.specs.Steps.{Swap}
+use Rattle.rules.specs.Steps.{Swap, _sends_}
 use Rattle.board.specs.declared.Location.{Location}
 use Rattle.board.proofs.AdmissionLaws.{Admitted, admitted, refused}
 use Rattle.board.proofs.LocationLaws.{AtPosition, at-position}
@@ -89,7 +89,7 @@ same-length-3 : tie.Need-same-length-3
 same-length-3 c = search needs
 
 returns-3 : tie.Need-returns-3
-returns-3 c = refused (Swap _ _ _) (sym (c .before .admission .given .1) ∙ c .before .before .before .admit .ensures)
+returns-3 c = refused (_ sends Swap _ _) (sym (c .before .admission .given .1) ∙ c .before .before .before .admit .ensures)
 
 same-length-4 : tie.Need-same-length-4
 same-length-4 c = search needs

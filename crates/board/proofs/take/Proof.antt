@@ -5,7 +5,7 @@ use mathlib.Core.Bool.{true}
 use mathlib.Core.List.{List}
 use mathlib.Core.Path.{_≡_, refl, sym, _∙_}
 use borrow.Author.Needs.{needs}
-use Rattle.rules.specs.Steps.{Take, inRange}
+use Rattle.rules.specs.Steps.{Take, inRange, _sends_}
 use Rattle.board.specs.declared.Location.{Location}
 use Rattle.board.proofs.AdmissionLaws.{Admitted, admitted, refused}
 use Rattle.board.proofs.LocationLaws.{AtPosition, AtScreen, at-position, at-screen}
@@ -72,10 +72,10 @@ screen-at-requires : tie.Need-screen-at-requires
 screen-at-requires c κs =
     let b = c .before .before in
     let s = at-screen (here (b .before .before)) (own b) refl in
-    (s .desk, s .first, s .most)
+    (s .desk, s .first, s .bounded)
 
 mul-if3 : tie.Need-mul-if3
-mul-if3 c = omega (arith, screen c .most)
+mul-if3 c = omega (arith, screen c .bounded)
 
 slice-read-if3 : tie.Need-slice-read-if3
 slice-read-if3 c = screen (c .before) .there
@@ -109,7 +109,7 @@ returns-4 c =
     take-position-empty (here (w .before .before .before .before .before)) (screen w) (position (w .before)) (c .before .before .if3 .left) (c .if4 .taken)
 
 mul-t : tie.Need-mul-t
-mul-t c = omega (arith, screen (c .before .before .before .before) .most)
+mul-t c = omega (arith, screen (c .before .before .before .before) .bounded)
 
 slice-write-t : tie.Need-slice-write-t
 slice-write-t c = screen (c .before .before .before .before) .there
@@ -118,7 +118,7 @@ same-length-5 : tie.Need-same-length-5
 same-length-5 c = search needs
 
 returns-5 : tie.Need-returns-5
-returns-5 c = refused (Take _ _ _) (sym (c .before .admission .given .1) ∙ c .before .before .before .admit .ensures)
+returns-5 c = refused (_ sends Take _ _) (sym (c .before .admission .given .1) ∙ c .before .before .before .admit .ensures)
 
 same-length-6 : tie.Need-same-length-6
 same-length-6 c = search needs

@@ -1,9 +1,9 @@
 -- `board::Board::need` meets its contract.
-use Prim.Native.Nat.{_*_, _≤_}
+use Prim.Native.Nat.{_*_, _≤_, _+_, ℕ}
 use native.Mathlib.Nat.{mul-le-mul}
 use native.Mathlib.Omega.{arith}
-use mathlib.Core.Path.{refl}
-use Rattle.rules.specs.Table.{widthFor}
+use mathlib.Core.Path.{_≡_, ap}
+use Rattle.rules.specs.Table.{widthFor, listOffset, headerWords}
 use Rattle.board.proofs.Board.need.Statement.{statement}
 use Rattle.board.proofs.Board.need.Tie as tie
 
@@ -42,7 +42,10 @@ add-result-4 : tie.Need-add-result-4
 add-result-4 c = omega (arith, screens c, records c)
 
 returns : tie.Need-returns
-returns c = refl
+returns c =
+    let s = c .args .desks * c .args .screens in
+    let width : listOffset + 2 * s ≡ widthFor s = omega arith in
+    ap (λ (w : ℕ). headerWords + (c .args .positions + (s + c .args .desks * w))) width
 
 pub need-spec : {M : Type 1} → statement M
 need-spec =
