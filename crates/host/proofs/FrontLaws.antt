@@ -11,7 +11,7 @@ use Rattle.rules.specs.Table.{hallIn, headerWords, inLimits, need}
 use Rattle.rules.specs.laws.bytes.Bytes.{words-length}
 use Rattle.rules.specs.laws.table.EncodedStep.{limits-fit}
 use Rattle.rules.specs.laws.table.NeedSuffices.{need-at-most}
-use Rattle.host.specs.Heard.{Front}
+use Rattle.host.specs.Results.{Front}
 
 pub header-alone : (H : Hall) → (inLimits hallLimits H ≡ true → ⊥) → Front H headerWords
 header-alone H none = record { header = omega arith; most = omega arith; enough = λ inside. absurd (none inside) }

@@ -6,17 +6,17 @@ use mathlib.Core.Path.{_≡_, refl, sym, ap, ap₂, _∙_}
 use lib.ListN.{length, take, drop, replicate, length-replicate}
 use lib.Seq.{length-take-le}
 use borrow.Rule.Slice.PartMut.{mid-len, midOf, post-is, putMid}
-use Rattle.rules.specs.Bytes.{IsBytes, bytesOfWords, openBytes, overwriteWords, reply, wordsOfBytes}
+use Rattle.rules.specs.Bytes.{IsBytes, bytesOfWords, openBytes, overwriteWords, wordsOfBytes, unpack}
 use Rattle.rules.specs.Hall.{Hall, hallLimits}
-use Rattle.rules.specs.Steps.{firstNo}
-use Rattle.rules.specs.Table.{TableDone, headerWords, maxWords, need, openQuestions, openTable}
+use Rattle.rules.specs.Steps.{firstNo, Result}
+use Rattle.rules.specs.Table.{headerWords, maxWords, need, openQuestions, openTable}
 use Rattle.rules.specs.laws.bytes.Bytes.{overwrite-back, words-length}
 use Rattle.rules.specs.laws.bytes.Front.{overwrite-front}
 use Rattle.rules.specs.laws.table.EncodedStep.{hall-opens, limits-fit}
 use Rattle.rules.specs.laws.table.NeedSuffices.{need-at-most}
 use Rattle.rules.specs.laws.table.TableSteps.{accepted-open}
 use Rattle.reply.specs.Answer.{answerOf}
-use Rattle.host.specs.Heard.{heard}
+use Rattle.host.specs.Results.{bytesResult}
 use Rattle.reply.specs.declared.Reply.{Reply}
 use Rattle.board.proofs.OpenLaws.{is-opened, not-opened}
 
@@ -49,19 +49,19 @@ module _ (H : Hall) (bytes : List ℕ) (r : Reply) (e : answerOf r ≡ openTable
         there = omega (arith, o .1, words-length bytes);
       }
 
-  module _ (are : IsBytes bytes) {number : ℕ} (answer : number ≡ reply (answerOf r)) where
-    pub refusal-heard : (answerOf r .number ≡ 0 → ⊥) → heard number bytes ≡ openBytes hallLimits H bytes
+  module _ (are : IsBytes bytes) (number : ℕ) (answer : unpack number ≡ answerOf r) where
+    pub refusal-result : (answerOf r .number ≡ 0 → ⊥) → bytesResult number bytes ≡ openBytes hallLimits H bytes
     unfolding openBytes
-    refusal-heard no-opening =
-        let same = ap (λ (d : TableDone). overwriteWords (d .after) bytes) (not-opened H (wordsOfBytes bytes) r e no-opening) in
-        λ i. heard ((answer ∙ ap reply e) i) ((sym (overwrite-back bytes are) ∙ same) i)
+    refusal-result no-opening =
+        let same = ap (λ (d : Result (List ℕ)). overwriteWords (d .after) bytes) (not-opened H (wordsOfBytes bytes) r e no-opening) in
+        λ i. record { answer = (answer ∙ e) i; after = (sym (overwrite-back bytes are) ∙ same) i }
 
     -- the header was laid over the bytes, and then zeros up to the need
-    pub opened-heard : answerOf r .number ≡ 0 → {n : ℕ} → n ≡ need H → {headed zeros : List ℕ} → headed ≡ overwriteWords (header H) bytes
+    pub opened-result : answerOf r .number ≡ 0 → {n : ℕ} → n ≡ need H → {headed zeros : List ℕ} → headed ≡ overwriteWords (header H) bytes
         → zeros ≡ replicate (length (midOf (2 * headerWords) (2 * n - 2 * headerWords) headed)) 0
-        → heard number (putMid (2 * headerWords) (2 * n - 2 * headerWords) headed zeros) ≡ openBytes hallLimits H bytes
+        → bytesResult number (putMid (2 * headerWords) (2 * n - 2 * headerWords) headed zeros) ≡ openBytes hallLimits H bytes
     unfolding openBytes overwriteWords
-    opened-heard z {n} is {headed} {zeros} h q =
+    opened-result z {n} is {headed} {zeros} h q =
         let place = room z in
         let words : List ℕ = H .desks ∷ H .screens ∷ H .positions ∷ replicate (need H - headerWords) 0 in
         let long : length words ≡ need H = omega (arith, place .least, length-replicate {A = ℕ} (need H - headerWords) 0) in
@@ -74,5 +74,5 @@ module _ (H : Hall) (bytes : List ℕ) (r : Reply) (e : answerOf r ≡ openTable
         let overwriteAt : putMid (2 * headerWords) (2 * n - 2 * headerWords) headed zeros ≡ overwriteWords words bytes =
         rw h (ap₂ {C = List ℕ} (λ x y. bytesOfWords (header H) ++ (x ++ y)) cleared behind) in
         let all : length words ≡ length (take (need H) (wordsOfBytes bytes)) = long ∙ sym (length-take-le (need H) (wordsOfBytes bytes) (place .words)) in
-        let opened = ap (λ (d : TableDone). overwriteWords (d .after) bytes) (sym (accepted-open hallLimits H (wordsOfBytes bytes) (place .asked))) in
-        λ i. heard ((answer ∙ ap reply e) i) ((overwriteAt ∙ overwrite-front (need H) bytes words are all ∙ opened) i)
+        let opened = ap (λ (d : Result (List ℕ)). overwriteWords (d .after) bytes) (sym (accepted-open hallLimits H (wordsOfBytes bytes) (place .asked))) in
+        λ i. record { answer = (answer ∙ e) i; after = (overwriteAt ∙ overwrite-front (need H) bytes words are all ∙ opened) i }

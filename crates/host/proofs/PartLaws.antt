@@ -12,7 +12,7 @@ use Rattle.rules.specs.Hall.{allScreens, maxAllScreens, maxDesks, maxPositions}
 use Rattle.rules.specs.Table.{hallIn, headerWords, recordStart, recordWidth, startFor}
 use Rattle.rules.specs.laws.table.TableSteps.{record-within}
 use Rattle.rules.specs.laws.table.Window.{Rewritten, overwriteRange, rewritten-overwritten}
-use Rattle.board.proofs.EntryLaws.{next-start}
+use Rattle.board.proofs.AdmissionLaws.{next-start}
 
 -- words laid over a part of the bytes that is as long
 overwrite-over-part : (words bytes : List ℕ) (n : ℕ) → 2 * length words ≡ n → n ≤ length bytes

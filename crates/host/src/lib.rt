@@ -7,17 +7,17 @@ use board::opening;
 use board::record_start;
 use board::step;
 use reply::number;
-use reply::packed;
+use reply::answer;
 ghost use mathlib.Core.Path.{_≡_};
 ghost use Prim.Native.Nat.{_+_, _*_, _<_, _≤_};
 ghost use lib.ListN.{length, getD, replicate, take as takeWords};
 ghost use Rattle.rules.specs.Bytes.{openBytes, overwriteWords, stepBytes, wordsOfBytes};
 ghost use Rattle.rules.specs.Hall.{hallLimits, hallOf};
-ghost use Rattle.rules.specs.Steps.{Collect, Drop, Retire, Swap, Take};
+ghost use Rattle.rules.specs.Steps.{_sends_, Collect, Drop, Retire, Swap, Take};
 ghost use Rattle.rules.specs.Table.{hallIn, maxWords};
 ghost use Rattle.rules.specs.laws.table.Window.{Rewritten, overwriteRange};
 ghost use Rattle.board.specs.Asked.{callOf};
-ghost use Rattle.host.specs.Heard.{Front, Seen, Told, fewWords, heard};
+ghost use Rattle.host.specs.Results.{Front, Seen, Told, bytesResult, fewWords};
 
 // How many words a step on a table of a hall looks at: its need, or the header alone where there is no such hall.
 fn front(desks: u16, screens: u16, positions: u16) -> usize
@@ -132,10 +132,10 @@ fn step_on_words(call: Call, n: usize, words: &mut [u16], table: &mut [u8]) -> u
 {
     let r = step(&mut words[..n], call);
     if number(r) != 0 {
-        return packed(r);
+        return answer(r);
     }
     write_back(&words[..n], desk_of(call), table);
-    packed(r)
+    answer(r)
 }
 
 // The words of the buffer for small tables: to clear one for the largest takes longer than a step on the smallest.
@@ -174,7 +174,7 @@ fn step_in_all(call: Call, table: &mut [u8]) -> u32
 // A step on a table sent as bytes, in a buffer for few words or for all. Each buffer is a function's own, so that they can share
 // their place on the stack.
 fn step_on_bytes(call: Call, table: &mut [u8]) -> u32
-    ensures { λ r. ⌜ heard r (now (table .exit)) ≡ stepBytes hallLimits (now (table .entry)) (callOf call) ⌝ }
+    ensures { λ r. ⌜ bytesResult r (now (table .exit)) ≡ stepBytes hallLimits (now (table .entry)) (callOf call) ⌝ }
 {
     let m = looked_at(table);
     let n = seen(table, m);
@@ -190,23 +190,23 @@ fn step_on_bytes(call: Call, table: &mut [u8]) -> u32
 // The opening of a hall of so many desks, screens per desk and positions: its header and zeros up to its need are written.
 #[no_mangle]
 pub extern "C" fn board_open(desks: u16, screens: u16, positions: u16, table: &mut [u8]) -> u32
-    ensures { λ r. ⌜ heard r (now (table .exit)) ≡ openBytes hallLimits (hallOf desks screens positions) (now (table .entry)) ⌝ }
+    ensures { λ r. ⌜ bytesResult r (now (table .exit)) ≡ openBytes hallLimits (hallOf desks screens positions) (now (table .entry)) ⌝ }
 {
     let r = opening(desks, screens, positions, table.len() / 2);
     if number(r) != 0 {
-        return packed(r);
+        return answer(r);
     }
     let header = [desks, screens, positions];
     encode(&header, HEADER, table);
     let n = Board::need(desks, screens, positions);
     clear(&mut table[2 * HEADER..2 * n]);
-    packed(r)
+    answer(r)
 }
 
 // Take: the screen shows the position's session.
 #[no_mangle]
 pub extern "C" fn board_take(desk: u16, screen: u16, position: u16, table: &mut [u8]) -> u32
-    ensures { λ r. ⌜ heard r (now (table .exit)) ≡ stepBytes hallLimits (now (table .entry)) (Take desk screen position) ⌝ }
+    ensures { λ r. ⌜ bytesResult r (now (table .exit)) ≡ stepBytes hallLimits (now (table .entry)) (desk sends Take screen position) ⌝ }
 {
     step_on_bytes(Call::Take(desk, screen, position), table)
 }
@@ -214,7 +214,7 @@ pub extern "C" fn board_take(desk: u16, screen: u16, position: u16, table: &mut 
 // Drop: the screen shows nothing.
 #[no_mangle]
 pub extern "C" fn board_drop(desk: u16, screen: u16, table: &mut [u8]) -> u32
-    ensures { λ r. ⌜ heard r (now (table .exit)) ≡ stepBytes hallLimits (now (table .entry)) (Drop desk screen) ⌝ }
+    ensures { λ r. ⌜ bytesResult r (now (table .exit)) ≡ stepBytes hallLimits (now (table .entry)) (desk sends Drop screen) ⌝ }
 {
     step_on_bytes(Call::Drop(desk, screen), table)
 }
@@ -222,7 +222,7 @@ pub extern "C" fn board_drop(desk: u16, screen: u16, table: &mut [u8]) -> u32
 // Swap: the position holds the session, or nothing, and the desk owes the one that stood there.
 #[no_mangle]
 pub extern "C" fn board_swap(desk: u16, position: u16, session: u16, table: &mut [u8]) -> u32
-    ensures { λ r. ⌜ heard r (now (table .exit)) ≡ stepBytes hallLimits (now (table .entry)) (Swap desk position session) ⌝ }
+    ensures { λ r. ⌜ bytesResult r (now (table .exit)) ≡ stepBytes hallLimits (now (table .entry)) (desk sends Swap position session) ⌝ }
 {
     step_on_bytes(Call::Swap(desk, position, session), table)
 }
@@ -230,7 +230,7 @@ pub extern "C" fn board_swap(desk: u16, position: u16, session: u16, table: &mut
 // Retire: the owed session goes to the end of the desk's list.
 #[no_mangle]
 pub extern "C" fn board_retire(desk: u16, table: &mut [u8]) -> u32
-    ensures { λ r. ⌜ heard r (now (table .exit)) ≡ stepBytes hallLimits (now (table .entry)) (Retire desk) ⌝ }
+    ensures { λ r. ⌜ bytesResult r (now (table .exit)) ≡ stepBytes hallLimits (now (table .entry)) (desk sends Retire) ⌝ }
 {
     step_on_bytes(Call::Retire(desk), table)
 }
@@ -238,7 +238,7 @@ pub extern "C" fn board_retire(desk: u16, table: &mut [u8]) -> u32
 // Collect: two screens are read, and a session may be handed back.
 #[no_mangle]
 pub extern "C" fn board_collect(desk: u16, table: &mut [u8]) -> u32
-    ensures { λ r. ⌜ heard r (now (table .exit)) ≡ stepBytes hallLimits (now (table .entry)) (Collect desk) ⌝ }
+    ensures { λ r. ⌜ bytesResult r (now (table .exit)) ≡ stepBytes hallLimits (now (table .entry)) (desk sends Collect) ⌝ }
 {
     step_on_bytes(Call::Collect(desk), table)
 }

@@ -8,7 +8,7 @@ use Rattle.rules.specs.Bytes.{wordsOfBytes}
 use Rattle.rules.specs.Hall.{Hall, hallLimits, hallOf}
 use Rattle.rules.specs.Table.{openTable}
 use Rattle.reply.specs.Answer.{answerOf}
-use Rattle.host.proofs.OpenLaws.{Room, opened-heard, refusal-heard, room}
+use Rattle.host.proofs.OpenLaws.{Room, opened-result, refusal-result, room}
 use Rattle.host.proofs.WordLaws.{half-length}
 use Rattle.host.proofs.board_open.Statement.{statement}
 use Rattle.host.proofs.board_open.Tie as tie
@@ -34,13 +34,13 @@ opening-requires c κs = search needs
 number-requires : tie.Need-number-requires
 number-requires c κs = search needs
 
-packed-requires : tie.Need-packed-requires
-packed-requires c κs = search needs
+answer-requires : tie.Need-answer-requires
+answer-requires c κs = search needs
 
 returns : tie.Need-returns
 returns c =
     let a = c .before .before .before in
-    refusal-heard (H a) (bytes a) (a .opening .result) (asked a) (λ j. a .before .slice-known .given j .fits) (c .packed .ensures)
+    refusal-result (H a) (bytes a) (a .opening .result) (asked a) (λ j. a .before .slice-known .given j .fits) (c .answer .result) (c .answer .ensures)
     (λ z. c .before .if1 .taken (c .before .before .number .ensures ∙ z))
 
 slice-aggregate-encode : tie.Need-slice-aggregate-encode
@@ -72,8 +72,8 @@ part-clear-end c =
 clear-requires : tie.Need-clear-requires
 clear-requires c κs = search needs
 
-packed-requires-2 : tie.Need-packed-requires-2
-packed-requires-2 c κs = search needs
+answer-requires-2 : tie.Need-answer-requires-2
+answer-requires-2 c κs = search needs
 
 same-length : tie.Need-same-length
 same-length c = search needs
@@ -84,9 +84,9 @@ returns-2 c =
     let d = n .before .before .before in
     let b = d .before .before .before .before in
     let a = b .before in
-    opened-heard (H a) (bytes a) (a .opening .result) (asked a) (λ j. a .before .slice-known .given j .fits) (c .packed2 .ensures)
+    opened-result (H a) (bytes a) (a .opening .result) (asked a) (λ j. a .before .slice-known .given j .fits) (c .answer2 .result) (c .answer2 .ensures)
     (omega (arith, b .number .ensures)) (n .need .ensures) (d .encode .ensures) (c .before .before .before .clear .ensures)
 
 pub board-open-spec : {M : Type 1} → statement M
 board-open-spec =
-    tie.close (tie.spec opening-requires number-requires packed-requires returns slice-aggregate-encode encode-requires need-requires mul-clear mul-clear-2 sub-clear part-clear-start part-clear-end clear-requires packed-requires-2 same-length returns-2)
+    tie.close (tie.spec opening-requires number-requires answer-requires returns slice-aggregate-encode encode-requires need-requires mul-clear mul-clear-2 sub-clear part-clear-start part-clear-end clear-requires answer-requires-2 same-length returns-2)

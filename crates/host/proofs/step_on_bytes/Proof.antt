@@ -3,8 +3,8 @@ use native.Mathlib.Omega.{arith}
 use mathlib.Core.Path.{_≡_, refl}
 use borrow.Author.Needs.{needs}
 use Rattle.rules.specs.Table.{maxWords}
-use Rattle.host.specs.Heard.{Seen}
-use Rattle.host.proofs.CallLaws.{step-heard}
+use Rattle.host.specs.Results.{Seen}
+use Rattle.host.proofs.CallLaws.{step-result}
 use Rattle.host.proofs.step_on_bytes.Statement.{statement}
 use Rattle.host.proofs.step_on_bytes.Tie as tie
 
@@ -28,7 +28,7 @@ same-length : tie.Need-same-length
 same-length c = search needs
 
 returns : tie.Need-returns
-returns c = step-heard (λ j. c .before .before .before .before .before .before .before .before .before .slice-known .given j .fits) (c .before .before .before .before .before .before .before .looked-at .ensures) (c .before .before .before .before .before .seen .ensures) refl (c .before .before .step-in-few .ensures)
+returns c = step-result (λ j. c .before .before .before .before .before .before .before .before .before .slice-known .given j .fits) (c .before .before .before .before .before .before .before .looked-at .ensures) (c .before .before .before .before .before .seen .ensures) refl (c .before .before .step-in-few .ensures)
 
 step-in-front-requires : tie.Need-step-in-front-requires
 step-in-front-requires c κs = search needs
@@ -37,7 +37,7 @@ same-length-2 : tie.Need-same-length-2
 same-length-2 c = search needs
 
 returns-2 : tie.Need-returns-2
-returns-2 c = step-heard (λ j. c .before .before .before .before .before .before .before .before .before .before .slice-known .given j .fits) (c .before .before .before .before .before .before .before .before .looked-at .ensures) (c .before .before .before .before .before .before .seen .ensures) refl (c .before .before .step-in-front .ensures)
+returns-2 c = step-result (λ j. c .before .before .before .before .before .before .before .before .before .before .slice-known .given j .fits) (c .before .before .before .before .before .before .before .before .looked-at .ensures) (c .before .before .before .before .before .before .seen .ensures) refl (c .before .before .step-in-front .ensures)
 
 step-in-all-requires : tie.Need-step-in-all-requires
 step-in-all-requires c κs = let l = largest ((c .before)) in l .there
@@ -46,7 +46,7 @@ same-length-3 : tie.Need-same-length-3
 same-length-3 c = search needs
 
 returns-3 : tie.Need-returns-3
-returns-3 c = step-heard (λ j. c .before .before .before .before .before .before .before .before .before .before .slice-known .given j .fits) (c .before .before .before .before .before .before .before .before .looked-at .ensures) (largest ((c .before .before .before .before))) refl (c .before .before .step-in-all .ensures)
+returns-3 c = step-result (λ j. c .before .before .before .before .before .before .before .before .before .before .slice-known .given j .fits) (c .before .before .before .before .before .before .before .before .looked-at .ensures) (largest ((c .before .before .before .before))) refl (c .before .before .step-in-all .ensures)
 
 pub step-on-bytes-spec : {M : Type 1} → statement M
 step-on-bytes-spec =

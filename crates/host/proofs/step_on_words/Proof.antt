@@ -7,7 +7,7 @@ use lib.Seq.{length-take-le}
 use borrow.Author.Needs.{needs}
 use Rattle.rules.specs.Steps.{Call as Asked}
 use Rattle.board.specs.Asked.{callOf}
-use Rattle.host.proofs.CallLaws.{lent-length, refusal-told, step-rewrote, step-told}
+use Rattle.host.proofs.CallLaws.{lent-length, refused-here, step-rewrote, step-written}
 use Rattle.host.proofs.step_on_words.Statement.{statement}
 use Rattle.host.proofs.step_on_words.Tie as tie
 
@@ -42,8 +42,8 @@ step-requires c κs = search needs
 number-requires : tie.Need-number-requires
 number-requires c κs = search needs
 
-packed-requires : tie.Need-packed-requires
-packed-requires c κs = search needs
+answer-requires : tie.Need-answer-requires
+answer-requires c κs = search needs
 
 same-length : tie.Need-same-length
 same-length c = search needs
@@ -51,7 +51,7 @@ same-length c = search needs
 returns : tie.Need-returns
 returns c =
     let a = c .before .before .before .before .before in
-    refusal-told (N a) (call a) (W a) (bytes a) (left a) (a .step .result) (a .step .ensures) (c .packed .ensures)
+    refused-here (N a) (call a) (W a) (bytes a) (left a) (a .step .result) (a .step .ensures) (c .answer .result) (c .answer .ensures)
     (λ z. c .before .if1 .taken (c .before .before .number .ensures ∙ z))
 
 slice-reshare-prefix-write-back : tie.Need-slice-reshare-prefix-write-back
@@ -72,8 +72,8 @@ write-back-requires c κs =
       omega (arith, lent-length (N a) (W a) (left a) (omega arith) (a .step .kept .0)),
     )
 
-packed-requires-2 : tie.Need-packed-requires-2
-packed-requires-2 c κs = search needs
+answer-requires-2 : tie.Need-answer-requires-2
+answer-requires-2 c κs = search needs
 
 same-length-2 : tie.Need-same-length-2
 same-length-2 c = search needs
@@ -86,9 +86,9 @@ returns-2 c =
     let w = c .before .before .before in
     let b = w .before .before .before .before .before in
     let a = b .before .before .before in
-    step-told (N a) (call a) (W a) (bytes a) (left a) (a .step .result) (a .step .ensures) (omega (arith, b .number .ensures)) (omega arith)
-    (a .step .kept .0) (c .packed2 .ensures) (w .write-back .ensures)
+    step-written (N a) (call a) (W a) (bytes a) (left a) (a .step .result) (a .step .ensures) (omega (arith, b .number .ensures)) (omega arith)
+    (a .step .kept .0) (c .answer2 .result) (c .answer2 .ensures) (w .write-back .ensures)
 
 pub step-on-words-spec : {M : Type 1} → statement M
 step-on-words-spec =
-    tie.close (tie.spec slice-relend-prefix-step slice-aggregate-step step-requires number-requires packed-requires same-length returns slice-reshare-prefix-write-back slice-aggregate-write-back desk-of-requires write-back-requires packed-requires-2 same-length-2 same-length-3 returns-2)
+    tie.close (tie.spec slice-relend-prefix-step slice-aggregate-step step-requires number-requires answer-requires same-length returns slice-reshare-prefix-write-back slice-aggregate-write-back desk-of-requires write-back-requires answer-requires-2 same-length-2 same-length-3 returns-2)
