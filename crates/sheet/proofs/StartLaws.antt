@@ -7,10 +7,10 @@ use mathlib.Core.List.{List, _++_, append-nil}
 use lib.ListN.{length}
 use Rattle.rules.specs.Hall.{Hall, hallLimits}
 use Rattle.rules.specs.Numbers.{got, refusalOf}
-use Rattle.rules.specs.Steps.{Answer}
-use Rattle.rules.specs.Table.{TableDone, openIf, openTable}
+use Rattle.rules.specs.Steps.{Answer, Result, decide}
+use Rattle.rules.specs.Table.{openTable, openedTable}
 use Rattle.lines.specs.Put.{Put}
-use Rattle.reply.specs.Answer.{answerOf, told}
+use Rattle.reply.specs.Answer.{answerOf, tableResult}
 use Rattle.sheet_rules.specs.Lines.{answerLine, endLine, line, linesFrom, linesOf, printed}
 use Rattle.sheet_rules.specs.Sheet.{headerAt, lentTable, maxBytes, opened, openedIf, openingNumber, reading, recordsAt, unopened}
 use Rattle.sheet_rules.specs.Tally.{zeros}
@@ -32,11 +32,11 @@ abbrev atFirst : ℕ → State
 atFirst next = record { place = next; index = 1; tally = noTally; finished = false }
 
 -- the reading of a sheet whose header was read, by the number that the board replied to the opening
-opening-number : (hall : Hall) (reply : Reply) (after : List ℕ) {number : ℕ} → told reply after ≡ openTable hallLimits hall lentTable
+opening-number : (hall : Hall) (reply : Reply) (after : List ℕ) {number : ℕ} → tableResult reply after ≡ openTable hallLimits hall lentTable
     → number ≡ answerOf reply .number
     → openingNumber hall ≡ number
 opening-number hall reply after tells is-number =
-    sym (ap (λ (answer : Answer). answer .number) (opening-answer hall)) ∙ sym (ap (λ (done : TableDone). done .answer .number) tells) ∙ sym is-number
+    sym (ap (λ (answer : Answer). answer .number) (opening-answer hall)) ∙ sym (ap (λ (done : Result (List ℕ)). done .answer .number) tells) ∙ sym is-number
 
 reads-by : (sheet : List ℕ) {hall : Hall} {next number : ℕ} → length sheet ≤ maxBytes → headerAt sheet 0 ≡ got hall next
     → openingNumber hall ≡ number
@@ -61,19 +61,19 @@ module _ {sheet out outAfter : List ℕ} {end : ℕ} where
 
   -- The header was read, and the board replied to the opening.
   module _ (reply : Reply) {hall : Hall} {next : ℕ} {after : List ℕ} {number : ℕ} (short : length sheet ≤ maxBytes)
-      (read : headerAt sheet 0 ≡ got hall next) (tells : told reply after ≡ openTable hallLimits hall lentTable) (is-number : number ≡ answerOf reply .number) where
+      (read : headerAt sheet 0 ≡ got hall next) (tells : tableResult reply after ≡ openTable hallLimits hall lentTable) (is-number : number ≡ answerOf reply .number) where
     pub started-refused : {is : State} → (number ≡ 0 → ⊥) → Put out outAfter 0 (line 0 0 number 0 ++ endLine zeros) end → is ≡ finishedAt atHeader
         → Started sheet out is after outAfter end
     unfolding openTable openingNumber
     started-refused some =
         started-stopped (reads-by sheet short read opening ∙ by-number number some .0)
-        (ap (λ (done : TableDone). done .after) tells ∙ ap (λ (n : ℕ). openIf n hall lentTable .after) opening ∙ by-number number some .1)
+        (ap (λ (done : Result (List ℕ)). done .after) tells ∙ ap (λ (n : ℕ). decide n lentTable 0 (openedTable hall lentTable) .after) opening ∙ by-number number some .1)
       where
         opening : openingNumber hall ≡ number
         opening = opening-number hall reply after tells is-number
 
         by-number : (n : ℕ) → (n ≡ 0 → ⊥)
-            → (openedIf n hall (recordsAt (length sheet) sheet next) ≡ unopened (refusalOf 0 n)) × (openIf n hall lentTable .after ≡ lentTable)
+            → (openedIf n hall (recordsAt (length sheet) sheet next) ≡ unopened (refusalOf 0 n)) × (decide n lentTable 0 (openedTable hall lentTable) .after ≡ lentTable)
         by-number zero some = absurd (some refl)
         by-number (suc n) some = (refl, refl)
 
@@ -98,7 +98,7 @@ module _ {sheet out outAfter : List ℕ} {end : ℕ} where
         reads = reads-by sheet short read opening
 
         leaves : after ≡ openTable hallLimits hall lentTable .after
-        leaves = ap (λ (done : TableDone). done .after) tells
+        leaves = ap (λ (done : Result (List ℕ)). done .after) tells
 
         answers : openTable hallLimits hall lentTable .answer ≡ record { number = 0; session = 0 }
         answers = opening-answer hall ∙ ap (λ (n : ℕ). record { number = n; session = 0 }) opening

@@ -10,11 +10,11 @@ use lib.ListN.{length, take, drop, length-append}
 use lib.Seq.{take-at, drop-at}
 use Rattle.rules.specs.Hall.{hallLimits}
 use Rattle.rules.specs.Numbers.{got, refusalOf, refused}
-use Rattle.rules.specs.Steps.{Answer}
-use Rattle.rules.specs.Table.{TableDone, stepTable}
+use Rattle.rules.specs.Steps.{Answer, Result}
+use Rattle.rules.specs.Table.{stepTable}
 use Rattle.lines.specs.Put.{Put, overwriteAt}
 use Rattle.lines.specs.laws.Put.{put-none, put-on}
-use Rattle.reply.specs.Answer.{answerOf, told}
+use Rattle.reply.specs.Answer.{answerOf, tableResult}
 use Rattle.sheet_rules.specs.Lines.{answerLine, endLine, line, linesFrom}
 use Rattle.sheet_rules.specs.Sheet.{Record, Records, callOf, callsIn, complete, more, recordAt, recordsAt, stop}
 use Rattle.sheet_rules.specs.Tally.{counted}
@@ -64,7 +64,7 @@ module _ {sheet : List ℕ} {was : State} (unfinished : was .finished ≡ false)
   -- A record was run.
   module _ {entry : Record} {next : ℕ} (inside : was .place < length sheet) (read : recordAt sheet (was .place) ≡ got entry next) where
     pub ran : (reply : Reply) {before after : List ℕ} {number session : ℕ} {total : Tally} {out outAfter : List ℕ} {at end : ℕ}
-        → told reply after ≡ stepTable hallLimits before (callOf entry)
+        → tableResult reply after ≡ stepTable hallLimits before (callOf entry)
         → number ≡ answerOf reply .number
         → session ≡ answerOf reply .session
         → tallyIs total ≡ counted (tallyIs (was .tally)) (eventOf (entry .code) number session)
@@ -90,10 +90,10 @@ module _ {sheet : List ℕ} {was : State} (unfinished : was .finished ≡ false)
         are = records-more sheet (was .place) entry next inside read
 
         answers : record { number = number; session = session } ≡ stepTable hallLimits before (callOf entry) .answer
-        answers = (λ i. record { number = is-number i; session = is-session i }) ∙ ap (λ (done : TableDone). done .answer) tells
+        answers = (λ i. record { number = is-number i; session = is-session i }) ∙ ap (λ (done : Result (List ℕ)). done .answer) tells
 
         leaves : after ≡ stepTable hallLimits before (callOf entry) .after
-        leaves = ap (λ (done : TableDone). done .after) tells
+        leaves = ap (λ (done : Result (List ℕ)). done .after) tells
 
         total-is : tallyIs total ≡ counted (tallyIs (was .tally)) (record { call = callOf entry; answer = stepTable hallLimits before (callOf entry) .answer })
         total-is =

@@ -6,8 +6,8 @@ use mathlib.Core.Bool.{true, false, cond}
 use mathlib.Core.List.{List, [], _∷_, _++_}
 use lib.ListN.{length, take, drop}
 use Rattle.rules.specs.Hall.{hallLimits}
-use Rattle.rules.specs.Steps.{Call}
-use Rattle.rules.specs.Table.{endTable, openTable}
+use Rattle.rules.specs.Steps.{Call, end}
+use Rattle.rules.specs.Table.{openTable, stepTable}
 use Rattle.lines.specs.Put.{Put}
 use Rattle.sheet_rules.specs.Lines.{linesFrom, printed}
 use Rattle.sheet_rules.specs.Sheet.{Reading, callsIn, lentTable, opened, reading, recordsAt, unopened}
@@ -43,7 +43,7 @@ pub record Piece (sheet : List ℕ) (was : State) (before bytes : List ℕ) (is 
   pub lines : bytes ++ toCome sheet is after ≡ toCome sheet was before
   pub calls : List Call
   pub run : calls ++ callsToCome sheet is ≡ callsToCome sheet was
-  pub table : after ≡ endTable hallLimits before calls
+  pub table : after ≡ end (stepTable hallLimits) before calls
 
 -- There are fewer turns left, unless there were none. A record's number is at most its place, so that numbers do not run over.
 pub record Onward (sheet : List ℕ) (was is : State) : Type 0 where
@@ -76,7 +76,7 @@ callsOf (opened hall records) = callsIn records
 
 -- the table once all steps of a sheet are run
 abbrev pub sheetTable : List ℕ → List ℕ
-sheetTable sheet = endTable hallLimits (startTable (reading sheet)) (callsOf (reading sheet))
+sheetTable sheet = end (stepTable hallLimits) (startTable (reading sheet)) (callsOf (reading sheet))
 
 -- The first bytes to be printed: the header's line, or all there is where the reading ends before a record.
 pub record Started (sheet out : List ℕ) (is : State) (after outAfter : List ℕ) (put : ℕ) : Type 0 where

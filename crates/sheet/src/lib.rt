@@ -26,7 +26,7 @@ ghost use Rattle.rules.specs.Hall.{hallLimits};
 ghost use Rattle.rules.specs.Table.{stepTable};
 ghost use Rattle.lines.specs.Put.{Put};
 ghost use Rattle.reader.specs.Told.{recordOf};
-ghost use Rattle.reply.specs.Answer.{told};
+ghost use Rattle.reply.specs.Answer.{tableResult};
 ghost use Rattle.sheet_rules.specs.Lines.{endLine, line};
 ghost use Rattle.sheet_rules.specs.Sheet.{callOf, lentTable};
 ghost use Rattle.tally.specs.Count.{tallyIs};
@@ -61,7 +61,7 @@ pub struct Filled {
 
 // The step that a record asks for. (Its code is 1 to 5: the reader keeps the others out.)
 pub fn run_record(table: &mut [u16], entry: Record) -> Reply
-    ensures { λ r. ⌜ told r (now (table .exit)) ≡ stepTable hallLimits (now (table .entry)) (callOf (recordOf entry)) ⌝ }
+    ensures { λ r. ⌜ tableResult r (now (table .exit)) ≡ stepTable hallLimits (now (table .entry)) (callOf (recordOf entry)) ⌝ }
 {
     let code = entry.code;
     match code {

@@ -13,7 +13,7 @@ use Rattle.tally.specs.Count.{eventOf}
 -- A refused step hands nothing back.
 pub refused-no-hand-back : (code number session : ℕ) → (number ≡ 0 → ⊥) → false ≡ isHandedBack (eventOf code number session)
 refused-no-hand-back code zero session some = absurd (some refl)
-refused-no-hand-back code (suc n) session some = sym (refused-hands-nothing (eventOf code (suc n) session .call) n session)
+refused-no-hand-back code (suc n) session some = sym (refused-hands-nothing (eventOf code (suc n) session .call .step) n session)
 
 -- Neither does an accepted take, drop, swap or retire.
 pub no-collect : (code session : ℕ) → 1 ≤ code → code ≤ 4 → false ≡ isHandedBack (eventOf code 0 session)
@@ -26,4 +26,4 @@ no-collect (suc (suc (suc (suc (suc code))))) session low high = absurd (omega a
 
 -- An accepted collect hands back the session that it replies, if there is one.
 pub accepted-collect : (code session : ℕ) → (1 ≤ code → code ≤ 4 → ⊥) → isSession session ≡ isHandedBack (eventOf code 0 session)
-accepted-collect code session other = rw (asks-collect (recordFor code 0 0 0 0) other) (sym (collect-hands-back 0 session))
+accepted-collect code session other = rw (asks-collect (recordFor code 0 0 0 0) other) (sym (collect-hands-back session))

@@ -8,7 +8,7 @@ use Rattle.rules.specs.Numbers.{got, refusalOf, refused}
 use Rattle.rules.specs.Table.{openTable}
 use Rattle.lines.specs.laws.Longest.{line-length}
 use Rattle.reader.specs.Told.{headerOf, toldHeader}
-use Rattle.reply.specs.Answer.{told}
+use Rattle.reply.specs.Answer.{tableResult}
 use Rattle.sheet_rules.specs.Sheet.{headerAt, lentTable}
 use Rattle.sheet_rules.specs.laws.Sheet.{short-enough, too-long}
 use Rattle.sheet.proofs.StartLaws.{started-opened, started-refused, started-stopped}
@@ -22,7 +22,7 @@ header-read c = sym (c .before .before .before .read-header .ensures) ∙ ap tol
 -- what the board replied to the opening
 opening : (c : tie.After-number) →
     let replied = c .before .before .before .«open» in
-    told (replied .result) (replied .last .0) ≡ openTable hallLimits (headerOf (c .before .before .before .before .before .before .header .given .0 .0)) lentTable
+    tableResult (replied .result) (replied .last .0) ≡ openTable hallLimits (headerOf (c .before .before .before .before .before .before .header .given .0 .0)) lentTable
 opening c = c .before .before .before .«open» .ensures ∙ ap (openTable hallLimits _) (c .before .before .before .before .before .before .before .before .before .before .before .before .before .pre .0)
 
 stop-requires : tie.Need-stop-requires

@@ -6,12 +6,12 @@ use mathlib.Core.Bool.{Bool, true, false, cond}
 use mathlib.Core.List.{List, [], _∷_, _++_, append-assoc, append-nil}
 use lib.ListN.{length}
 use Rattle.rules.specs.Hall.{hallLimits}
-use Rattle.rules.specs.Steps.{Call}
-use Rattle.rules.specs.Table.{endTable, stepTable}
+use Rattle.rules.specs.Steps.{Call, end}
+use Rattle.rules.specs.Table.{stepTable}
 use Rattle.sheet.specs.Turn.{Left, Onward, Piece, Started, Turns, bytesOf, callsToCome, lastState, lastTable, sheetTable, toCome, turnsLeft}
 use Rattle.sheet.specs.declared.State.{State}
 
-end-on : (table : List ℕ) (calls more : List Call) → endTable hallLimits table (calls ++ more) ≡ endTable hallLimits (endTable hallLimits table calls) more
+end-on : (table : List ℕ) (calls more : List Call) → end (stepTable hallLimits) table (calls ++ more) ≡ end (stepTable hallLimits) (end (stepTable hallLimits) table calls) more
 end-on table [] more = refl
 end-on table (call ∷ calls) more = end-on (stepTable hallLimits table call .after) calls more
 
@@ -32,7 +32,7 @@ piece-on {sheet} {first} {table} {bytes} {second} {middle} {more} {third} {last}
       append-assoc (one .calls) (two .calls) (callsToCome sheet third)
       ∙ ap (λ (rest : List Call). one .calls ++ rest) (two .run)
       ∙ one .run;
-  table = two .table ∙ ap (λ (words : List ℕ). endTable hallLimits words (two .calls)) (one .table) ∙ sym (end-on table (one .calls) (two .calls));
+  table = two .table ∙ ap (λ (words : List ℕ). end (stepTable hallLimits) words (two .calls)) (one .table) ∙ sym (end-on table (one .calls) (two .calls));
 }
 
 -- a piece that ends finished is all that was to come
@@ -45,22 +45,22 @@ all-printed {sheet} {was} {before} {bytes} {is} {after} piece finished =
 
 -- ---- The table that the steps still to be run will leave: no piece changes it.
 abbrev pub tableToCome : List ℕ → State → List ℕ → List ℕ
-tableToCome sheet state table = endTable hallLimits table (callsToCome sheet state)
+tableToCome sheet state table = end (stepTable hallLimits) table (callsToCome sheet state)
 
 pub table-at-start : {sheet out : List ℕ} {first : State} {table outAfter : List ℕ} {put : ℕ} → Started sheet out first table outAfter put
     → tableToCome sheet first table ≡ sheetTable sheet
-table-at-start started = λ i. endTable hallLimits (started .table i) (started .run i)
+table-at-start started = λ i. end (stepTable hallLimits) (started .table i) (started .run i)
 
 pub table-kept : {sheet : List ℕ} {was : State} {before bytes : List ℕ} {is : State} {after : List ℕ} → Piece sheet was before bytes is after
     → tableToCome sheet is after ≡ tableToCome sheet was before
 table-kept {sheet} {was} {before} {bytes} {is} piece =
-    ap (λ (words : List ℕ). endTable hallLimits words (callsToCome sheet is)) (piece .table)
+    ap (λ (words : List ℕ). end (stepTable hallLimits) words (callsToCome sheet is)) (piece .table)
     ∙ sym (end-on before (piece .calls) (callsToCome sheet is))
-    ∙ ap (endTable hallLimits before) (piece .run)
+    ∙ ap (end (stepTable hallLimits) before) (piece .run)
 
 -- once the state is finished, nothing is still to be run
 pub table-at-end : (sheet : List ℕ) (state : State) (table : List ℕ) → state .finished ≡ true → tableToCome sheet state table ≡ table
-table-at-end sheet state table finished = let none : callsToCome sheet state ≡ [] = simp finished in ap (endTable hallLimits table) none
+table-at-end sheet state table finished = let none : callsToCome sheet state ≡ [] = simp finished in ap (end (stepTable hallLimits) table) none
 
 -- ---- Turns.
 pub turns-piece : (sheet : List ℕ) (was : State) (before : List ℕ) (turns : List Left) → Turns sheet was before turns

@@ -8,12 +8,12 @@ use lib.ListN.{length}
 use lib.Dec.{leb, ltb}
 use Rattle.rules.specs.Hall.{Hall, hallLimits}
 use Rattle.rules.specs.Numbers.{Got, Refusal, got, refusalOf, refused}
-use Rattle.rules.specs.Steps.{Event}
-use Rattle.rules.specs.Table.{TableDone, openTable, openedTable, runTable, stepTable}
+use Rattle.rules.specs.Steps.{Event, Result, accept, run}
+use Rattle.rules.specs.Table.{openTable, openedTable, stepTable}
 use Rattle.rules.specs.laws.history.StepEffects.{in-range}
 use Rattle.rules.specs.laws.table.TableSteps.{accepted-open}
 use Rattle.sheet_rules.specs.Lines.{answerLine, endLine, endingLine, eventLines, line, linesFrom, linesOf, printed}
-use Rattle.sheet_rules.specs.Sheet.{Record, Records, callOf, callsIn, codeOf, complete, headed, headerAt, isCode, lentTable, maxBytes, more, onward}
+use Rattle.sheet_rules.specs.Sheet.{Record, Records, callOf, callsIn, codeOf, complete, headed, headerAt, isCode, lentTable, maxBytes, more, onward, stepOf}
 use Rattle.sheet_rules.specs.Sheet.{opened, openedIf, openingNumber, reading, recordAt, recordFor, recordsAt, stop, unopened}
 use Rattle.sheet_rules.specs.Tally.{Tally, counted, countsIn, tallied, zeros}
 use Rattle.sheet_rules.specs.laws.Sheet.{record-got}
@@ -49,7 +49,7 @@ opened-from sheet hall records e = by-length (leb (length sheet) maxBytes) e
     by-length false opens = absurd (unopened-not-opened opens)
 
 pub opening-accepted : (sheet : List ℕ) (hall : Hall) (records : Records) → reading sheet ≡ opened hall records
-    → openTable hallLimits hall lentTable ≡ record { answer = record { number = 0; session = 0 }; after = openedTable hall lentTable }
+    → openTable hallLimits hall lentTable ≡ accept 0 (openedTable hall lentTable)
 unfolding openingNumber
 opening-accepted sheet hall records e = accepted-open hallLimits hall lentTable (opened-from sheet hall records e .accepted)
 
@@ -69,52 +69,52 @@ each-code (suc most) sheet at = by-place (ltb at (length sheet)) (recordAt sheet
     by-place true (refused reason) e later = tt
     by-place false found e later = tt
 
-code-of-call : (code desk screen position session : ℕ) → isCode code ≡ true → codeOf (callOf (recordFor code desk screen position session)) ≡ code
-code-of-call zero desk screen position session good = absurd (omega (arith, in-range 0 5 good .0))
-code-of-call (suc zero) desk screen position session good = refl
-code-of-call (suc (suc zero)) desk screen position session good = refl
-code-of-call (suc (suc (suc zero))) desk screen position session good = refl
-code-of-call (suc (suc (suc (suc zero)))) desk screen position session good = refl
-code-of-call (suc (suc (suc (suc (suc zero))))) desk screen position session good = refl
-code-of-call (suc (suc (suc (suc (suc (suc n)))))) desk screen position session good = absurd (omega (arith, in-range (suc (suc (suc (suc (suc (suc n)))))) 5 good .1))
+code-of-step : (code desk screen position session : ℕ) → isCode code ≡ true → codeOf (stepOf (recordFor code desk screen position session)) ≡ code
+code-of-step zero desk screen position session good = absurd (omega (arith, in-range 0 5 good .0))
+code-of-step (suc zero) desk screen position session good = refl
+code-of-step (suc (suc zero)) desk screen position session good = refl
+code-of-step (suc (suc (suc zero))) desk screen position session good = refl
+code-of-step (suc (suc (suc (suc zero)))) desk screen position session good = refl
+code-of-step (suc (suc (suc (suc (suc zero))))) desk screen position session good = refl
+code-of-step (suc (suc (suc (suc (suc (suc n)))))) desk screen position session good = absurd (omega (arith, in-range (suc (suc (suc (suc (suc (suc n)))))) 5 good .1))
 
 -- ---- The lines are those of the run.
 lines-from : (table : List ℕ) (index : ℕ) (total : Tally) (records : Records) → EachCode records
     → linesFrom table index total records
-    ≡ eventLines index (runTable hallLimits table (callsIn records))
-    ++ (endingLine index records ++ endLine (tallied total (runTable hallLimits table (callsIn records))))
+    ≡ eventLines index (run (stepTable hallLimits) table (callsIn records))
+    ++ (endingLine index records ++ endLine (tallied total (run (stepTable hallLimits) table (callsIn records))))
 lines-from table index total complete codes = refl
 lines-from table index total (stop reason) codes = refl
 lines-from table index total (more entry rest) codes =
-    let done : TableDone = stepTable hallLimits table (callOf entry) in
+    let done : Result (List ℕ) = stepTable hallLimits table (callOf entry) in
     let first : List ℕ = answerLine index (entry .code) (done .answer) in
     let event : Event = record { call = callOf entry; answer = done .answer } in
-    let events : List Event = runTable hallLimits (done .after) (callsIn rest) in
+    let events : List Event = run (stepTable hallLimits) (done .after) (callsIn rest) in
     let last : List ℕ = endingLine (suc index) rest ++ endLine (tallied (counted total event) events) in
     ap (λ (lines : List ℕ). first ++ lines) (lines-from (done .after) (suc index) (counted total event) rest (codes .1))
     ∙ sym (append-assoc first (eventLines (suc index) events) last)
     ∙ ap (λ (code : ℕ). (answerLine index code (done .answer) ++ eventLines (suc index) events) ++ last)
-    (sym (code-of-call (entry .code) (entry .desk) (entry .screen) (entry .position) (entry .session) (codes .0)))
+    (sym (code-of-step (entry .code) (entry .desk) (entry .screen) (entry .position) (entry .session) (codes .0)))
 
 pub lines-of-run : (sheet : List ℕ) (hall : Hall) (records : Records) → reading sheet ≡ opened hall records
     → printed sheet
     ≡ line 0 0 0 0
-    ++ (eventLines 1 (runTable hallLimits (openTable hallLimits hall lentTable .after) (callsIn records))
-    ++ (endingLine 1 records ++ endLine (countsIn (runTable hallLimits (openTable hallLimits hall lentTable .after) (callsIn records)))))
+    ++ (eventLines 1 (run (stepTable hallLimits) (openTable hallLimits hall lentTable .after) (callsIn records))
+    ++ (endingLine 1 records ++ endLine (countsIn (run (stepTable hallLimits) (openTable hallLimits hall lentTable .after) (callsIn records)))))
 unfolding printed
 lines-of-run sheet hall records e =
     ap linesOf e
     ∙ ap (λ (lines : List ℕ). answerLine 0 0 (openTable hallLimits hall lentTable .answer) ++ lines) (lines-from table 1 zeros records codes)
     ∙ ap (λ (total : Tally). answerLine 0 0 (openTable hallLimits hall lentTable .answer) ++ (eventLines 1 events ++ (endingLine 1 records ++ endLine total)))
     (tally-from-zeros events)
-    ∙ ap (λ (done : TableDone). answerLine 0 0 (done .answer) ++ (eventLines 1 events ++ (endingLine 1 records ++ endLine (countsIn events))))
+    ∙ ap (λ (done : Result (List ℕ)). answerLine 0 0 (done .answer) ++ (eventLines 1 events ++ (endingLine 1 records ++ endLine (countsIn events))))
     (opening-accepted sheet hall records e)
   where
     table : List ℕ
     table = openTable hallLimits hall lentTable .after
 
     events : List Event
-    events = runTable hallLimits table (callsIn records)
+    events = run (stepTable hallLimits) table (callsIn records)
 
     codes : EachCode records
     codes = let was = opened-from sheet hall records e in subst EachCode (sym (was .are)) (each-code (length sheet) sheet (was .next))
