@@ -1,4 +1,4 @@
--- What `admit` answers, taken apart: a refusal, or a sound table with the desk's place in it.
+-- What `admit` answers, taken apart: a refusal, or a sound table with the desk's location in it.
 use Prim.Native.Nat.{ℕ, _+_, _-_, _≤_}
 use native.Mathlib.Omega.{arith}
 use mathlib.Core.Bool.{Bool, true, false}

@@ -143,7 +143,7 @@ struct Location {
     pub end: usize,
 }
 
-// What the first questions of a step answer: a refusal, or the place of the desk.
+// What the first questions of a step answer: a refusal, or the location of the desk.
 enum Admission {
     No(Reply),
     At(Location),

@@ -88,7 +88,7 @@ fn encode(words: &[u16], n: usize, bytes: &mut [u8])
     }
 }
 
-// The words from place a up to e, written over their own bytes. It requires that both are long enough.
+// The words from index a up to e, written over their own bytes. It requires that both are long enough.
 fn encode_part(words: &[u16], a: usize, e: usize, bytes: &mut [u8])
     requires { ⌜ (a ≤ e) × (e ≤ length (now words)) × (2 * e ≤ length (now bytes)) ⌝ }
     ensures { λ _. ⌜ now (bytes .exit) ≡ overwriteRange a e (now (words .entry)) (now (bytes .entry)) ⌝ }

@@ -3,7 +3,7 @@ ghost use Rattle.sheet_rules.specs.Lines.{decimal, endLine, line};
 ghost use Rattle.sheet_rules.specs.Tally.{tallyOf};
 ghost use Rattle.lines.specs.Put.{Fits, Put};
 
-// Each function puts bytes at a place of the buffer that its caller lends, and answers the place after them.
+// Each function puts bytes at an offset of the buffer that its caller lends, and answers the offset after them.
 // Each requires that there is room for exactly those bytes.
 
 // One byte.

@@ -2,12 +2,12 @@
 use Prim.Native.Nat.{ℕ}
 use mathlib.Core.Path.{_≡_, sym, ap, _∙_}
 use Rattle.rules.specs.Numbers.{Got, andThen}
-use Rattle.reader.specs.Told.{toldNumber}
+use Rattle.reader.specs.Results.{numberResult}
 use Rattle.reader.specs.declared.Number.{Number}
 
 -- what was found, from the contract and the answer that was matched
-pub found : {answer matched : Number} {reading : Got ℕ} → toldNumber answer ≡ reading → answer ≡ matched → reading ≡ toldNumber matched
-found told is = sym told ∙ ap toldNumber is
+pub found : {answer matched : Number} {reading : Got ℕ} → numberResult answer ≡ reading → answer ≡ matched → reading ≡ numberResult matched
+found said is = sym said ∙ ap numberResult is
 
 -- after a value the reading goes on, and at a refusal it stops
 pub reads-on : {A : Type 0} {first matched : Got ℕ} → first ≡ matched → (rest : ℕ → ℕ → Got A) → andThen first rest ≡ andThen matched rest

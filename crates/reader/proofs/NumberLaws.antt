@@ -1,4 +1,4 @@
--- The number at a place, by the bytes that stand there: one law for each way out of the number reader.
+-- The number at an offset, by the bytes that stand there: one law for each way out of the number reader.
 use Prim.Native.Nat.{ℕ, suc, _+_, _*_, _%_, _≤_, _<_}
 use native.Mathlib.Omega.{arith}
 use native.Mathlib.Numerals.{add-one}
@@ -9,12 +9,12 @@ use lib.Seq.{drop-cons}
 use borrow.Author.Tests.{lt-ltb, le-ltb}
 use Rattle.rules.specs.Numbers.{before, ended, groupsIn, number, refusal, stopped, withinLimit}
 
--- a byte that stands at a place of a sheet
+-- a byte that stands at an offset of a sheet
 pub record Byte (sheet : List ℕ) (at byte : ℕ) : Type 0 where
   pub inside : at < length sheet
   pub is : byte ≡ getD sheet at 0
 
--- ---- The groups from a place on: the sheet stops there, or its byte is the last, or another follows.
+-- ---- The groups from an offset on: the sheet stops there, or its byte is the last, or another follows.
 groups-stop : (most : ℕ) (sheet : List ℕ) (at : ℕ) → length sheet ≤ at → groupsIn (suc most) (drop at sheet) ≡ stopped
 groups-stop most sheet at past = ap (groupsIn (suc most)) (drop-of-length-le sheet past)
 

@@ -1,2 +1,2 @@
 -- The definitions that the contracts of this crate cite, beside those of the rules.
-pub mod Told
+pub mod Results

@@ -2,7 +2,7 @@ ghost use mathlib.Core.Path.{_≡_};
 ghost use Prim.Native.Nat.{_≤_, _<_};
 ghost use Rattle.rules.specs.Numbers.{maxNumber, number, withinLimit};
 ghost use Rattle.sheet_rules.specs.Sheet.{fieldAt, fieldsAt, follows as followsCode, headerAt, recordAt, withCode};
-ghost use Rattle.reader.specs.Told.{numberOf, toldHeader, toldNumber, toldRecord};
+ghost use Rattle.reader.specs.Results.{numberOf, headerResult, numberResult, recordResult};
 
 // Why a number is refused.
 pub enum Fault {
@@ -22,7 +22,7 @@ pub fn refusal_number(fault: Fault) -> u16
     }
 }
 
-// A number of a sheet and the place after it, or why it is refused. A place is the offset of a byte.
+// A number of a sheet and the offset after it, or why it is refused.
 pub enum Number {
     Value(u16, usize),
     Refused(Fault),
@@ -33,7 +33,7 @@ const MAX_NUMBER: u16 = 65535;
 
 // A number that has ended, if it is at most the limit.
 fn within_limit(value: u32, next: usize, limit: u16) -> Number
-    ensures { λ r. ⌜ toldNumber r ≡ withinLimit limit value next ⌝ }
+    ensures { λ r. ⌜ numberResult r ≡ withinLimit limit value next ⌝ }
 {
     if (limit as u32) < value {
         return Number::Refused(Fault::TooLarge);
@@ -48,9 +48,9 @@ fn wide(byte: u8) -> u32
     byte as u32
 }
 
-// The number at a place: groups of seven bits, lowest first; the top bit of a byte (128) says another follows.
+// The number at an offset: groups of seven bits, lowest first; the top bit of a byte (128) says another follows.
 pub fn read_number(sheet: &[u8], at: usize, limit: u16) -> Number
-    ensures { λ r. ⌜ toldNumber r ≡ number limit (now (sheet .entry)) at ⌝ }
+    ensures { λ r. ⌜ numberResult r ≡ number limit (now (sheet .entry)) at ⌝ }
 {
     if sheet.len() <= at {
         return Number::Refused(Fault::Ends);
@@ -103,7 +103,7 @@ fn follows(code: u16, field: usize) -> bool
 // A field that follows its code is read; one that does not is 0 and takes no byte.
 fn read_field(sheet: &[u8], at: usize, code: u16, field: usize) -> Number
     requires { ⌜ (1 ≤ code) × (code ≤ 5) × (field < 4) ⌝ }
-    ensures { λ r. ⌜ toldNumber r ≡ fieldAt (followsCode code field) maxNumber (now (sheet .entry)) at ⌝ }
+    ensures { λ r. ⌜ numberResult r ≡ fieldAt (followsCode code field) maxNumber (now (sheet .entry)) at ⌝ }
 {
     if follows(code, field) {
         return read_number(sheet, at, MAX_NUMBER);
@@ -120,7 +120,7 @@ pub struct Record {
     pub session: u16,
 }
 
-// A record and the place after it, or what ends the reading.
+// A record and the offset after it, or what ends the reading.
 pub enum Entry {
     Whole(Record, usize),
     // A number is refused: the code that its line shows, 0 where the code itself was not read.
@@ -132,7 +132,7 @@ pub enum Entry {
 // The fields of a record whose code was read.
 fn read_fields(sheet: &[u8], at: usize, code: u16) -> Entry
     requires { ⌜ (1 ≤ code) × (code ≤ 5) ⌝ }
-    ensures { λ r. ⌜ toldRecord r ≡ withCode code (fieldsAt code (now (sheet .entry)) at) ⌝ }
+    ensures { λ r. ⌜ recordResult r ≡ withCode code (fieldsAt code (now (sheet .entry)) at) ⌝ }
 {
     match read_field(sheet, at, code, DESK) {
         Number::Refused(fault) => Entry::Refused(code, fault),
@@ -168,9 +168,9 @@ fn read_fields(sheet: &[u8], at: usize, code: u16) -> Entry
     }
 }
 
-// The record at a place: its code, and then its fields.
+// The record at an offset: its code, and then its fields.
 pub fn read_record(sheet: &[u8], at: usize) -> Entry
-    ensures { λ r. ⌜ toldRecord r ≡ recordAt (now (sheet .entry)) at ⌝ }
+    ensures { λ r. ⌜ recordResult r ≡ recordAt (now (sheet .entry)) at ⌝ }
 {
     match read_number(sheet, at, MAX_NUMBER) {
         Number::Refused(fault) => Entry::Refused(0, fault),
@@ -193,15 +193,15 @@ pub struct Header {
     pub positions: u16,
 }
 
-// The header and the place after it, or why one of its numbers is refused.
+// The header and the offset after it, or why one of its numbers is refused.
 pub enum Head {
     Whole(Header, usize),
     Refused(Fault),
 }
 
-// The header at a place.
+// The header at an offset.
 pub fn read_header(sheet: &[u8], at: usize) -> Head
-    ensures { λ r. ⌜ toldHeader r ≡ headerAt (now (sheet .entry)) at ⌝ }
+    ensures { λ r. ⌜ headerResult r ≡ headerAt (now (sheet .entry)) at ⌝ }
 {
     match read_number(sheet, at, MAX_NUMBER) {
         Number::Refused(fault) => Head::Refused(fault),

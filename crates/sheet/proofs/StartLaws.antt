@@ -26,10 +26,10 @@ abbrev noTally : Tally
 noTally = record { accepted = 0; refused = 0; «handed_back» = 0 }
 
 abbrev atHeader : State
-atHeader = record { place = 0; index = 0; tally = noTally; finished = false }
+atHeader = record { offset = 0; index = 0; tally = noTally; finished = false }
 
 abbrev atFirst : ℕ → State
-atFirst next = record { place = next; index = 1; tally = noTally; finished = false }
+atFirst next = record { offset = next; index = 1; tally = noTally; finished = false }
 
 -- the reading of a sheet whose header was read, by the number that the board replied to the opening
 opening-number : (hall : Hall) (reply : Reply) (after : List ℕ) {number : ℕ} → tableResult reply after ≡ openTable hallLimits hall lentTable

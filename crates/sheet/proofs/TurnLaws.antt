@@ -31,10 +31,10 @@ use Rattle.sheet.specs.declared.State.{State}
 module _ {out outAfter bytes : List ℕ} {next : ℕ} (put : Put out outAfter 0 bytes next) where
   front : outAfter ≡ bytes ++ drop next out
   unfolding overwriteAt
-  front = put .written ∙ ap (λ (n : ℕ). bytes ++ drop n out) (sym (put .place))
+  front = put .written ∙ ap (λ (n : ℕ). bytes ++ drop n out) (sym (put .offset))
 
   long : length bytes ≡ next
-  long = omega (arith, put .place)
+  long = omega (arith, put .offset)
 
   pub put-within : next ≤ length outAfter
   put-within = omega (arith, ap length front, length-append bytes (drop next out), long)
@@ -47,9 +47,9 @@ module _ {out outAfter bytes : List ℕ} {next : ℕ} (put : Put out outAfter 0 
 
 -- ---- One record.
 
--- what is to come, by what the records from the place on are
+-- what is to come, by what the records from the offset on are
 module _ (sheet : List ℕ) (was : State) (unfinished : was .finished ≡ false) (records : Records)
-    (are : recordsAt (length sheet) sheet (was .place) ≡ records) where
+    (are : recordsAt (length sheet) sheet (was .offset) ≡ records) where
   lines-by : (table : List ℕ) → toCome sheet was table ≡ linesFrom table (was .index) (tallyIs (was .tally)) records
   lines-by table = simp (unfinished, are)
 
@@ -58,11 +58,11 @@ module _ (sheet : List ℕ) (was : State) (unfinished : was .finished ≡ false)
 
 -- The state after a record was run.
 abbrev afterRecord : State → ℕ → Tally → State
-afterRecord was next total = record { place = next; index = was .index + 1; tally = total; finished = false }
+afterRecord was next total = record { offset = next; index = was .index + 1; tally = total; finished = false }
 
 module _ {sheet : List ℕ} {was : State} (unfinished : was .finished ≡ false) where
   -- A record was run.
-  module _ {entry : Record} {next : ℕ} (inside : was .place < length sheet) (read : recordAt sheet (was .place) ≡ got entry next) where
+  module _ {entry : Record} {next : ℕ} (inside : was .offset < length sheet) (read : recordAt sheet (was .offset) ≡ got entry next) where
     pub ran : (reply : Reply) {before after : List ℕ} {number session : ℕ} {total : Tally} {out outAfter : List ℕ} {at end : ℕ}
         → tableResult reply after ≡ stepTable hallLimits before (callOf entry)
         → number ≡ answerOf reply .number
@@ -86,8 +86,8 @@ module _ {sheet : List ℕ} {was : State} (unfinished : was .finished ≡ false)
         rest : Records
         rest = recordsAt (length sheet) sheet next
 
-        are : recordsAt (length sheet) sheet (was .place) ≡ more entry rest
-        are = records-more sheet (was .place) entry next inside read
+        are : recordsAt (length sheet) sheet (was .offset) ≡ more entry rest
+        are = records-more sheet (was .offset) entry next inside read
 
         answers : record { number = number; session = session } ≡ stepTable hallLimits before (callOf entry) .answer
         answers = (λ i. record { number = is-number i; session = is-session i }) ∙ ap (λ (done : Result (List ℕ)). done .answer) tells
@@ -101,14 +101,14 @@ module _ {sheet : List ℕ} {was : State} (unfinished : was .finished ≡ false)
             ∙ counted-by-code (tallyIs (was .tally)) entry (record { number = number; session = session })
             ∙ ap (λ (answer : Answer). counted (tallyIs (was .tally)) (record { call = callOf entry; answer = answer })) answers
 
-    pub ran-onward : {total : Tally} → was .index ≤ was .place → Onward sheet was (afterRecord was next total)
+    pub ran-onward : {total : Tally} → was .index ≤ was .offset → Onward sheet was (afterRecord was next total)
     ran-onward numbered =
-        let moved = record-got sheet (was .place) entry next read .moved in
+        let moved = record-got sheet (was .offset) entry next read .moved in
         record { fewer = simp unfinished (omega (arith, moved .past, moved .inside)); numbered = omega (arith, moved .past) }
 
   module _ {before out outAfter : List ℕ} {at end : ℕ} {is : State} where
     -- Nothing is run any more: these are the last lines.
-    last-lines : {bytes : List ℕ} (records : Records) → recordsAt (length sheet) sheet (was .place) ≡ records → callsIn records ≡ []
+    last-lines : {bytes : List ℕ} (records : Records) → recordsAt (length sheet) sheet (was .offset) ≡ records → callsIn records ≡ []
         → linesFrom before (was .index) (tallyIs (was .tally)) records ≡ bytes
         → Put out outAfter at bytes end → is ≡ finishedAt was
         → Filling sheet was before out at is before outAfter end
@@ -126,30 +126,30 @@ module _ {sheet : List ℕ} {was : State} (unfinished : was .finished ≡ false)
         })
 
     -- The record ends the reading.
-    pub stopped : {code number : ℕ} → was .place < length sheet → recordAt sheet (was .place) ≡ refused (refusalOf code number)
+    pub stopped : {code number : ℕ} → was .offset < length sheet → recordAt sheet (was .offset) ≡ refused (refusalOf code number)
         → Put out outAfter at (line (was .index) code number 0 ++ endLine (tallyIs (was .tally))) end → is ≡ finishedAt was
         → Filling sheet was before out at is before outAfter end
-    stopped inside read = last-lines (stop _) (records-stop sheet (was .place) _ inside read) refl refl
+    stopped inside read = last-lines (stop _) (records-stop sheet (was .offset) _ inside read) refl refl
 
     -- There is no more record.
-    pub ended : length sheet ≤ was .place → Put out outAfter at (endLine (tallyIs (was .tally))) end → is ≡ finishedAt was
+    pub ended : length sheet ≤ was .offset → Put out outAfter at (endLine (tallyIs (was .tally))) end → is ≡ finishedAt was
         → Filling sheet was before out at is before outAfter end
-    ended past = last-lines complete (records-end sheet (was .place) past) refl refl
+    ended past = last-lines complete (records-end sheet (was .offset) past) refl refl
 
-pub finished-onward : {sheet : List ℕ} {was is : State} → is ≡ finishedAt was → was .index ≤ was .place → Onward sheet was is
+pub finished-onward : {sheet : List ℕ} {was is : State} → is ≡ finishedAt was → was .index ≤ was .offset → Onward sheet was is
 finished-onward same numbered = rw same (record { fewer = omega arith; numbered = numbered })
 
 -- ---- A turn, record after record: where it is at the loop's test.
 pub record Reached (sheet : List ℕ) (was : State) (before out : List ℕ) (is : State) (after outAfter : List ℕ) (at : ℕ) : Type 0 where
   pub filling : Filling sheet was before out 0 is after outAfter at
-  pub numbered : is .index ≤ is .place
+  pub numbered : is .index ≤ is .offset
   pub noMore : turnsLeft sheet is ≤ turnsLeft sheet was
   -- but for the first time round, a record was read
   pub fewer : (at ≡ 0) ⊎ (turnsLeft sheet is ≤ turnsLeft sheet was - 1)
   pub sameTable : length after ≡ length before
   pub sameOut : length outAfter ≡ length out
 
-pub reached-first : {sheet : List ℕ} {was : State} {before out : List ℕ} → was .index ≤ was .place → Reached sheet was before out was before out 0
+pub reached-first : {sheet : List ℕ} {was : State} {before out : List ℕ} → was .index ≤ was .offset → Reached sheet was before out was before out 0
 reached-first {out = out} numbered = record {
   filling = record { bytes = []; put = put-none out 0; piece = piece-none };
   numbered = numbered;

@@ -24,18 +24,18 @@ recordRoom = 84 + endRoom
 -- What is still to be printed of a sheet: nothing once the last line is, else the lines from the next record on.
 abbrev pub toCome : List ℕ → State → List ℕ → List ℕ
 toCome sheet state table =
-    cond (state .finished) [] (linesFrom table (state .index) (tallyIs (state .tally)) (recordsAt (length sheet) sheet (state .place)))
+    cond (state .finished) [] (linesFrom table (state .index) (tallyIs (state .tally)) (recordsAt (length sheet) sheet (state .offset)))
 
 -- The steps that are still to be run.
 abbrev pub callsToCome : List ℕ → State → List Call
-callsToCome sheet state = cond (state .finished) [] (callsIn (recordsAt (length sheet) sheet (state .place)))
+callsToCome sheet state = cond (state .finished) [] (callsIn (recordsAt (length sheet) sheet (state .offset)))
 
 -- The most turns that may still come: each but the last reads a record or more, and a record takes a byte or more.
 abbrev pub turnsLeft : List ℕ → State → ℕ
-turnsLeft sheet state = cond (state .finished) 0 (suc (length sheet - state .place))
+turnsLeft sheet state = cond (state .finished) 0 (suc (length sheet - state .offset))
 
 abbrev pub finishedAt : State → State
-finishedAt state = record { place = state .place; index = state .index; tally = state .tally; finished = true }
+finishedAt state = record { offset = state .offset; index = state .index; tally = state .tally; finished = true }
 
 -- Bytes to be printed, from one state and table to another: with what is still to come they are what was to come, and the
 -- table is as the steps that were run leave it. How many steps those are is left free.
@@ -45,12 +45,12 @@ pub record Piece (sheet : List ℕ) (was : State) (before bytes : List ℕ) (is 
   pub run : calls ++ callsToCome sheet is ≡ callsToCome sheet was
   pub table : after ≡ end (stepTable hallLimits) before calls
 
--- There are fewer turns left, unless there were none. A record's number is at most its place, so that numbers do not run over.
+-- There are fewer turns left, unless there were none. A record's number is at most its offset, so that numbers do not run over.
 pub record Onward (sheet : List ℕ) (was is : State) : Type 0 where
   pub fewer : turnsLeft sheet is ≤ turnsLeft sheet was - 1
-  pub numbered : is .index ≤ is .place
+  pub numbered : is .index ≤ is .offset
 
--- In the middle of a turn: the bytes were put into the buffer at a place.
+-- In the middle of a turn: the bytes were put into the buffer at an offset.
 pub record Filling (sheet : List ℕ) (was : State) (before out : List ℕ) (at : ℕ) (is : State) (after outAfter : List ℕ) (next : ℕ) : Type 0 where
   pub bytes : List ℕ
   pub put : Put out outAfter at bytes next
@@ -85,7 +85,7 @@ pub record Started (sheet out : List ℕ) (is : State) (after outAfter : List �
   pub run : callsToCome sheet is ≡ callsOf (reading sheet)
   pub table : after ≡ startTable (reading sheet)
   pub rest : drop put outAfter ≡ drop put out
-  pub numbered : is .index ≤ is .place
+  pub numbered : is .index ≤ is .offset
 
 -- ---- Turns one after another.
 

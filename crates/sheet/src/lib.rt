@@ -25,7 +25,7 @@ ghost use lib.ListN.{length};
 ghost use Rattle.rules.specs.Hall.{hallLimits};
 ghost use Rattle.rules.specs.Table.{stepTable};
 ghost use Rattle.lines.specs.Put.{Put};
-ghost use Rattle.reader.specs.Told.{recordOf};
+ghost use Rattle.reader.specs.Results.{recordOf};
 ghost use Rattle.reply.specs.Answer.{tableResult};
 ghost use Rattle.sheet_rules.specs.Lines.{endLine, line};
 ghost use Rattle.sheet_rules.specs.Sheet.{callOf, lentTable};
@@ -44,10 +44,10 @@ const NO_CODE: u16 = 17;
 // The bytes that a turn may need for one record: the longest line, and then the longest last line.
 const ROOM: usize = 84 + 67;
 
-// Where the program stands in a sheet: the place and the number of the next record, the tally so far, and whether the last
+// Where the program stands in a sheet: the offset and the number of the next record, the tally so far, and whether the last
 // line is printed.
 pub struct State {
-    pub place: usize,
+    pub offset: usize,
     pub index: u64,
     pub tally: Tally,
     pub finished: bool,
@@ -90,7 +90,7 @@ fn finish(out: &mut [u8], at: usize, state: State) -> Filled
     );
     Filled {
         state: State {
-            place: state.place,
+            offset: state.offset,
             index: state.index,
             tally: tally,
             finished: true,
@@ -111,17 +111,17 @@ fn stop(out: &mut [u8], at: usize, state: State, code: u16, reason: u16) -> Fill
 }
 
 // The next record: its step and its line, or what ends the reading. After the last record, the last line.
-// It requires room for a line and the last line, and a record number that is at most the place.
+// It requires room for a line and the last line, and a record number that is at most the offset.
 fn put_record(sheet: &[u8], state: State, table: &mut [u16], out: &mut [u8], at: usize) -> Filled
-    requires { ⌜ (state .finished ≡ false) × (state .index ≤ state .place) × (at + recordRoom ≤ length (now out)) ⌝ }
+    requires { ⌜ (state .finished ≡ false) × (state .index ≤ state .offset) × (at + recordRoom ≤ length (now out)) ⌝ }
     ensures filling { λ r. ⌜ Filling (now (sheet .entry)) state (now (table .entry)) (now (out .entry)) at (r .state) (now (table .exit)) (now (out .exit)) (r .put) ⌝ }
     ensures onward { λ r. ⌜ Onward (now (sheet .entry)) state (r .state) ⌝ }
 {
-    let place = state.place;
-    if sheet.len() <= place {
+    let offset = state.offset;
+    if sheet.len() <= offset {
         return finish(out, at, state);
     }
-    match read_record(sheet, place) {
+    match read_record(sheet, offset) {
         Entry::Refused(code, fault) => stop(out, at, state, code, refusal_number(fault)),
         Entry::NoCode(code) => stop(out, at, state, code, NO_CODE),
         Entry::Whole(entry, next) => {
@@ -141,7 +141,7 @@ fn put_record(sheet: &[u8], state: State, table: &mut [u16], out: &mut [u8], at:
             let index = state.index + 1;
             Filled {
                 state: State {
-                    place: next,
+                    offset: next,
                     index: index,
                     tally: tally,
                     finished: false,
@@ -153,10 +153,10 @@ fn put_record(sheet: &[u8], state: State, table: &mut [u16], out: &mut [u8], at:
 }
 
 // A turn: record after record, as long as the buffer has room for one more. What it puts and what is still to come are what was to come.
-// It requires room for a record, so that each turn gets on, and a record number that is at most the place, as `start` and `fill` leave it,
+// It requires room for a record, so that each turn gets on, and a record number that is at most the offset, as `start` and `fill` leave it,
 // so that it does not run over.
 pub fn fill(sheet: &[u8], state: State, table: &mut [u16], out: &mut [u8]) -> Filled
-    requires { ⌜ (state .index ≤ state .place) × (recordRoom ≤ length (now out)) ⌝ }
+    requires { ⌜ (state .index ≤ state .offset) × (recordRoom ≤ length (now out)) ⌝ }
     ensures { λ r. ⌜ Turn (now (sheet .entry)) state (now (table .entry)) (now (out .entry)) (r .state) (now (table .exit)) (now (out .exit)) (r .put) ⌝ }
 {
     let mut reached = state;
@@ -190,7 +190,7 @@ pub fn start(sheet: &[u8], table: &mut [u16], out: &mut [u8]) -> Filled
         handed_back: 0,
     };
     let header_state = State {
-        place: 0,
+        offset: 0,
         index: 0,
         tally: none,
         finished: false,
@@ -209,7 +209,7 @@ pub fn start(sheet: &[u8], table: &mut [u16], out: &mut [u8]) -> Filled
             let end = put_line(out, 0, 0, 0, 0, 0);
             Filled {
                 state: State {
-                    place: next,
+                    offset: next,
                     index: 1,
                     tally: none,
                     finished: false,

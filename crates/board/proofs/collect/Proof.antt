@@ -12,7 +12,7 @@ use Rattle.board.proofs.StepLaws.{Reads, collect-result, reads}
 use Rattle.board.proofs.collect.Statement.{statement}
 use Rattle.board.proofs.collect.Tie as tie
 
--- the call, the table as it found it, and the place of its desk
+-- the call, the table as it found it, and the location of its desk
 abbrev start : tie.After-known-told2 → tie.Start
 start a = a .before .before .before .before .before .before
 

@@ -14,7 +14,7 @@ use Rattle.board.proofs.StepLaws.{drop-accepted, drop-no-screen, drop-s
 use Rattle.board.proofs.drop.Statement.{statement}
 use Rattle.board.proofs.drop.Tie as tie
 
--- the call, the table as it found it, and the place of its desk
+-- the call, the table as it found it, and the location of its desk
 abbrev start : tie.After-known-told2 → tie.Start
 start a = a .before .before .before .before .before .before
 

@@ -53,7 +53,7 @@ add-put-byte-2 t c = search needs
 put-byte-requires-2 : (t : ℕ) → put-digits-lts.Need-put-byte-requires-2 (put-byte-reads.Asked, put-byte-reads.Learnt, put-digits-below t, put-digits.Post) (put-digits-at t) put-digits.Post
 put-byte-requires-2 t c κs =
     let start = c .before .before .before .before .before .before .before in
-    omega (arith, simp length-append at (rw (decimal-more (start .args .value) (c .before .before .before .before .before .if1 .left) (omega arith)) at (start .pre .1)), c .before .before .before .put-digits .ensures .place)
+    omega (arith, simp length-append at (rw (decimal-more (start .args .value) (c .before .before .before .before .before .if1 .left) (omega arith)) at (start .pre .1)), c .before .before .before .put-digits .ensures .offset)
 
 same-length-2 : (t : ℕ) → put-digits-lts.Need-same-length-2 (put-byte-reads.Asked, put-byte-reads.Learnt, put-digits-below t, put-digits.Post) (put-digits-at t) put-digits.Post
 same-length-2 t c = search needs

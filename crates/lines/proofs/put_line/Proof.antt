@@ -13,15 +13,15 @@ put-number-requires c κs = simp length-append (omega (arith, simp length-append
 
 put-number-requires-2 : tie.Need-put-number-requires-2
 unfolding line
-put-number-requires-2 c κs = simp length-append (omega (arith, simp length-append at (c .before .before .before .before .before .before .pre), simp length-append at (c .before .before .before .put-number .ensures .place)))
+put-number-requires-2 c κs = simp length-append (omega (arith, simp length-append at (c .before .before .before .before .before .before .pre), simp length-append at (c .before .before .before .put-number .ensures .offset)))
 
 put-number-requires-3 : tie.Need-put-number-requires-3
 unfolding line
-put-number-requires-3 c κs = simp length-append (omega (arith, simp length-append at (c .before .before .before .before .before .before .before .before .before .before .pre), simp length-append at (c .before .before .before .before .before .before .before .put-number .ensures .place), simp length-append at (c .before .before .before .put-number2 .ensures .place)))
+put-number-requires-3 c κs = simp length-append (omega (arith, simp length-append at (c .before .before .before .before .before .before .before .before .before .before .pre), simp length-append at (c .before .before .before .before .before .before .before .put-number .ensures .offset), simp length-append at (c .before .before .before .put-number2 .ensures .offset)))
 
 put-number-requires-4 : tie.Need-put-number-requires-4
 unfolding line
-put-number-requires-4 c κs = simp length-append (omega (arith, simp length-append at (c .before .before .before .before .before .before .before .before .before .before .before .before .before .before .pre), simp length-append at (c .before .before .before .before .before .before .before .before .before .before .before .put-number .ensures .place), simp length-append at (c .before .before .before .before .before .before .before .put-number2 .ensures .place), simp length-append at (c .before .before .before .put-number3 .ensures .place)))
+put-number-requires-4 c κs = simp length-append (omega (arith, simp length-append at (c .before .before .before .before .before .before .before .before .before .before .before .before .before .before .pre), simp length-append at (c .before .before .before .before .before .before .before .before .before .before .before .put-number .ensures .offset), simp length-append at (c .before .before .before .before .before .before .before .put-number2 .ensures .offset), simp length-append at (c .before .before .before .put-number3 .ensures .offset)))
 
 same-length : tie.Need-same-length
 same-length c = search needs

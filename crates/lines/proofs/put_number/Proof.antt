@@ -10,7 +10,7 @@ put-digits-requires : tie.Need-put-digits-requires
 put-digits-requires c κs = omega (arith, simp length-append at (c .before .before .pre))
 
 put-byte-requires : tie.Need-put-byte-requires
-put-byte-requires c κs = omega (arith, simp length-append at (c .before .before .before .before .before .before .pre), c .before .before .before .put-digits .ensures .place)
+put-byte-requires c κs = omega (arith, simp length-append at (c .before .before .before .before .before .before .pre), c .before .before .before .put-digits .ensures .offset)
 
 same-length : tie.Need-same-length
 same-length c = search needs

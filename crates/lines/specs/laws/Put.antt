@@ -9,7 +9,7 @@ use lib.ListN.{length, take, drop, set, length-append, take-append-drop, drop-of
 use lib.Seq.{length-take-le, take-all, take-at, drop-at, drop-drop, set-split}
 use Rattle.lines.specs.Put.{Put, overwriteAt}
 
--- ---- The buffer with bytes laid in it, at any place: so that whoever puts bytes after bytes need not show again that they fit.
+-- ---- The buffer with bytes laid in it, at any offset: so that whoever puts bytes after bytes need not show again that they fit.
 
 -- past its end they are joined to it
 overwrite-past : (out : List ℕ) (at : ℕ) (bytes : List ℕ) → length out ≤ at → overwriteAt out at bytes ≡ out ++ bytes
@@ -35,13 +35,13 @@ module _ (out : List ℕ) (at : ℕ) (bytes : List ℕ) where
 
   overwrite-on : (more : List ℕ) → overwriteAt (overwriteAt out at bytes) (at + length bytes) more ≡ overwriteAt out at (bytes ++ more)
   unfolding overwriteAt
-  overwrite-on more = by-place (decLe at (length out))
+  overwrite-on more = by-offset (decLe at (length out))
     where
-      same-place : at + length bytes + length more ≡ at + length (bytes ++ more)
-      same-place = omega (arith, length-append bytes more)
+      same-offset : at + length bytes + length more ≡ at + length (bytes ++ more)
+      same-offset = omega (arith, length-append bytes more)
 
-      by-place : Dec (at ≤ length out) → overwriteAt (overwriteAt out at bytes) (at + length bytes) more ≡ overwriteAt out at (bytes ++ more)
-      by-place (yes inside) =
+      by-offset : Dec (at ≤ length out) → overwriteAt (overwriteAt out at bytes) (at + length bytes) more ≡ overwriteAt out at (bytes ++ more)
+      by-offset (yes inside) =
           (λ i. take-overwritten inside i ++ (more ++ same-end i))
           ∙ append-assoc (take at out) bytes (more ++ drop (at + length (bytes ++ more)) out)
           ∙ ap (λ (rest : List ℕ). take at out ++ rest) (sym (append-assoc bytes more (drop (at + length (bytes ++ more)) out)))
@@ -51,8 +51,8 @@ module _ (out : List ℕ) (at : ℕ) (bytes : List ℕ) where
               sym (drop-drop (length more) (at + length bytes) (overwriteAt out at bytes))
               ∙ ap (drop (length more)) (drop-overwritten inside)
               ∙ drop-drop (length more) (at + length bytes) out
-              ∙ ap (λ (n : ℕ). drop n out) same-place
-      by-place (no past) =
+              ∙ ap (λ (n : ℕ). drop n out) same-offset
+      by-offset (no past) =
           ap (λ (words : List ℕ). overwriteAt words (at + length bytes) more) (overwrite-past out at bytes (omega arith))
           ∙ overwrite-past (out ++ bytes) (at + length bytes) more (omega (arith, length-append out bytes))
           ∙ append-assoc out bytes more
@@ -67,7 +67,7 @@ put-none out at =
     let same : at + 0 ≡ at = omega arith in
     record {
       written = sym (ap (λ (n : ℕ). take at out ++ drop n out) same ∙ take-append-drop at out);
-      place = omega arith;
+      offset = omega arith;
     }
 
 -- one byte stored
@@ -76,7 +76,7 @@ unfolding overwriteAt
 put-one out at byte inside =
     record {
       written = set-split out at byte inside ∙ ap (λ (n : ℕ). take at out ++ (byte ∷ drop n out)) (sym (add-one at));
-      place = refl;
+      offset = refl;
     }
 
 -- bytes put, and more after them
@@ -85,6 +85,6 @@ pub put-on : {before middle after : List ℕ} {at between next : ℕ} {bytes mor
     → Put before after at (bytes ++ more) next
 put-on {before} {middle} {after} {at} {between} {next} {bytes} {more} first second =
     record {
-      written = second .written ∙ (λ i. overwriteAt (first .written i) (first .place i) more) ∙ overwrite-on before at bytes more;
-      place = omega (arith, second .place, first .place, length-append bytes more);
+      written = second .written ∙ (λ i. overwriteAt (first .written i) (first .offset i) more) ∙ overwrite-on before at bytes more;
+      offset = omega (arith, second .offset, first .offset, length-append bytes more);
     }

@@ -13,7 +13,7 @@ use Rattle.printing.proofs.print.Tie as tie
 
 abbrev Inv-loop : tie.InvT-loop
 Inv-loop sheet table₀ out₀ put₀ state₀ printed₀ table out state printed =
-    (state .index ≤ state .place) × (recordRoom ≤ length out) × (length table ≡ length table₀) × (length out ≡ length out₀)
+    (state .index ≤ state .offset) × (recordRoom ≤ length out) × (length table ≡ length table₀) × (length out ≡ length out₀)
     × (tableToCome sheet state table ≡ sheetTable sheet)
 
 abbrev μ-loop : tie.MeasureT-loop

@@ -5,7 +5,7 @@ use Prim.Native.Nat.{ℕ}
 use borrow.Author.Needs.{needs}
 use Rattle.rules.specs.Numbers.{got, refusalOf, refused}
 use Rattle.lines.specs.laws.Longest.{line-length}
-use Rattle.reader.specs.Told.{recordOf, toldRecord}
+use Rattle.reader.specs.Results.{recordOf, recordResult}
 use Rattle.sheet_rules.specs.Sheet.{recordAt}
 use Rattle.sheet.proofs.TurnLaws.{ended, finished-onward, ran, ran-onward, stopped}
 use Rattle.sheet.proofs.put_record.Statement.{statement}
@@ -14,8 +14,8 @@ use Rattle.sheet.proofs.put_record.Tie as tie
 -- the record that was read
 record-read : (c : tie.After-known-told3) →
     let a = c .before .before .before .before .before .before .before .before .args in
-    recordAt (a .sheet .now) (a .state .place) ≡ got (recordOf (c .before .entry .given .0 .0)) (c .before .entry .given .0 .1 .0)
-record-read c = sym (c .before .before .before .read-record .ensures) ∙ ap toldRecord (c .before .entry .given .1)
+    recordAt (a .sheet .now) (a .state .offset) ≡ got (recordOf (c .before .entry .given .0 .0)) (c .before .entry .given .0 .1 .0)
+record-read c = sym (c .before .before .before .read-record .ensures) ∙ ap recordResult (c .before .entry .given .1)
 
 finish-requires : tie.Need-finish-requires
 finish-requires c κs = search needs
@@ -89,7 +89,7 @@ returns-2 c =
     let start = c .before .before .before .before .before .before .before .before .before .before .before .before .before in
     let last = c .before .before .stop .ensures in
     let code = c .before .before .before .before .before .before .code .given in
-    let read = sym (c .before .before .before .before .before .before .before .before .read-record .ensures) ∙ ap toldRecord (code .1) ∙ ap (λ (n : ℕ). refused (refusalOf (code .0 .0) n)) (sym (c .before .before .before .refusal-number .ensures)) in
+    let read = sym (c .before .before .before .before .before .before .before .before .read-record .ensures) ∙ ap recordResult (code .1) ∙ ap (λ (n : ℕ). refused (refusalOf (code .0 .0) n)) (sym (c .before .before .before .refusal-number .ensures)) in
     (stopped (start .pre .0) (c .before .before .before .before .before .before .before .before .before .if1 .left) read (last .0) (last .1), finished-onward (last .1) (start .pre .1))
 
 same-length-3 : tie.Need-same-length-3
@@ -99,7 +99,7 @@ returns-3 : tie.Need-returns-3
 returns-3 c =
     let start = c .before .before .before .before .before .before .before .before .before .before .before .before in
     let last = c .before .before .stop2 .ensures in
-    let read = sym (c .before .before .before .before .before .before .before .read-record .ensures) ∙ ap toldRecord (c .before .before .before .before .before .code2 .given .1) in
+    let read = sym (c .before .before .before .before .before .before .before .read-record .ensures) ∙ ap recordResult (c .before .before .before .before .before .code2 .given .1) in
     (stopped (start .pre .0) (c .before .before .before .before .before .before .before .before .if1 .left) read (last .0) (last .1), finished-onward (last .1) (start .pre .1))
 
 same-length-4 : tie.Need-same-length-4

@@ -2,7 +2,7 @@
 use native.Mathlib.Omega.{arith}
 use mathlib.Core.Logic.{⊎-elim}
 use borrow.Author.Needs.{needs}
-use Rattle.reader.specs.Told.{recordOf}
+use Rattle.reader.specs.Results.{recordOf}
 use Rattle.sheet_rules.specs.laws.Sheet.{asks-collect}
 use Rattle.sheet.proofs.CallLaws.{is-drop, is-retire, is-swap, is-take}
 use Rattle.sheet.proofs.run_record.Statement.{statement}

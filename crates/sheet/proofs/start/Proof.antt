@@ -7,7 +7,7 @@ use Rattle.rules.specs.Hall.{hallLimits}
 use Rattle.rules.specs.Numbers.{got, refusalOf, refused}
 use Rattle.rules.specs.Table.{openTable}
 use Rattle.lines.specs.laws.Longest.{line-length}
-use Rattle.reader.specs.Told.{headerOf, toldHeader}
+use Rattle.reader.specs.Results.{headerOf, headerResult}
 use Rattle.reply.specs.Answer.{tableResult}
 use Rattle.sheet_rules.specs.Sheet.{headerAt, lentTable}
 use Rattle.sheet_rules.specs.laws.Sheet.{short-enough, too-long}
@@ -17,7 +17,7 @@ use Rattle.sheet.proofs.start.Tie as tie
 
 -- the header that was read
 header-read : (c : tie.After-known-told2) → headerAt (c .before .before .before .before .before .before .before .before .args .sheet .now) 0 ≡ got (headerOf (c .before .header .given .0 .0)) (c .before .header .given .0 .1 .0)
-header-read c = sym (c .before .before .before .read-header .ensures) ∙ ap toldHeader (c .before .header .given .1)
+header-read c = sym (c .before .before .before .read-header .ensures) ∙ ap headerResult (c .before .header .given .1)
 
 -- what the board replied to the opening
 opening : (c : tie.After-number) →
@@ -82,7 +82,7 @@ returns-3 : tie.Need-returns-3
 returns-3 c =
     let start = c .before .before .before .before .before .before .before .before .before .before .before .before .before in
     let last = c .before .before .stop2 .ensures in
-    let read = sym (c .before .before .before .before .before .before .before .before .read-header .ensures) ∙ ap toldHeader (c .before .before .before .before .before .before .fault .given .1) ∙ ap (λ (n : ℕ). refused (refusalOf 0 n)) (sym (c .before .before .before .refusal-number .ensures)) in
+    let read = sym (c .before .before .before .before .before .before .before .before .read-header .ensures) ∙ ap headerResult (c .before .before .before .before .before .before .fault .given .1) ∙ ap (λ (n : ℕ). refused (refusalOf 0 n)) (sym (c .before .before .before .refusal-number .ensures)) in
     started-stopped (short-enough (start .args .sheet .now) (c .before .before .before .before .before .before .before .before .before .if1 .left) read) (start .pre .0) (last .0) (last .1)
 
 same-length-5 : tie.Need-same-length-5

@@ -14,7 +14,7 @@ put-line-requires c κs =
 finish-requires : tie.Need-finish-requires
 finish-requires c κs =
     let start = c .before .before .before .before .before .before in
-    omega (arith, line-length (start .args .state .index) (start .args .code) (start .args .reason) 0, start .pre, c .before .before .before .put-line .ensures .place, c .before .before .before .put-line .kept)
+    omega (arith, line-length (start .args .state .index) (start .args .code) (start .args .reason) 0, start .pre, c .before .before .before .put-line .ensures .offset, c .before .before .before .put-line .kept)
 
 same-length : tie.Need-same-length
 same-length c = search needs

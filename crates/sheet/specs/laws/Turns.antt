@@ -80,6 +80,6 @@ turns-few sheet was before (turn ∷ turns) each =
 pub left-at-most : (sheet : List ℕ) (state : State) → turnsLeft sheet state ≤ suc (length sheet)
 left-at-most sheet state = by-end (state .finished)
   where
-    by-end : (finished : Bool) → cond finished 0 (suc (length sheet - state .place)) ≤ suc (length sheet)
+    by-end : (finished : Bool) → cond finished 0 (suc (length sheet - state .offset)) ≤ suc (length sheet)
     by-end true = omega arith
     by-end false = omega arith

@@ -61,13 +61,13 @@ EachCode (more entry rest) = (isCode (entry .code) ≡ true) × EachCode rest
 
 each-code : (most : ℕ) (sheet : List ℕ) (at : ℕ) → EachCode (recordsAt most sheet at)
 each-code zero sheet at = tt
-each-code (suc most) sheet at = by-place (ltb at (length sheet)) (recordAt sheet at) refl (each-code most sheet)
+each-code (suc most) sheet at = by-offset (ltb at (length sheet)) (recordAt sheet at) refl (each-code most sheet)
   where
-    by-place : (inside : Bool) (found : Got Record) → recordAt sheet at ≡ found → ((next : ℕ) → EachCode (recordsAt most sheet next))
+    by-offset : (inside : Bool) (found : Got Record) → recordAt sheet at ≡ found → ((next : ℕ) → EachCode (recordsAt most sheet next))
         → EachCode (cond inside (onward found (λ entry next. more entry (recordsAt most sheet next))) complete)
-    by-place true (got entry next) e later = (record-got sheet at entry next e .good .code, later next)
-    by-place true (refused reason) e later = tt
-    by-place false found e later = tt
+    by-offset true (got entry next) e later = (record-got sheet at entry next e .good .code, later next)
+    by-offset true (refused reason) e later = tt
+    by-offset false found e later = tt
 
 code-of-step : (code desk screen position session : ℕ) → isCode code ≡ true → codeOf (stepOf (recordFor code desk screen position session)) ≡ code
 code-of-step zero desk screen position session good = absurd (omega (arith, in-range 0 5 good .0))

@@ -67,7 +67,7 @@ by-scan Q S shown A hS hl g rest on over = at (A .tested) refl g
             let nk = eqb-false (A .scanned + length (nextScreens shown A)) S q in
             on some (omega arith) (omega arith)
 
--- No place and no copy more or less, and the reading still in order.
+-- No slot and no copy more or less, and the reading still in order.
 pub record Keeps (S : ℕ) (D E : Desk) : Type 0 where
   pub total : usedSlots E ≡ usedSlots D
   pub copy : (s : ℕ) → copiesOn s E ≡ copiesOn s D

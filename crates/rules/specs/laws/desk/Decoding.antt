@@ -42,7 +42,7 @@ words-of-bits-of-words [] h = refl
 words-of-bits-of-words (w ∷ ws) h =
     λ i. (ap wordOfBits (take-at (bitsOfWord 16 w) (bitsOfWords ws) 16 (length-bits 16 w)) ∙ word-bits 16 w (h 0)) i ∷ (ap (wordsOfBits (length ws)) (drop-at (bitsOfWord 16 w) (bitsOfWords ws) 16 (length-bits 16 w)) ∙ words-of-bits-of-words ws (λ j. h (suc j))) i
 
--- places
+-- slots
 sessions-of-slots : (xs : List ℕ) (bs : List Bool) → sessionsOf (slotsOf xs bs) ≡ xs
 sessions-of-slots [] bs = refl
 sessions-of-slots (x ∷ xs) [] = ap {B = List ℕ} (λ r. x ∷ r) (sessions-of-slots xs [])

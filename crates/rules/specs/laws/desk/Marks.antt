@@ -1,4 +1,4 @@
--- Marking changes no session and no number of places; each reading marks at most one place, and a copy of what it reads if one is left.
+-- Marking changes no session and no number of slots; each reading marks at most one slot, and a copy of what it reads if one is left.
 use Prim.Native.Nat.{ℕ, suc, _+_, _-_, _≤_, min}
 use native.Mathlib.Omega.{arith}
 use mathlib.Core.Path.{_≡_, refl, ap, _∙_}
@@ -12,7 +12,7 @@ use Rattle.rules.specs.Lists.{occurrences}
 use Rattle.rules.specs.Steps.{mark, markEach, markedOf, unmarkedOf}
 use Rattle.rules.specs.laws.lists.Lists.{indicator, indicator-apart, occurrences-drop, occurrences-take}
 
--- One reading, by what it does to each place: nothing to a marked one, a mark to the first unmarked one with its session.
+-- One reading, by what it does to each slot: nothing to a marked one, a mark to the first unmarked one with its session.
 by-mark : (Q : List TestedSlot → List TestedSlot → Type 0) (v : ℕ) → Q [] []
     → ((x : ℕ) (ps qs : List TestedSlot) → Q ps qs → Q (marked x ∷ ps) (marked x ∷ qs))
     → ((x : ℕ) (ps : List TestedSlot) → v ≡ x → Q (unmarked x ∷ ps) (marked x ∷ ps))
@@ -25,7 +25,7 @@ by-mark Q v none had gets past (unmarked x ∷ ps) = by-cases (eqb v x) refl (by
     by-cases true q h = gets x ps (eqb-true v x q)
     by-cases false q h = past x ps (mark v ps) (eqb-false v x q) h
 
--- ---- The places, and the marks on them.
+-- ---- The slots, and the marks on them.
 abbrev pub markCount : List TestedSlot → ℕ
 markCount ps = length (markedOf ps)
 
@@ -53,7 +53,7 @@ pub mark-count-begin : (w : List ℕ) → markCount (map unmarked w) ≡ 0
 mark-count-begin [] = refl
 mark-count-begin (x ∷ w) = mark-count-begin w
 
--- ---- The copies of a session on the tested places.
+-- ---- The copies of a session on the tested slots.
 abbrev pub testedCopies : ℕ → List TestedSlot → ℕ
 testedCopies s ps = occurrences s (unmarkedOf ps) + occurrences s (markedOf ps)
 

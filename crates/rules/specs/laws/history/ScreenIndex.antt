@@ -1,4 +1,4 @@
--- Each screen of the hall has a place of its own among the S.
+-- Each screen of the hall has an index of its own among the S.
 use Prim.Native.Nat.{ℕ, _-_, _≤_, suc, _*_, _<_}
 use native.Mathlib.Omega.{arith}
 use native.Mathlib.Nat.{mul-le-mul-right}
@@ -27,7 +27,7 @@ screen-same H d c x y a b e = by-cases (decLt d x) (decLt x d)
     by-cases (no l) (yes g) = absurd (omega (arith, screen-less H x y d c (b .0) g (b .2) (b .3)))
     by-cases (no l) (no g) = let dx : d ≡ x = omega arith in (dx, omega (arith, a .2, b .2, ap (λ (m : ℕ). (m - 1) * H .screens) dx))
 
--- the screen at place x, after a store at desk d's screen c
+-- the screen at index x, after a store at desk d's screen c
 pub screen-stored : (H : Hall) (shown : List ℕ) → length shown ≡ allScreens H → (d c w x : ℕ) → (1 ≤ d) × (d ≤ H .desks) → (1 ≤ c) × (c ≤ H .screens)
     → getD (set shown (screenIndex H d c) w) x 0 ≡ cond (eqb (screenIndex H d c) x) w (getD shown x 0)
 screen-stored H shown all d c w x hd hc =

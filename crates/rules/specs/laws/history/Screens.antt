@@ -1,4 +1,4 @@
--- What the screens show, told from the history alone: a screen that shows a session was taken, and not dropped since.
+-- What the screens show, read from the history alone: a screen that shows a session was taken, and not dropped since.
 use Prim.Native.Nat.{ℕ, _+_, _≤_, zero, suc, _<_}
 use native.Mathlib.Omega.{arith}
 use mathlib.Core.Path.{_≡_, refl, sym, ap, _∙_, subst}

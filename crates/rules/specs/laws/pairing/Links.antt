@@ -1,4 +1,4 @@
--- What each screen's present take is linked to, told from the history; it is kept beside the state, in the proofs only. The state agrees
+-- What each screen's present take is linked to, read from the history; it is kept beside the state, in the proofs only. The state agrees
 -- with it: a screen shows what stands at the position, what the desk owes, or what was retired.
 use Prim.Native.Nat.{ℕ, zero, suc, _-_, _≤_, _<_}
 use mathlib.Core.Path.{_≡_, refl, sym, ap, _∙_, subst}
@@ -26,7 +26,7 @@ pub data Link : Type 0 where
   -- its take is linked to the retirement at this index
   linkedTo : ℕ → Link
 
--- What a take makes of it (at this screen or another, and its position), a swap (its desk and position) and a retire (its desk and place).
+-- What a take makes of it (at this screen or another, and its position), a swap (its desk and position) and a retire (its desk and index).
 abbrev pub onTake : Bool → ℕ → Link → Link
 onTake b p unlinked = cond b (beforeSwap p) unlinked
 onTake b p (beforeSwap q) = beforeSwap q

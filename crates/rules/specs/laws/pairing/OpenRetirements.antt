@@ -153,7 +153,7 @@ pub record Tokens (H : Hall) (f : ℕ → Effect) (s n : ℕ) (D : Desk) (count 
   pub same : (r : ℕ) → occurrences r old + occurrences r new ≡ count r
   pub held : Held H f s n D old new
 
--- the same retirements, at another place or with another list
+-- the same retirements, at another index or with another list
 pub tokens-with : {H : Hall} {f : ℕ → Effect} {s n m : ℕ} {D E : Desk} {count : ℕ → ℕ} (t : Tokens H f s n D count) → Held H f s m E (t .old) (t .new)
     → Tokens H f s m E count
 tokens-with t held = record { old = t .old; new = t .new; same = t .same; held = held }
@@ -194,7 +194,7 @@ pick g (r ∷ us) h = by-cases (ℕ-discrete (g r) 0) (pick g us)
         }
 
 module _ (H : Hall) (f : ℕ → Effect) (s n : ℕ) (count : ℕ → ℕ) where
-  -- one place later, with the same list
+  -- one index later, with the same list
   pub tokens-later : (D : Desk) (o : ℕ) → ((r : ℕ) → 1 ≤ count r → r < n) → Tokens H f s n D count → Tokens H f s (suc n) (owe D o) count
   tokens-later D o earlier t =
       tokens-with t

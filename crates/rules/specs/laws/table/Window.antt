@@ -26,7 +26,7 @@ use Rattle.rules.specs.laws.history.StepEffects.{IsDesk, desk-asked, tak
 abbrev pub recordsStart : Hall → ℕ
 recordsStart hall = headerWords + hall .positions + allScreens hall
 
--- place i is neither of a position or a screen nor in the record of desk d
+-- index i is neither of a position or a screen nor in the record of desk d
 pub record Outside (hall : Hall) (d i : ℕ) : Type 0 where
   pub shared : headerWords ≤ i → recordsStart hall ≤ i
   pub own : recordStart hall d ≤ i → recordStart hall d + recordWidth hall ≤ i
@@ -102,7 +102,7 @@ step-rewritten limits t small c =
     (λ s a q. after-again limits t small s c a)
 
 -- ---- On bytes.
--- the words from place a up to e, laid over their own bytes
+-- the words from index a up to e, laid over their own bytes
 abbrev pub overwriteRange : ℕ → ℕ → List ℕ → List ℕ → List ℕ
 overwriteRange a e words bytes = take (2 * a) bytes ++ overwriteWords (take (e - a) (drop a words)) (drop (2 * a) bytes)
 
@@ -122,7 +122,7 @@ bytes-behind (suc n) (word ∷ words) rest h =
     let e : 2 * suc n ≡ suc (suc (2 * n)) = omega arith in
     ap (λ (m : ℕ). drop m (bytesOfWords (word ∷ words) ++ rest)) e ∙ bytes-behind n words rest (omega arith)
 
--- the words of `new` from place a up to e in the midst of the old ones
+-- the words of `new` from index a up to e in the midst of the old ones
 module _ (a e : ℕ) (new old : List ℕ) (order : a ≤ e) (fits : e ≤ length old) (same : length new ≡ length old) where
   abbrev middle : List ℕ
   middle = take (e - a) (drop a new)

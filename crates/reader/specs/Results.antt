@@ -1,4 +1,4 @@
--- For each answer of the readers, what the rules' readers say: document 01's number, the value and the next place.
+-- For each answer of the readers, what the rules' readers say: document 01's number, the value and the next offset.
 use Prim.Native.Nat.{ℕ}
 use Rattle.rules.specs.Hall.{Hall, hallOf}
 use Rattle.rules.specs.Numbers.{Got, got, refusal}
@@ -20,22 +20,22 @@ numberOf Ends = 15
 numberOf TooLarge = 16
 
 -- a number that is refused shows no code by itself
-abbrev pub toldNumber : Number → Got ℕ
-toldNumber (Value value next) = got value next
-toldNumber (Refused fault) = refusal 0 (numberOf fault)
+abbrev pub numberResult : Number → Got ℕ
+numberResult (Value value next) = got value next
+numberResult (Refused fault) = refusal 0 (numberOf fault)
 
 abbrev pub recordOf : ReadRecord → Record
 recordOf entry = recordFor (entry .code) (entry .desk) (entry .screen) (entry .position) (entry .session)
 
 -- "Is the code 1 to 5? 17"
-abbrev pub toldRecord : Entry → Got Record
-toldRecord (WholeEntry entry next) = got (recordOf entry) next
-toldRecord (RefusedEntry code fault) = refusal code (numberOf fault)
-toldRecord (NoCode code) = refusal code 17
+abbrev pub recordResult : Entry → Got Record
+recordResult (WholeEntry entry next) = got (recordOf entry) next
+recordResult (RefusedEntry code fault) = refusal code (numberOf fault)
+recordResult (NoCode code) = refusal code 17
 
 abbrev pub headerOf : Header → Hall
 headerOf header = hallOf (header .desks) (header .screens) (header .positions)
 
-abbrev pub toldHeader : Head → Got Hall
-toldHeader (WholeHead header next) = got (headerOf header) next
-toldHeader (RefusedHead fault) = refusal 0 (numberOf fault)
+abbrev pub headerResult : Head → Got Hall
+headerResult (WholeHead header next) = got (headerOf header) next
+headerResult (RefusedHead fault) = refusal 0 (numberOf fault)
