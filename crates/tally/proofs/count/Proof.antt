@@ -52,8 +52,8 @@ use Rattle.tally.proofs.count.Statement as stated
 use Rattle.tally.proofs.count.Code as body
 
 -- what the contracts say of the tally after a step
-abbrev Counted : Tally → ℕ → ℕ → ℕ → Tally → Type 0
-Counted h code number session r = tallyIs r ≡ counted (tallyIs h) (eventOf code number session)
+abbrev Told : Tally → ℕ → ℕ → ℕ → Tally → Type 0
+Told h code number session r = tallyIs r ≡ counted (tallyIs h) (eventOf code number session)
 
 abbrev Arg : Type 0
 Arg = RefT Tally × (ℕ × (ℕ × (ℕ × Unit {0})))
@@ -70,8 +70,8 @@ module _ {M : Type 1} (𝓤 : URA M) (H : Heap 𝓤) (A : Atoms 𝓤) (at-mem : 
   Counted = tripleOf 𝓤 H A callee.signature (callee.spec 𝓤 H A at-mem run)
 
   -- of the callee's `ensured`, the clause alone
-  said : (h : Tally) (code number session : ℕ) (r : Tally) → ent 𝓤 (ensured 𝓤 H A callee.ended (callee.clauses 𝓤 H A at-mem run) tt (h, (code, (number, (session, tt)))) tt r) (fact 𝓤 (Counted h code number session r))
-  said h code number session r = exE 𝓤 _ (λ ws. snd∗ 𝓤 (sem 𝓤 H A (lasts callee.ended tt (h, (code, (number, (session, tt)))) ws)) (fact 𝓤 (Counted h code number session r)))
+  said : (h : Tally) (code number session : ℕ) (r : Tally) → ent 𝓤 (ensured 𝓤 H A callee.ended (callee.clauses 𝓤 H A at-mem run) tt (h, (code, (number, (session, tt)))) tt r) (fact 𝓤 (Told h code number session r))
+  said h code number session r = exE 𝓤 _ (λ ws. snd∗ 𝓤 (sem 𝓤 H A (lasts callee.ended tt (h, (code, (number, (session, tt)))) ws)) (fact 𝓤 (Told h code number session r)))
 
 module _ {M : Type 1} (𝓤 : URA M) (H : Heap 𝓤) (A : Atoms 𝓤) (W : Given 𝓤 H A) (at-mem : Memory → SProp 𝓤) (run : Routine → Fun 𝓤) (κ : Lft) (q : Share) (b o : ℕ) (γ : GName) (h : Tally) (code number session : ℕ) (code-fits : code < 2 ^ 16) (number-fits : number < 2 ^ 16) (session-fits : session < 2 ^ 16) where
   abbrev x : Arg
@@ -83,7 +83,7 @@ module _ {M : Type 1} (𝓤 : URA M) (H : Heap 𝓤) (A : Atoms 𝓤) (W : Given
   abbrev Post : Val → SProp 𝓤
   Post = walkOf 𝓤 H A f.ended stayed (f.clauses 𝓤 H A at-mem run) .post (((κ, tt), (q, tt), tt, x, at), tt)
 
-  exits : (r : Tally) → Counted h code number session r → ent 𝓤 (sep 𝓤 (A .obs γ (T.the-row .coded .code r)) (sep 𝓤 (A .bor κ (Body (mem T.the-row) b o γ)) (A .lft κ q))) (Post vunit)
+  exits : (r : Tally) → Told h code number session r → ent 𝓤 (sep 𝓤 (A .obs γ (T.the-row .coded .code r)) (sep 𝓤 (A .bor κ (Body (mem T.the-row) b o γ)) (A .lft κ q))) (Post vunit)
   exits r e =
       qed W (‵ (fobs γ (T.the-row .coded .code r)) ∷ ‵ (fbor κ (Body (mem T.the-row) b o γ)) ∷ ‵ (flft κ q) ∷ []) ∵
       suffices ! _ (ends-at 𝓤 H A f.ended stayed (f.clauses 𝓤 H A at-mem run) W (((κ, tt), (q, tt), tt, x, at), tt) vunit tt (r, (tt, (tt, (tt, tt)))) (tt, (tt, (tt, (tt, tt))))) $ says ! e $ nothing ! $ move ! (3 ∷ 0 ∷ []) $ join ! $
@@ -116,7 +116,7 @@ module _ {M : Type 1} (𝓤 : URA M) (H : Heap 𝓤) (A : Atoms 𝓤) (W : Given
         move ! (1 ∷ []) $ use1 W (raw (Counted 𝓤 H A at-mem run .pre to-counted)) goes-counted $
         calls-at ! fm (Counted 𝓤 H A at-mem run) known to-counted (and-then ! (load ! (from ! (stop !)) (look ! 9 refl)) (and-then ! (load ! (from ! (stop !)) (look ! 15 refl)) (and-then ! (load ! (from ! (stop !)) (look ! 13 refl)) (and-then ! (load ! (from ! (stop !)) (look ! 11 refl)) (no-more !))))) (λ v.
         use1 W (later (some (λ (r : Tally). (‵ ftrue ⊛ ‵ (T.the-row .own r (v ∷ []))) ⊛ raw (ensured 𝓤 H A callee.ended (callee.clauses 𝓤 H A at-mem run) tt (h, (code, (number, (session, tt)))) tt r)))) (id⊢ 𝓤 _) $ await ! tt $ pick ! (λ r.
-        split ! $ move ! (1 ∷ []) $ use1 W (raw (fact 𝓤 (Counted h code number session r))) (said 𝓤 H A at-mem run h code number session r) $ heard ! (Counted h code number session r) (λ e. split ! $ drop ! $
+        split ! $ move ! (1 ∷ []) $ use1 W (raw (fact 𝓤 (Told h code number session r))) (said 𝓤 H A at-mem run h code number session r) $ heard ! (Told h code number session r) (λ e. split ! $ drop ! $
         peeks ! T.the-row (Is T.the-row) (shows 𝓤 H A T.the-row) r (v ∷ []) (λ is.
         -- [what r owns; the struct's cell; the open borrow; obs; auth; true; the numbers'; _6; …; _5; …; _4; …; _3; …; _2; …; _1; …; _0; …]
         land ! (from ! (stop !)) (init ! 7 refl (LL.lawful T.the-type T′.the-laws 𝓤 H A W .typed r _ is .0)) $

@@ -54,8 +54,8 @@ use Rattle.tally.proofs.tallied.Statement as stated
 use Rattle.tally.proofs.tallied.Code as body
 
 -- what the contracts say of the tally after a step
-abbrev Counted : Tally → ℕ → ℕ → ℕ → Tally → Type 0
-Counted h code number session r = tallyIs r ≡ counted (tallyIs h) (eventOf code number session)
+abbrev Told : Tally → ℕ → ℕ → ℕ → Tally → Type 0
+Told h code number session r = tallyIs r ≡ counted (tallyIs h) (eventOf code number session)
 
 abbrev val : Tally → Val
 val = LL.val T.the-type T′.the-laws
@@ -101,7 +101,7 @@ module _ {M : Type 1} (𝓤 : URA M) (H : Heap 𝓤) (A : Atoms 𝓤) (W : Given
   abbrev Post : Val → SProp 𝓤
   Post = walkOf 𝓤 H A f.ended stayed (f.clauses 𝓤 H A at-mem run) .post ((tt, tt, tt, x, at), tt)
 
-  exits : (r : Tally) → Counted h code number session r → ent 𝓤 (sem 𝓤 H A (T.the-row .own r (vals r))) (Post (val r))
+  exits : (r : Tally) → Told h code number session r → ent 𝓤 (sem 𝓤 H A (T.the-row .own r (vals r))) (Post (val r))
   exits r e =
       qed W (‵ (T.the-row .own r (vals r)) ∷ []) ∵
       suffices ! _ (ends-at 𝓤 H A f.ended stayed (f.clauses 𝓤 H A at-mem run) W ((tt, tt, tt, x, at), tt) (val r) r (tt, (tt, (tt, (tt, tt)))) (tt, (tt, (tt, (tt, tt))))) $ says ! e $
@@ -138,8 +138,8 @@ module _ {M : Type 1} (𝓤 : URA M) (H : Heap 𝓤) (A : Atoms 𝓤) (W : Given
         calls-at ! fm (Step 𝓤 H A at-mem run) known (to-step l₅ ν δ) (and-then ! (load ! (from ! (stop !)) (look ! 2 refl)) (and-then ! (load ! (from ! (stop !)) (look ! 11 refl)) (and-then ! (load ! (from ! (stop !)) (look ! 9 refl)) (and-then ! (load ! (from ! (stop !)) (look ! 7 refl)) (no-more !))))) (λ v.
         use1 W (later (some (λ (u : Unit {0}). ((‵ (flft (ν ∷ []) fullShare) ⊛ ‵ ftrue) ⊛ ‵ (Nothing .own u (v ∷ []))) ⊛ raw (ensured 𝓤 H A step.ended (step.clauses 𝓤 H A at-mem run) (ν ∷ [], tt) (lent l₅ δ, (code, (number, (session, tt)))) tt u)))) (id⊢ 𝓤 _) $ await ! tt $ pick ! (λ u.
         -- what it ensures, at some last tally
-        split ! $ move ! (1 ∷ []) $ use1 W (some (λ (ws : Lasts). ‵ (lasts step.ended (ν ∷ [], tt) (lent l₅ δ, (code, (number, (session, tt)))) ws) ⊛ raw (fact 𝓤 (Counted h code number session (ws .0))))) (id⊢ 𝓤 _) $ pick ! (λ ws.
-        split ! $ move ! (1 ∷ []) $ heard ! (Counted h code number session (ws .0)) (λ e. fsplit ! $ move ! (2 ∷ []) $ split ! $ split ! $ move ! (2 ∷ []) $ feqL ! (λ is-unit.
+        split ! $ move ! (1 ∷ []) $ use1 W (some (λ (ws : Lasts). ‵ (lasts step.ended (ν ∷ [], tt) (lent l₅ δ, (code, (number, (session, tt)))) ws) ⊛ raw (fact 𝓤 (Told h code number session (ws .0))))) (id⊢ 𝓤 _) $ pick ! (λ ws.
+        split ! $ move ! (1 ∷ []) $ heard ! (Told h code number session (ws .0)) (λ e. fsplit ! $ move ! (2 ∷ []) $ split ! $ split ! $ move ! (2 ∷ []) $ feqL ! (λ is-unit.
         -- [the token; true; the last tally; true; the lender's part; _7; …; _6; …]
         land ! (from ! (stop !)) (init ! 7 refl (subst (λ (y : Val). Holds (hasTy tyUnit y) × WT y) (sym (ap only is-unit)) (tt, tt))) $
         -- the lifetime is ended, and the local comes back at that tally
