@@ -7,7 +7,8 @@
 #   make proved         the theorems
 #   make edits          the wrong programs and rules in edits/, each refused at its place
 #   make gallery        draws the example sheets anew, in docs/gallery/
-#   make selftest       shows that the comparisons catch 31 wrong boards and 34 wrong sheet programs (minutes)
+#   make selftest       shows that the comparisons catch 31 wrong boards and 34 wrong sheet programs, and the trace of stores 8
+#                       stray ones (minutes)
 #   make soak           the comparisons with new seeds; MINUTES=10 says how long, 1 if not said
 #   make fuzz           fuzzes the six calls, then the sheet program, each for half of MINUTES; installs clang if it is missing
 #   make fuzz-selftest  shows that the fuzzing catches wrong boards, stray accesses and wrong programs (minutes)
@@ -70,6 +71,7 @@ gallery: target/bin/day_sheet
 selftest:
 	@tests/compare/selftest.sh
 	@tests/sheets/selftest.sh
+	@tests/stores/selftest.sh
 
 soak: lib target/bin/day_sheet
 	@tests/soak.sh build target/bin/day_sheet $(MINUTES)

@@ -18,6 +18,7 @@ export CARGO_TARGET_DIR
 mkdir -p "$CARGO_TARGET_DIR"
 log=$CARGO_TARGET_DIR/run.log
 warnings="-std=c11 -Wall -Wextra -Wpedantic -Werror -O2"
+stores=yes # is every store of the archive traced? It takes about ten seconds, and valgrind.
 
 # step NAME LINES COMMAND...: shows the last lines, or all of them on failure.
 step() {
@@ -63,4 +64,5 @@ step "tool" 1 "$root/tests/tool.sh" "$program"
 step "building the example" 0 link "$root/examples/host.c" host_example
 step "the example" 0 "$CARGO_TARGET_DIR/host_example"
 step "documents" 1 "$root/tests/documents.py"
+[ "$stores" = no ] || step "stores" 1 "$root/tests/stores/run.sh" "$SESSION_BOARD_LIB"
 echo "run: all passed"
