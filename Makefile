@@ -3,7 +3,7 @@
 #   make host           builds and runs the example host in C
 #   make test           the gate: all proofs from nothing, the edits that must be refused, the tests outside Rattle
 #   make lib            the archive and its header, in build/
-#   make bench          the six calls and the sheet program, each against the same in Rust, same run
+#   make bench          the six calls against boards in Rust and in C, and the sheet program against one in Rust, same run
 #   make proved         the theorems
 #   make edits          the wrong programs and rules in edits/, each refused at its place
 #   make gallery        draws the example sheets anew, in docs/gallery/
@@ -49,6 +49,8 @@ target/bin/day_sheet:
 	@rt check day_sheet > build/day_sheet.log 2>&1 || { cat build/day_sheet.log; exit 1; }
 
 bench: lib target/bin/day_sheet
+	@bench/c_board/compare.sh
+	@echo
 	@$(CARGO) bench/Cargo.toml
 	@cargo build --quiet --offline --release --manifest-path tests/reference/Cargo.toml
 	@echo
