@@ -1,7 +1,8 @@
 #!/bin/sh
 # Tests the trace itself, on the smallest hall. With the reference standing in
 # for the archive it must pass; with each stray store of stray.c it must fail,
-# name the call and the store, and find no other call at fault.
+# name the call and the store, and find no other call at fault. The read-only
+# pages of ../host/host_test.c must catch the same stores.
 #
 #     selftest.sh [NAME...]      all stray stores, or those named
 set -eu
@@ -28,6 +29,21 @@ right_board() {
     echo "right board: $(tail -n 1 "$work/out")"
 }
 
+# A store between two words that the call names shares their page.
+unseen_by_pages=RETIRE_REWRITES_K
+
+# on_pages NAME CALL
+on_pages() {
+    gcc -O2 -I"$root/include" -D"$1" "-Wl,--wrap=board_$2" "$stores/stray.c" "$tests/host/host_test.c" "$right" \
+        -o "$work/host_test" 2>"$work/err" || fail "$1: $(cat "$work/err")"
+    if "$work/host_test" >"$work/out"; then
+        [ "$1" = "$unseen_by_pages" ] || fail "$1: not caught by host_test"
+    else
+        grep -q "^FAILED in .*: $2 .* a store to byte" "$work/out" || [ "$2" = open ] ||
+            fail "$1: caught by host_test, but not as a store"
+    fi
+}
+
 # The call is the name's first word.
 stray_store() {
     call=$(echo "$1" | sed 's/_.*//' | tr A-Z a-z)
@@ -39,6 +55,7 @@ stray_store() {
     *) fail "$1: not caught at $call, but: $(cat "$work/out")" ;;
     esac
     [ "$(echo "$found" | wc -l)" -eq 1 ] || fail "$1: caught at other calls too: $found"
+    on_pages "$1" "$call"
     echo "$1: caught, $found"
 }
 
