@@ -28,7 +28,8 @@ fn print_calls(clock: &mut Clock) {
         for marks in [false, true] {
             let Some(tasks) = tasks(&hall, marks) else { continue };
             println!();
-            println!("{}", title(&hall, marks));
+            let tables = Clock::tables(2 * hall.need());
+            println!("{}, batches of {tables} calls", title(&hall, marks));
             println!("{:<38}{ours:>8}{rust:>8}{c:>8}{:>11}{:>8}", "call", "ours/Rust", "ours/C");
             for task in tasks {
                 agree(&task);
@@ -53,7 +54,8 @@ fn print_places(clock: &mut Clock) {
     );
     for hall in halls() {
         println!();
-        println!("{}", title(&hall, false));
+        let tables = Clock::tables_at_a_place(2 * hall.need());
+        println!("{}, batches of {tables} calls", title(&hall, false));
         println!("{:<38}{}", "call", NAMES.map(|name| format!("{:^23}", name)).concat());
         for task in tasks(&hall, false).expect("every hall has tables without marks") {
             if task.number == 0 || task.number == 6 {
@@ -84,8 +86,7 @@ fn title(hall: &Hall, marks: bool) -> String {
     let Hall { desks, screens, positions } = hall;
     let bytes = 2 * hall.need();
     let with = if marks { "with marks on every desk" } else { "without marks" };
-    let tables = Clock::tables(bytes);
-    format!("hall {desks} {screens} {positions}, {with}: {bytes} bytes, batches of {tables} calls")
+    format!("hall {desks} {screens} {positions}, {with}: {bytes} bytes")
 }
 
 /// All boards give the answer that is to be timed, and the same bytes.

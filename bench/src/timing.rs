@@ -42,6 +42,12 @@ impl Clock {
         (BATCH_BYTES / bytes).clamp(1, MAX_TABLES)
     }
 
+    /// The same with all tables at the same place of their pages. There they share the cache's
+    /// sets, so there are few.
+    pub fn tables_at_a_place(bytes: usize) -> usize {
+        (BATCH_BYTES / bytes.next_multiple_of(PAGE)).clamp(1, 4)
+    }
+
     /// The median times of a call. The tables of a batch stand one behind the
     /// other, and the next batch begins elsewhere in the page.
     pub fn time(&mut self, task: &Task) -> Times {
@@ -58,8 +64,7 @@ impl Clock {
     /// page: each on a cache line of its own, and each aligned in its own way.
     pub fn time_at_places(&mut self, task: &Task) -> Vec<Times> {
         let stride = task.table.len().next_multiple_of(PAGE);
-        // Tables at the same place of their pages share the cache's sets, so there are few.
-        let tables = (BATCH_BYTES / stride).clamp(1, 4);
+        let tables = Clock::tables_at_a_place(task.table.len());
         let mut times: Vec<_> = (0..PLACES).map(|_| BOARDS.map(|_| Vec::new())).collect();
         // The places in turn, so that a disturbance meets all of them alike.
         for repetition in 0..REPETITIONS_OF_A_PLACE {
