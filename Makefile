@@ -3,11 +3,12 @@
 #   make host           builds and runs the example host in C
 #   make test           the gate: all proofs from nothing, the edits that must be refused, the tests outside Rattle
 #   make lib            the archive and its header, in build/
-#   make bench          the six calls and the sheet program, each against the same in Rust, same run
+#   make bench          the six calls against boards in Rust and in C, and the sheet program against one in Rust, same run
 #   make proved         the theorems
 #   make edits          the wrong programs and rules in edits/, each refused at its place
 #   make gallery        draws the example sheets anew, in docs/gallery/
-#   make selftest       shows that the comparisons catch 31 wrong boards and 34 wrong sheet programs (minutes)
+#   make selftest       shows that the comparisons catch 31 wrong boards and 34 wrong sheet programs, and the trace of stores 8
+#                       stray ones (minutes)
 #   make soak           the comparisons with new seeds; MINUTES=10 says how long, 1 if not said
 #   make fuzz           fuzzes the six calls, then the sheet program, each for half of MINUTES; installs clang if it is missing
 #   make fuzz-selftest  shows that the fuzzing catches wrong boards, stray accesses and wrong programs (minutes)
@@ -48,6 +49,8 @@ target/bin/day_sheet:
 	@rt check day_sheet > build/day_sheet.log 2>&1 || { cat build/day_sheet.log; exit 1; }
 
 bench: lib target/bin/day_sheet
+	@bench/c_board/compare.sh
+	@echo
 	@$(CARGO) bench/Cargo.toml
 	@cargo build --quiet --offline --release --manifest-path tests/reference/Cargo.toml
 	@echo
@@ -70,6 +73,7 @@ gallery: target/bin/day_sheet
 selftest:
 	@tests/compare/selftest.sh
 	@tests/sheets/selftest.sh
+	@tests/stores/selftest.sh
 
 soak: lib target/bin/day_sheet
 	@tests/soak.sh build target/bin/day_sheet $(MINUTES)

@@ -5,10 +5,15 @@
  * Every table is laid on a ground: a few pages of known bytes between two
  * pages that cannot be read or written. A stray write shows in the known
  * bytes; a stray read or write past them stops the test.
+ *
+ * Where asked for, each call is then made again on copies of its table whose
+ * pages are read-only, but for those that hold a word that the call names: a
+ * store to any other page is caught, even one that changes nothing.
  */
 #define _DEFAULT_SOURCE
 #include "session_board.h"
 
+#include <setjmp.h>
 #include <signal.h>
 #include <stdbool.h>
 #include <stdio.h>
@@ -48,21 +53,28 @@ static void end(void)
 
 enum { GUARD = 64, SPARE = 3 };
 
+static size_t page;
 static uint8_t *ground;
 static size_t ground_bytes;
 
-static void make_ground(void)
+/* So many bytes, whole pages, between two pages that cannot be reached. */
+static uint8_t *pages(size_t bytes)
 {
-    size_t page = (size_t)sysconf(_SC_PAGESIZE);
-    ground_bytes = (BOARD_MAX_BYTES + 2 * GUARD + 8 + page - 1) / page * page;
-    uint8_t *all = mmap(NULL, ground_bytes + 2 * page, PROT_READ | PROT_WRITE,
+    uint8_t *all = mmap(NULL, bytes + 2 * page, PROT_READ | PROT_WRITE,
                         MAP_PRIVATE | MAP_ANONYMOUS, -1, 0);
     if (all == MAP_FAILED || mprotect(all, page, PROT_NONE) != 0 ||
-        mprotect(all + page + ground_bytes, page, PROT_NONE) != 0) {
+        mprotect(all + page + bytes, page, PROT_NONE) != 0) {
         perror("host_test: no ground");
         exit(2);
     }
-    ground = all + page;
+    return all + page;
+}
+
+static void make_ground(void)
+{
+    page = (size_t)sysconf(_SC_PAGESIZE);
+    ground_bytes = (BOARD_MAX_BYTES + 2 * GUARD + 8 + page - 1) / page * page;
+    ground = pages(ground_bytes);
 }
 
 /* Not 0, and no two neighbours alike. */
@@ -71,12 +83,30 @@ static uint8_t guard_byte(size_t at)
     return (uint8_t)(at % 251 + 1);
 }
 
-static void stopped(int number)
+/* While a call runs on read-only pages: where to go on after a store to one. */
+static sigjmp_buf after_store;
+static volatile sig_atomic_t store_expected;
+static uint8_t *volatile stored_to;
+
+static void stopped(int number, siginfo_t *info, void *context)
 {
+    (void)context;
+    if (store_expected && number == SIGSEGV) {
+        stored_to = info->si_addr;
+        siglongjmp(after_store, 1);
+    }
     /* Nothing can be trusted any more; say where and stop. */
     printf("FAILED in %s: signal %d, a read or write outside the table?\n", group, number);
     fflush(stdout);
     _exit(1);
+}
+
+static void catch_signals(void)
+{
+    struct sigaction action = {.sa_sigaction = stopped, .sa_flags = SA_SIGINFO};
+    sigaction(SIGSEGV, &action, NULL);
+    sigaction(SIGBUS, &action, NULL);
+    sigaction(SIGABRT, &action, NULL);
 }
 
 /* ---- the lent table -------------------------------------------------- */
@@ -120,58 +150,276 @@ static bool guards_intact(void)
     return true;
 }
 
-/* Call this first, then the board, then after() with its answer. */
-static void keep(void)
+/* ---- a call ---------------------------------------------------------- */
+
+enum function { OPEN, TAKE, DROP, SWAP, RETIRE, COLLECT, FUNCTIONS };
+
+/* A function and its numbers; those that it lacks are 0. */
+struct call {
+    enum function function;
+    uint16_t numbers[3];
+};
+
+static uint32_t send(const struct call *call, uint8_t *table, size_t bytes)
 {
-    memcpy(before, lent.table, lent.bytes);
+    const uint16_t *numbers = call->numbers;
+    switch (call->function) {
+    case OPEN:
+        return board_open(numbers[0], numbers[1], numbers[2], table, bytes);
+    case TAKE:
+        return board_take(numbers[0], numbers[1], numbers[2], table, bytes);
+    case DROP:
+        return board_drop(numbers[0], numbers[1], table, bytes);
+    case SWAP:
+        return board_swap(numbers[0], numbers[1], numbers[2], table, bytes);
+    case RETIRE:
+        return board_retire(numbers[0], table, bytes);
+    default:
+        return board_collect(numbers[0], table, bytes);
+    }
 }
 
-/* What holds of every call. */
-static uint32_t after(uint32_t answer)
+static void print_call(const struct call *call)
 {
+    static const char *const names[FUNCTIONS] = {"open", "take", "drop", "swap", "retire", "collect"};
+    static const int fields[FUNCTIONS] = {3, 3, 2, 3, 1, 1};
+    printf("%s", names[call->function]);
+    for (int field = 0; field < fields[call->function]; field++)
+        printf(" %u", call->numbers[field]);
+}
+
+/* ---- the words that a call names ------------------------------------- */
+
+/* The words of a desk's record, from document 01's layout. */
+enum { OWED = 0, READY = 2, TESTED = 3, WAITING = 4, LIST = 13 };
+
+static uint16_t word_of(const uint8_t *table, size_t at)
+{
+    return (uint16_t)(table[2 * at] | table[2 * at + 1] << 8);
+}
+
+static size_t first_screen(const uint8_t *table)
+{
+    return 3 + (size_t)word_of(table, 2);
+}
+
+static size_t all_screens(const uint8_t *table)
+{
+    return (size_t)word_of(table, 0) * word_of(table, 1);
+}
+
+/* The first word of a desk's record. */
+static size_t record_of(const uint8_t *table, uint16_t desk)
+{
+    size_t all = all_screens(table);
+    return first_screen(table) + all + (desk - 1u) * (LIST + 2 * all);
+}
+
+/* The bytes that a call may write, as offsets in the table. */
+struct named {
+    size_t count;
+    struct range {
+        size_t first, past;
+    } ranges[3];
+};
+
+static void name(struct named *named, size_t word, size_t words)
+{
+    named->ranges[named->count++] = (struct range){2 * word, 2 * (word + words)};
+}
+
+/* What an accepted call names, on the table before it. */
+static struct named named_by(const struct call *call, const uint8_t *table)
+{
+    struct named named = {0};
+    const uint16_t *numbers = call->numbers;
+    if (call->function == OPEN) {
+        name(&named, 0, board_need(numbers[0], numbers[1], numbers[2]));
+        return named;
+    }
+    size_t record = record_of(table, numbers[0]);
+    switch (call->function) {
+    case TAKE:
+    case DROP:
+        name(&named, first_screen(table) + (numbers[0] - 1u) * word_of(table, 1) + numbers[1] - 1u, 1);
+        break;
+    case SWAP:
+        name(&named, 3 + numbers[1] - 1u, 1);
+        if (word_of(table, 3 + numbers[1] - 1u) != 0)
+            name(&named, record + OWED, 1);
+        break;
+    case RETIRE:
+        name(&named, record + OWED, 1);
+        name(&named, record + WAITING, 1);
+        name(&named, record + LIST + word_of(table, record + READY) + word_of(table, record + TESTED) +
+                         word_of(table, record + WAITING), 1);
+        break;
+    default:
+        name(&named, record + OWED + 1, LIST + 2 * all_screens(table) - 1);
+    }
+    return named;
+}
+
+static bool is_named(const struct named *named, size_t byte)
+{
+    for (size_t i = 0; i < named->count; i++)
+        if (named->ranges[i].first <= byte && byte < named->ranges[i].past)
+            return true;
+    return false;
+}
+
+/* ---- read-only pages ------------------------------------------------- */
+
+/* A table can lie across the middle in any way. */
+enum { STRIP_PAGES = 4, LIMIT_REPORTS = 2 /* of each call */ };
+
+static uint8_t *strip, *strip_filling;
+static bool read_only; /* is each call made again on read-only pages? */
+static unsigned long stray_stores[FUNCTIONS];
+
+static void make_strip(void)
+{
+    strip = pages(STRIP_PAGES * page);
+    strip_filling = malloc(STRIP_PAGES * page);
+    if (strip_filling == NULL)
+        exit(2);
+    for (size_t at = 0; at < STRIP_PAGES * page; at++)
+        strip_filling[at] = guard_byte(at);
+}
+
+static void protect(size_t which, bool writable)
+{
+    if (mprotect(strip + which * page, page, writable ? PROT_READ | PROT_WRITE : PROT_READ) != 0) {
+        perror("host_test: no protection");
+        exit(2);
+    }
+}
+
+/* A page is writable if it holds a named byte of the table at this offset. */
+static void protect_unnamed(const struct named *named, size_t table)
+{
+    for (size_t which = 0; which < STRIP_PAGES; which++) {
+        bool holds = false;
+        for (size_t i = 0; i < named->count; i++)
+            holds = holds || (table + named->ranges[i].first < (which + 1) * page &&
+                              table + named->ranges[i].past > which * page);
+        protect(which, holds);
+    }
+}
+
+static void report_stray(const struct call *call, size_t table, long edge)
+{
+    checks++;
+    failed++;
+    if (stray_stores[call->function]++ >= LIMIT_REPORTS)
+        return;
+    printf("FAILED in %s: ", group);
+    print_call(call);
+    printf(", hall %u %u %u: a store to byte %ld of the table, on a page with no word that the call names "
+           "(table at %zu of a page, page boundary before byte %ld)\n",
+           word_of(before, 0), word_of(before, 1), word_of(before, 2),
+           (long)(stored_to - strip) - (long)table, table % page, edge);
+}
+
+/* The call again, with a page boundary before this byte of its table, which
+ * may be one before or behind it. */
+static void again_at(const struct call *call, uint32_t answer, const struct named *named, long edge)
+{
+    size_t table = (size_t)((long)(STRIP_PAGES / 2 * page) - edge);
+    for (size_t which = 0; which < STRIP_PAGES; which++)
+        protect(which, true);
+    memcpy(strip, strip_filling, STRIP_PAGES * page);
+    memcpy(strip + table, before, lent.bytes);
+    protect_unnamed(named, table);
+    if (sigsetjmp(after_store, 1) != 0) {
+        store_expected = false;
+        report_stray(call, table, edge);
+        return;
+    }
+    store_expected = true;
+    uint32_t same = send(call, strip + table, lent.told);
+    store_expected = false;
+    check(same == answer, "the same answer on read-only pages");
+    check(memcmp(strip + table, lent.table, lent.bytes) == 0, "the same table on read-only pages");
+    check(memcmp(strip, strip_filling, table) == 0, "nothing written before the table");
+    size_t past = table + lent.bytes;
+    check(memcmp(strip + past, strip_filling + past, STRIP_PAGES * page - past) == 0,
+          "nothing written behind the table");
+}
+
+/* The call again, with a page boundary just before and just behind each part
+ * that it names, and one byte to either side: there the table has an odd
+ * address. A refusal names nothing, and all pages are read-only. */
+static void again_on_read_only_pages(const struct call *call, uint32_t answer, const struct named *named)
+{
+    for (long by = -1; by <= 1; by++) {
+        for (size_t i = 0; i < named->count; i++) {
+            again_at(call, answer, named, (long)named->ranges[i].first + by);
+            again_at(call, answer, named, (long)named->ranges[i].past + by);
+        }
+        if (named->count == 0)
+            again_at(call, answer, named, (long)lent.bytes / 2 + by);
+    }
+}
+
+/* ---- the calls, checked ---------------------------------------------- */
+
+static bool unnamed_intact(const struct named *named)
+{
+    for (size_t byte = 0; byte < lent.bytes; byte++)
+        if (before[byte] != lent.table[byte] && !is_named(named, byte))
+            return false;
+    return true;
+}
+
+/* Makes a call on the lent table, and checks what holds of every call. */
+static uint32_t perform(struct call call)
+{
+    struct named named = {0};
+    memcpy(before, lent.table, lent.bytes);
+    uint32_t answer = send(&call, lent.table, lent.told);
     check(board_number(answer) <= BOARD_NO_ROOM, "a reply number from 0 to 14");
     check(guards_intact(), "nothing written outside the table's need");
     if (board_number(answer) != BOARD_ACCEPTED) {
         check(board_session(answer) == 0, "a refusal has session 0");
         check(memcmp(before, lent.table, lent.bytes) == 0, "a refusal leaves every byte");
+    } else {
+        named = named_by(&call, before);
+        check(unnamed_intact(&named), "only the words that the call names change");
     }
+    if (read_only)
+        again_on_read_only_pages(&call, answer, &named);
     return answer;
 }
 
 static uint32_t open_hall(uint16_t desks, uint16_t screens, uint16_t positions)
 {
-    keep();
-    return after(board_open(desks, screens, positions, lent.table, lent.told));
+    return perform((struct call){OPEN, {desks, screens, positions}});
 }
 
 static uint32_t take(uint16_t desk, uint16_t screen, uint16_t position)
 {
-    keep();
-    return after(board_take(desk, screen, position, lent.table, lent.told));
+    return perform((struct call){TAKE, {desk, screen, position}});
 }
 
 static uint32_t drop(uint16_t desk, uint16_t screen)
 {
-    keep();
-    return after(board_drop(desk, screen, lent.table, lent.told));
+    return perform((struct call){DROP, {desk, screen, 0}});
 }
 
 static uint32_t swap(uint16_t desk, uint16_t position, uint16_t session)
 {
-    keep();
-    return after(board_swap(desk, position, session, lent.table, lent.told));
+    return perform((struct call){SWAP, {desk, position, session}});
 }
 
 static uint32_t retire(uint16_t desk)
 {
-    keep();
-    return after(board_retire(desk, lent.table, lent.told));
+    return perform((struct call){RETIRE, {desk, 0, 0}});
 }
 
 static uint32_t collect(uint16_t desk)
 {
-    keep();
-    return after(board_collect(desk, lent.table, lent.told));
+    return perform((struct call){COLLECT, {desk, 0, 0}});
 }
 
 static void accepts(uint32_t answer, uint16_t session, const char *what)
@@ -186,15 +434,18 @@ static void refuses(uint32_t answer, enum board_reply number, const char *what)
 
 static uint16_t word(size_t at)
 {
-    return (uint16_t)(lent.table[2 * at] | lent.table[2 * at + 1] << 8);
+    return word_of(lent.table, at);
 }
 
-/* The first word of a desk's record, from document 01's layout. */
+static void set_word(size_t at, uint16_t value)
+{
+    lent.table[2 * at] = (uint8_t)value;
+    lent.table[2 * at + 1] = (uint8_t)(value >> 8);
+}
+
 static size_t record(uint16_t desk)
 {
-    size_t desks = word(0), screens = word(1), positions = word(2);
-    size_t all = desks * screens;
-    return 3 + positions + all + (desk - 1u) * (13 + 2 * all);
+    return record_of(lent.table, desk);
 }
 
 /* ---- the hall book --------------------------------------------------- */
@@ -493,6 +744,61 @@ static void unopened(int place, enum filling with)
     }
 }
 
+/* ---- every answer ---------------------------------------------------- */
+
+/* A desk's steps, refused with each of their numbers and accepted: its list
+ * fills up, gets a mark, is settled, and is handed back to the last. */
+static void every_answer(uint16_t desks, uint16_t screens, uint16_t positions, uint16_t desk)
+{
+    hall(desks, screens, positions);
+    uint16_t all = (uint16_t)(desks * screens), session = 500;
+    for (uint16_t i = 0; i < 2; i++) {
+        uint16_t no_desk = i == 0 ? 0 : (uint16_t)(desks + 1), no_screen = i == 0 ? 0 : (uint16_t)(screens + 1);
+        uint16_t no_position = i == 0 ? 0 : (uint16_t)(positions + 1);
+        refuses(take(no_desk, 1, 1), BOARD_NO_DESK, "take gives 6");
+        refuses(drop(no_desk, 1), BOARD_NO_DESK, "drop gives 6");
+        refuses(swap(no_desk, 1, 1), BOARD_NO_DESK, "swap gives 6");
+        refuses(retire(no_desk), BOARD_NO_DESK, "retire gives 6");
+        refuses(collect(no_desk), BOARD_NO_DESK, "collect gives 6");
+        refuses(take(desk, no_screen, 1), BOARD_NO_SCREEN, "take gives 7");
+        refuses(drop(desk, no_screen), BOARD_NO_SCREEN, "drop gives 7");
+        refuses(take(desk, 1, no_position), BOARD_NO_POSITION, "take gives 8");
+        refuses(swap(desk, no_position, 1), BOARD_NO_POSITION, "swap gives 8");
+    }
+    accepts(collect(desk), 0, "nothing to collect");
+    accepts(swap(desk, positions, 0), 0, "nothing for nothing");
+    refuses(take(desk, screens, positions), BOARD_POSITION_EMPTY, "take gives 10");
+    refuses(drop(desk, screens), BOARD_SCREEN_EMPTY, "drop gives 11");
+    refuses(retire(desk), BOARD_OWES_NOTHING, "retire gives 13");
+    accepts(swap(desk, positions, session), 0, "the first session");
+    accepts(take(desk, screens, positions), session, "it is shown");
+    refuses(take(desk, screens, positions), BOARD_SCREEN_FULL, "take gives 9");
+    for (uint16_t used = 0; used < 2 * all; used++, session++) {
+        accepts(swap(desk, positions, (uint16_t)(session + 1)), session, "the next session");
+        refuses(swap(desk, positions, 1), BOARD_OWING, "swap gives 12");
+        accepts(retire(desk), session, "the one before it waits");
+    }
+    accepts(swap(desk, positions, 0), session, "one more owed");
+    refuses(retire(desk), BOARD_NO_ROOM, "retire gives 14");
+    set_word(record(desk) + LIST, 0); /* a used place that is 0 */
+    steps_refuse_with_5();
+    set_word(record(desk) + LIST, 500);
+    for (uint16_t reads = 2; reads < all; reads += 2)
+        accepts(collect(desk), 0, "reading the hall");
+    for (uint16_t back = 501; back < session; back++)
+        accepts(collect(desk), back, "all but the one shown are back");
+    accepts(drop(desk, screens), 500, "it is shown no more");
+    accepts(retire(desk), session, "the last one waits");
+    bool first_back = false, last_back = false;
+    for (uint16_t collects = 0; collects < 3 * all; collects++) {
+        uint16_t back = board_session(collect(desk));
+        first_back = first_back || back == 500;
+        last_back = last_back || back == session;
+    }
+    check(first_back && last_back, "both are back");
+    accepts(collect(desk), 0, "nothing is left");
+}
+
 /* ---- the stack ------------------------------------------------------- */
 
 /* What the header says that a call takes at most. */
@@ -548,12 +854,12 @@ static void stack_use(uint16_t desks, uint16_t screens, uint16_t positions)
 
 /* ---- all of it ------------------------------------------------------- */
 
-int main(void)
+/* host_test [in_place=yes|no]: with yes, each call is made again on read-only pages. */
+int main(int count, char **words)
 {
     make_ground();
-    signal(SIGSEGV, stopped);
-    signal(SIGBUS, stopped);
-    signal(SIGABRT, stopped);
+    make_strip();
+    catch_signals();
 
     begin("hall book between guard bytes");
     hall_book(ALIGNED_0, 0);
@@ -588,6 +894,23 @@ int main(void)
         hall_book(ALIGNED_0 + align, 0);
     far_corner(ALIGNED_0 + 3);
     end();
+
+    if (count > 1 && strcmp(words[1], "in_place=yes") == 0) {
+        begin("every answer, all words but the named ones read-only");
+        read_only = true;
+        hall_book(ALIGNED_0, SPARE);
+        far_corner(ALIGNED_0);
+        every_answer(1, 1, 1, 1);
+        every_answer(2, 1, 3, 2);
+        for (uint16_t desk = 1; desk <= 6; desk++)
+            every_answer(6, 1, 12, desk);
+        every_answer(3, 3, 1, 2);
+        every_answer(16, 4, 64, 1);
+        every_answer(16, 4, 64, 8);
+        every_answer(16, 4, 64, 16);
+        read_only = false;
+        end();
+    }
 
     begin("stack");
     stack_use(1, 1, 1);

@@ -1,0 +1,20 @@
+#!/bin/sh
+# Compares the board in C with the one in Rust, as tests/compare does it with
+# the archive: the C board stands in the archive's place.
+#
+#     bench/c_board/compare.sh [CALLS]
+set -eu
+
+here=$(cd "$(dirname "$0")" && pwd)
+root=$(dirname "$(dirname "$here")")
+out=$root/target/c_board
+mkdir -p "$out"
+gcc -std=c11 -Wall -Wextra -Wpedantic -Werror -O2 -msse2 -fno-builtin-memset -I"$root/include" \
+    -c "$here/board.c" -o "$out/board.o"
+rm -f "$out/libhost.a"
+ar crs "$out/libhost.a" "$out/board.o"
+# A folder of its own: cargo builds the comparison anew for each archive.
+SESSION_BOARD_LIB=$out CARGO_TARGET_DIR=$out cargo run --quiet --offline --release \
+    --manifest-path "$root/tests/compare/Cargo.toml" -- --calls "${1:-500000}" >"$out/compare.log" ||
+    { cat "$out/compare.log"; exit 1; }
+echo "the board in C against the one in Rust: $(tail -n 1 "$out/compare.log")"

@@ -1,0 +1,75 @@
+//! The three boards: the archive, the one in Rust and the one in C.
+
+use reference::answer;
+
+#[derive(Clone, Copy)]
+pub enum Call {
+    Open(u16, u16, u16),
+    Take(u16, u16, u16),
+    Drop(u16, u16),
+    Swap(u16, u16, u16),
+    Retire(u16),
+    Collect(u16),
+}
+
+pub type Board = fn(Call, &mut [u8]) -> u32;
+
+/// In the order of the printed columns.
+pub const BOARDS: [Board; 3] = [to_archive, to_reference, to_c];
+
+#[inline(never)]
+fn to_archive(call: Call, table: &mut [u8]) -> u32 {
+    match call {
+        Call::Open(desks, screens, positions) => archive::open(desks, screens, positions, table),
+        Call::Take(desk, screen, position) => archive::take(desk, screen, position, table),
+        Call::Drop(desk, screen) => archive::drop(desk, screen, table),
+        Call::Swap(desk, position, session) => archive::swap(desk, position, session, table),
+        Call::Retire(desk) => archive::retire(desk, table),
+        Call::Collect(desk) => archive::collect(desk, table),
+    }
+}
+
+#[inline(never)]
+pub fn to_reference(call: Call, table: &mut [u8]) -> u32 {
+    answer(match call {
+        Call::Open(desks, screens, positions) => reference::open(desks, screens, positions, table),
+        Call::Take(desk, screen, position) => reference::take(desk, screen, position, table),
+        Call::Drop(desk, screen) => reference::drop(desk, screen, table),
+        Call::Swap(desk, position, session) => reference::swap(desk, position, session, table),
+        Call::Retire(desk) => reference::retire(desk, table),
+        Call::Collect(desk) => reference::collect(desk, table),
+    })
+}
+
+mod c {
+    extern "C" {
+        pub fn c_board_open(p: u16, c: u16, l: u16, table: *mut u8, bytes: usize) -> u32;
+        pub fn c_board_take(d: u16, s: u16, p: u16, table: *mut u8, bytes: usize) -> u32;
+        pub fn c_board_drop(d: u16, s: u16, table: *mut u8, bytes: usize) -> u32;
+        pub fn c_board_swap(d: u16, p: u16, session: u16, table: *mut u8, bytes: usize) -> u32;
+        pub fn c_board_retire(d: u16, table: *mut u8, bytes: usize) -> u32;
+        pub fn c_board_collect(d: u16, table: *mut u8, bytes: usize) -> u32;
+    }
+}
+
+#[inline(never)]
+fn to_c(call: Call, table: &mut [u8]) -> u32 {
+    let (bytes, table) = (table.len(), table.as_mut_ptr());
+    // A slice points to as many bytes as it says.
+    unsafe {
+        match call {
+            Call::Open(desks, screens, positions) => {
+                c::c_board_open(desks, screens, positions, table, bytes)
+            }
+            Call::Take(desk, screen, position) => {
+                c::c_board_take(desk, screen, position, table, bytes)
+            }
+            Call::Drop(desk, screen) => c::c_board_drop(desk, screen, table, bytes),
+            Call::Swap(desk, position, session) => {
+                c::c_board_swap(desk, position, session, table, bytes)
+            }
+            Call::Retire(desk) => c::c_board_retire(desk, table, bytes),
+            Call::Collect(desk) => c::c_board_collect(desk, table, bytes),
+        }
+    }
+}

@@ -1,0 +1,112 @@
+//! Times a call on copies of its table, by each of the boards in turn.
+
+use crate::boards::{Board, BOARDS};
+use crate::halls::Task;
+use std::hint::black_box;
+use std::time::Instant;
+
+pub const PAGE: usize = 4096;
+
+/// Bytes of all tables of a batch together: they stay in the nearest cache.
+pub const BATCH_BYTES: usize = 16 * 1024;
+const MAX_TABLES: usize = 256;
+
+pub const REPETITIONS: usize = 2001;
+pub const PLACES: usize = 64;
+const REPETITIONS_OF_A_PLACE: usize = 201;
+
+/// Nanoseconds of one call, for each board.
+pub type Times = [f64; BOARDS.len()];
+
+/// Where the tables of a batch stand, in bytes from the start of a page.
+struct Layout {
+    first: usize,
+    stride: usize,
+    tables: usize,
+}
+
+pub struct Clock {
+    memory: Vec<u8>,
+    /// The nanoseconds that a batch of no calls takes.
+    empty: f64,
+}
+
+impl Clock {
+    pub fn new() -> Clock {
+        let empty = (0..REPETITIONS).map(|_| Instant::now().elapsed().as_nanos() as f64);
+        Clock { memory: vec![0; BATCH_BYTES + 4 * PAGE], empty: median(empty.collect()) }
+    }
+
+    /// How many tables of this length are in a batch.
+    pub fn tables(bytes: usize) -> usize {
+        (BATCH_BYTES / bytes).clamp(1, MAX_TABLES)
+    }
+
+    /// The same with all tables at the same place of their pages. There they share the cache's
+    /// sets, so there are few.
+    pub fn tables_at_a_place(bytes: usize) -> usize {
+        (BATCH_BYTES / bytes.next_multiple_of(PAGE)).clamp(1, 4)
+    }
+
+    /// The median times of a call. The tables of a batch stand one behind the
+    /// other, and the next batch begins elsewhere in the page.
+    pub fn time(&mut self, task: &Task) -> Times {
+        let (stride, tables) = (task.table.len(), Clock::tables(task.table.len()));
+        let mut times = BOARDS.map(|_| Vec::with_capacity(REPETITIONS));
+        for repetition in 0..REPETITIONS {
+            let first = repetition * 521 % PAGE;
+            self.turn(repetition, task, &Layout { first, stride, tables }, &mut times);
+        }
+        times.map(median)
+    }
+
+    /// The median times of a call with its table at each of 64 places of a
+    /// page: each on a cache line of its own, and each aligned in its own way.
+    pub fn time_at_places(&mut self, task: &Task) -> Vec<Times> {
+        let stride = task.table.len().next_multiple_of(PAGE);
+        let tables = Clock::tables_at_a_place(task.table.len());
+        let mut times: Vec<_> = (0..PLACES).map(|_| BOARDS.map(|_| Vec::new())).collect();
+        // The places in turn, so that a disturbance meets all of them alike.
+        for repetition in 0..REPETITIONS_OF_A_PLACE {
+            for (place, times) in times.iter_mut().enumerate() {
+                let first = place * (PAGE / PLACES + 1) % PAGE;
+                self.turn(repetition, task, &Layout { first, stride, tables }, times);
+            }
+        }
+        times.into_iter().map(|of_place| of_place.map(median)).collect()
+    }
+
+    /// A batch for each board. Who goes first changes, so that none gains by it.
+    fn turn<const N: usize>(
+        &mut self,
+        repetition: usize,
+        task: &Task,
+        layout: &Layout,
+        times: &mut [Vec<f64>; N],
+    ) {
+        for turn in 0..BOARDS.len() {
+            let which = (repetition + turn) % BOARDS.len();
+            let batch = self.time_batch(BOARDS[which], task, layout);
+            times[which].push((batch - self.empty) / layout.tables as f64);
+        }
+    }
+
+    fn time_batch(&mut self, board: Board, task: &Task, layout: &Layout) -> f64 {
+        let bytes = task.table.len();
+        let page = self.memory.as_ptr().align_offset(PAGE);
+        let tables = &mut self.memory[page + layout.first..][..layout.stride * layout.tables];
+        for table in tables.chunks_exact_mut(layout.stride) {
+            table[..bytes].copy_from_slice(&task.table);
+        }
+        let begun = Instant::now();
+        for table in tables.chunks_exact_mut(layout.stride) {
+            black_box(board(black_box(task.call), &mut table[..bytes]));
+        }
+        begun.elapsed().as_nanos() as f64
+    }
+}
+
+pub fn median(mut times: Vec<f64>) -> f64 {
+    times.sort_by(f64::total_cmp);
+    times[times.len() / 2]
+}

@@ -1,0 +1,105 @@
+#!/usr/bin/env python3
+"""Holds every store of the six calls to the bytes that the call names.
+
+usage: tests/stores/check.py DRIVER [ARGUMENT ..]
+
+DRIVER is driver.c with an archive. It runs under valgrind's lackey, which prints every store with its address and size. The
+driver stores to its marker before and after each call, and prints which bytes each call names. A store that changes nothing
+counts like any other. The last line is 'stores: N calls, M stores into tables, K stray', and the exit status is 0 only if K
+is 0.
+"""
+import os
+import subprocess
+import sys
+import tempfile
+
+# Accepted, these always change a word: if no store of theirs is seen, the trace is no trace.
+ALWAYS_STORE = ('open', 'take', 'drop', 'retire')
+
+
+class Call:
+    """A call as the driver prints it; `named` are ranges of bytes of the table, and none for a refusal."""
+
+    def __init__(self, line):
+        self.name, self.hall, table, ground, named = line.removeprefix('call ').split('|')
+        self.table = int(table)
+        self.first, self.past = map(int, ground.split())
+        self.named = [tuple(map(int, part.split('-'))) for part in named.split()]
+        self.function = self.name.split()[0]
+        self.stores = 0
+
+    def stray_byte(self, address, size):
+        """The first byte of this store, counted from the table's start, that the call does not name; None if it names all."""
+        for byte in range(address - self.table, address - self.table + size):
+            if not any(first <= byte < past for first, past in self.named):
+                return byte
+        return None
+
+
+def traced(command):
+    """What the driver prints, its exit status, and its stores as lackey prints them."""
+    reading, writing = os.pipe()
+    with tempfile.TemporaryFile() as printed:
+        valgrind = subprocess.Popen(['valgrind', '--tool=lackey', '--trace-mem=yes', f'--log-fd={writing}', *command],
+                                    stdout=printed, pass_fds=[writing])
+        os.close(writing)
+        with open(reading, 'rb') as trace:
+            # ' S' is a store, ' M' a load and a store by one instruction.
+            stores = [line for line in trace if line.startswith((b' S', b' M'))]
+        status = valgrind.wait()
+        printed.seek(0)
+        return printed.read().decode().splitlines(), status, stores
+
+
+def parsed(lines, status):
+    """The marker's address and the calls."""
+    if status != 0 or not lines or lines[-1] != 'done':
+        for line in lines[-2:]:
+            print(line)
+        sys.exit(f'stores: the driver ended with status {status}')
+    return int(lines[0].removeprefix('marker ')), [Call(line) for line in lines if line.startswith('call ')]
+
+
+def during_calls(stores, marker, calls):
+    """Each store made during a call: the call, the address and the size."""
+    running, ended = None, 0
+    for line in stores:
+        address, size = line[3:].split(b',')
+        address = int(address, 16)
+        if address == marker:
+            if running is None:
+                running = calls[ended]
+            else:
+                running, ended = None, ended + 1
+        elif running is not None:
+            yield running, address, int(size)
+    if running is not None or ended != len(calls):
+        sys.exit(f'stores: {len(calls)} calls, but the trace has {ended}')
+
+
+def main():
+    if len(sys.argv) < 2:
+        sys.exit(__doc__)
+    lines, status, stores = traced(sys.argv[1:])
+    marker, calls = parsed(lines, status)
+    count, stray = 0, {}
+    for call, address, size in during_calls(stores, marker, calls):
+        if address + size <= call.first or address >= call.past:
+            continue
+        count += 1
+        call.stores += 1
+        byte = call.stray_byte(address, size)
+        if byte is not None:
+            stray.setdefault(call.function, []).append((call, byte, size))
+    for call, byte, size in (found[0] for found in stray.values()):
+        print(f'stores: {call.name} in a hall of {call.hall}: a store of {size} bytes to byte {byte} of the table (word '
+              f'{byte // 2}), which the call does not name')
+    for call in calls:
+        if call.named and call.function in ALWAYS_STORE and not call.stores:
+            sys.exit(f'stores: {call.name} in a hall of {call.hall}: accepted, but no store of it is seen')
+    strays = sum(map(len, stray.values()))
+    print(f'stores: {len(calls)} calls, {count} stores into tables, {strays} stray')
+    sys.exit(1 if strays else 0)
+
+
+main()

@@ -1,0 +1,336 @@
+/*
+ * Makes a few hundred calls for the trace of their stores, and prints for each
+ * which bytes it may store to:
+ *
+ *     marker ADDRESS
+ *     call NAME AND NUMBERS|HALL|TABLE|GROUND FIRST PAST|FIRST-PAST FIRST-PAST ..
+ *
+ * The marker is stored to just before and just after each call, in the order of
+ * the lines. GROUND is all memory around the table, in addresses; the ranges
+ * are of bytes of the table. They come from document 01 and the table's words
+ * before the call, and whether it is accepted is said below for each call.
+ */
+#include "session_board.h"
+
+#include <stdbool.h>
+#include <stdio.h>
+#include <stdlib.h>
+#include <string.h>
+
+enum function { OPEN, TAKE, DROP, SWAP, RETIRE, COLLECT, FUNCTIONS };
+
+/* The words of a desk's record, from document 01's layout. */
+enum { OWED = 0, SCANNED = 1, READY = 2, TESTED = 3, WAITING = 4, MARKS = 5, LIST = 13 };
+
+enum { SPARE = 5, MARGIN = 64, PLACES = 16 };
+
+static volatile unsigned marker;
+
+/* The table between calls. Each call gets a copy, at another address. */
+static uint8_t kept[BOARD_MAX_BYTES + SPARE];
+static size_t lent_bytes;
+static uint16_t hall_desks, hall_screens, hall_positions;
+static size_t calls;
+
+static _Alignas(64) uint8_t ground[MARGIN + PLACES + BOARD_MAX_BYTES + SPARE + MARGIN];
+
+/* ---- the table -------------------------------------------------------- */
+
+static uint16_t word(size_t at)
+{
+    return (uint16_t)(kept[2 * at] | kept[2 * at + 1] << 8);
+}
+
+static void set_word(size_t at, unsigned value)
+{
+    kept[2 * at] = (uint8_t)value;
+    kept[2 * at + 1] = (uint8_t)(value >> 8);
+}
+
+static size_t all_screens(void)
+{
+    return (size_t)hall_desks * hall_screens;
+}
+
+static size_t position_word(uint16_t position)
+{
+    return 3 + (size_t)position - 1;
+}
+
+static size_t screen_word(uint16_t desk, uint16_t screen)
+{
+    return 3 + (size_t)hall_positions + (desk - 1u) * (size_t)hall_screens + screen - 1u;
+}
+
+static size_t record(uint16_t desk)
+{
+    return 3 + (size_t)hall_positions + all_screens() + (desk - 1u) * (LIST + 2 * all_screens());
+}
+
+/* ---- a call ----------------------------------------------------------- */
+
+static void print_words(size_t first, size_t count)
+{
+    printf(" %zu-%zu", 2 * first, 2 * (first + count));
+}
+
+/* What an accepted call names. */
+static void print_named(enum function function, const uint16_t numbers[3])
+{
+    switch (function) {
+    case OPEN:
+        print_words(0, board_need(numbers[0], numbers[1], numbers[2]));
+        break;
+    case TAKE:
+    case DROP:
+        print_words(screen_word(numbers[0], numbers[1]), 1);
+        break;
+    case SWAP:
+        print_words(position_word(numbers[1]), 1);
+        if (word(position_word(numbers[1])) != 0)
+            print_words(record(numbers[0]) + OWED, 1);
+        break;
+    case RETIRE: {
+        size_t desk = record(numbers[0]);
+        print_words(desk + OWED, 1);
+        print_words(desk + WAITING, 1);
+        print_words(desk + LIST + word(desk + READY) + word(desk + TESTED) + word(desk + WAITING), 1);
+        break;
+    }
+    default:
+        print_words(record(numbers[0]) + OWED + 1, LIST + 2 * all_screens() - 1);
+    }
+}
+
+static void print_call(enum function function, const uint16_t numbers[3], bool accepted)
+{
+    static const char *const names[FUNCTIONS] = {"open", "take", "drop", "swap", "retire", "collect"};
+    static const int fields[FUNCTIONS] = {3, 3, 2, 3, 1, 1};
+    printf("call %s", names[function]);
+    for (int field = 0; field < fields[function]; field++)
+        printf(" %u", numbers[field]);
+    printf("|%u %u %u|%zu|%zu %zu|", hall_desks, hall_screens, hall_positions,
+           (size_t)(ground + MARGIN + calls % PLACES), (size_t)ground, (size_t)(ground + sizeof ground));
+    if (accepted)
+        print_named(function, numbers);
+    printf("\n");
+}
+
+static uint32_t send(enum function function, const uint16_t numbers[3], uint8_t *table)
+{
+    uint16_t a = numbers[0], b = numbers[1], c = numbers[2];
+    uint32_t answer;
+    marker = 1;
+    switch (function) {
+    case OPEN:
+        answer = board_open(a, b, c, table, lent_bytes);
+        break;
+    case TAKE:
+        answer = board_take(a, b, c, table, lent_bytes);
+        break;
+    case DROP:
+        answer = board_drop(a, b, table, lent_bytes);
+        break;
+    case SWAP:
+        answer = board_swap(a, b, c, table, lent_bytes);
+        break;
+    case RETIRE:
+        answer = board_retire(a, table, lent_bytes);
+        break;
+    default:
+        answer = board_collect(a, table, lent_bytes);
+    }
+    marker = 0;
+    return answer;
+}
+
+/* The session of the call, which must get this reply number. */
+static uint16_t call(enum function function, uint16_t a, uint16_t b, uint16_t c, enum board_reply number)
+{
+    const uint16_t numbers[3] = {a, b, c};
+    uint8_t *table = ground + MARGIN + calls % PLACES;
+    memcpy(table, kept, lent_bytes);
+    print_call(function, numbers, number == BOARD_ACCEPTED);
+    uint32_t answer = send(function, numbers, table);
+    memcpy(kept, table, lent_bytes);
+    calls++;
+    if (board_number(answer) != number) {
+        printf("wrong reply number %u, and not %u\n", board_number(answer), number);
+        exit(1);
+    }
+    return board_session(answer);
+}
+
+static void expect(bool good, const char *what)
+{
+    if (!good) {
+        printf("wrong state: %s\n", what);
+        exit(1);
+    }
+}
+
+/* ---- what is called --------------------------------------------------- */
+
+static void openings(void)
+{
+    uint16_t desks = hall_desks, screens = hall_screens, positions = hall_positions;
+    size_t need = 2 * board_need(desks, screens, positions);
+    memset(kept, 0xEE, sizeof kept);
+    lent_bytes = need + SPARE;
+    call(OPEN, 0, screens, positions, BOARD_BAD_DESKS);
+    call(OPEN, 17, screens, positions, BOARD_BAD_DESKS);
+    call(OPEN, desks, 5, positions, BOARD_BAD_SCREENS);
+    call(OPEN, desks, screens, 65, BOARD_BAD_POSITIONS);
+    lent_bytes = need - 1;
+    call(OPEN, desks, screens, positions, BOARD_TABLE_SHORT);
+    lent_bytes = need;
+    call(OPEN, desks, screens, positions, BOARD_ACCEPTED);
+    memset(kept, 0xEE, sizeof kept);
+    lent_bytes = need + SPARE;
+    call(OPEN, desks, screens, positions, BOARD_ACCEPTED);
+}
+
+/* All five steps, with the numbers of a desk that is there. */
+static void all_refused(uint16_t desk, enum board_reply number)
+{
+    call(TAKE, desk, 1, 1, number);
+    call(DROP, desk, 1, 0, number);
+    call(SWAP, desk, 1, 1, number);
+    call(RETIRE, desk, 0, 0, number);
+    call(COLLECT, desk, 0, 0, number);
+}
+
+/* A word with another value, for which the table is not sound. */
+static void unsound(uint16_t desk, size_t at, unsigned value)
+{
+    uint16_t held = word(at);
+    set_word(at, value);
+    all_refused(desk, BOARD_UNSOUND);
+    set_word(at, held);
+}
+
+static void refusals(uint16_t desk)
+{
+    all_refused(0, BOARD_NO_DESK);
+    all_refused((uint16_t)(hall_desks + 1), BOARD_NO_DESK);
+    call(TAKE, desk, 0, 1, BOARD_NO_SCREEN);
+    call(DROP, desk, (uint16_t)(hall_screens + 1), 0, BOARD_NO_SCREEN);
+    call(TAKE, desk, 1, 0, BOARD_NO_POSITION);
+    call(SWAP, desk, (uint16_t)(hall_positions + 1), 1, BOARD_NO_POSITION);
+    size_t last = record(hall_desks);
+    unsound(desk, 0, 17);
+    unsound(desk, last + LIST + 2 * all_screens() - 1, word(last + LIST + 2 * all_screens() - 1) == 0);
+    unsound(desk, last + SCANNED, word(last + TESTED) == 0 ? 2 : 3);
+    unsound(desk, last + MARKS + 7, 0x8000);
+    size_t bytes = lent_bytes;
+    lent_bytes = 2 * board_need(hall_desks, hall_screens, hall_positions) - 1;
+    all_refused(desk, BOARD_UNSOUND);
+    lent_bytes = 5;
+    all_refused(desk, BOARD_UNSOUND);
+    lent_bytes = bytes;
+}
+
+/* Takes, drops, swaps and retires of a desk that has nothing yet. */
+static void screens_and_positions(uint16_t desk)
+{
+    uint16_t screen = hall_screens, position = hall_positions;
+    call(COLLECT, desk, 0, 0, BOARD_ACCEPTED);
+    call(SWAP, desk, position, 0, BOARD_ACCEPTED);
+    call(TAKE, desk, screen, position, BOARD_POSITION_EMPTY);
+    call(DROP, desk, screen, 0, BOARD_SCREEN_EMPTY);
+    call(RETIRE, desk, 0, 0, BOARD_OWES_NOTHING);
+    call(SWAP, desk, position, 300, BOARD_ACCEPTED);
+    call(TAKE, desk, screen, position, BOARD_ACCEPTED);
+    call(TAKE, desk, screen, position, BOARD_SCREEN_FULL);
+    call(DROP, desk, screen, 0, BOARD_ACCEPTED);
+    call(TAKE, desk, 1, position, BOARD_ACCEPTED);
+    call(SWAP, desk, position, 300, BOARD_ACCEPTED); /* the same session: it is owed all the same */
+    call(SWAP, desk, 1, 7, BOARD_OWING);
+    call(RETIRE, desk, 0, 0, BOARD_ACCEPTED);
+    call(SWAP, desk, position, 0, BOARD_ACCEPTED);
+    call(RETIRE, desk, 0, 0, BOARD_ACCEPTED);
+    call(DROP, desk, 1, 0, BOARD_ACCEPTED);
+}
+
+/* A desk's list, all waiting, and nothing owed. Every third is the session 9. */
+static void set_list(uint16_t desk, size_t used)
+{
+    size_t at = record(desk);
+    memset(kept + 2 * at, 0, 2 * (LIST + 2 * all_screens()));
+    set_word(at + WAITING, (unsigned)used);
+    for (size_t slot = 0; slot < used; slot++)
+        set_word(at + LIST + slot, slot % 3 == 0 ? 9 : 1000 + (unsigned)slot);
+}
+
+/* Every screen shows 9, or none does. */
+static void set_screens(uint16_t session)
+{
+    for (uint16_t desk = 1; desk <= hall_desks; desk++)
+        for (uint16_t screen = 1; screen <= hall_screens; screen++)
+            set_word(screen_word(desk, screen), session);
+}
+
+/* A desk's list from full to empty: marks, a settling, and hand-backs. With
+ * `steps`, steps in mid-reading too. */
+static void readings(uint16_t desk, bool steps)
+{
+    size_t at = record(desk), all = all_screens();
+    set_list(desk, 2 * all);
+    set_screens(9);
+    set_word(at + OWED, 77);
+    call(RETIRE, desk, 0, 0, BOARD_NO_ROOM);
+    for (size_t reads = 2; reads < all; reads += 2) {
+        call(COLLECT, desk, 0, 0, BOARD_ACCEPTED);
+        expect(word(at + SCANNED) == reads && word(at + MARKS) != 0, "in mid-reading, with marks");
+        if (steps && reads == 2)
+            refusals(desk);
+    }
+    expect(call(COLLECT, desk, 0, 0, BOARD_ACCEPTED) != 0, "settled and handed back");
+    expect(word(at + WAITING) != 0 && word(at + TESTED) == 0, "the marked ones wait again");
+    call(RETIRE, desk, 0, 0, BOARD_ACCEPTED);
+    set_screens(0);
+    for (int collects = 0; collects < 2; collects++)
+        call(COLLECT, desk, 0, 0, BOARD_ACCEPTED);
+    if (all > 2) {
+        expect(word(at + TESTED) != 0, "in mid-reading again");
+        call(SWAP, desk, 1, 0, BOARD_ACCEPTED);
+        call(SWAP, desk, 1, 8, BOARD_ACCEPTED);
+        call(TAKE, desk, 1, 1, BOARD_ACCEPTED);
+        call(SWAP, desk, 1, 0, BOARD_ACCEPTED);
+        call(RETIRE, desk, 0, 0, BOARD_ACCEPTED);
+        call(DROP, desk, 1, 0, BOARD_ACCEPTED);
+    }
+    set_list(desk, 2);
+    size_t back = 0;
+    for (size_t collects = 0; collects < (all + 1) / 2 + 2; collects++)
+        back += call(COLLECT, desk, 0, 0, BOARD_ACCEPTED) != 0;
+    expect(back == 2 && word(at + READY) == 0, "handed back to the last");
+}
+
+static void hall(uint16_t desks, uint16_t screens, uint16_t positions)
+{
+    hall_desks = desks, hall_screens = screens, hall_positions = positions;
+    openings();
+    screens_and_positions(desks);
+    refusals(1);
+    readings(desks, true);
+    if (desks > 1) {
+        screens_and_positions(1);
+        readings((uint16_t)(desks / 2), false);
+    }
+}
+
+/* With the argument 'small', the smallest hall alone. */
+int main(int count, char **arguments)
+{
+    static char buffer[1 << 16];
+    setvbuf(stdout, buffer, _IOFBF, sizeof buffer);
+    printf("marker %zu\n", (size_t)&marker);
+    hall(1, 1, 1);
+    if (count < 2 || strcmp(arguments[1], "small") != 0) {
+        hall(6, 1, 12);
+        hall(16, 4, 64);
+    }
+    printf("done\n");
+    return 0;
+}

@@ -1,0 +1,96 @@
+/*
+ * Wrong boards for the self-test: a right one, with a store in one call that
+ * the call does not name. All but one store what stood there already, so that
+ * answers and words stay right. Link with --wrap=board_CALL.
+ */
+#include "session_board.h"
+
+enum { LIST = 13 };
+
+static void rewrite(uint8_t *table, size_t byte)
+{
+    volatile uint8_t *lent = table;
+    lent[byte] = lent[byte];
+}
+
+static size_t record_byte(const uint8_t *table, uint16_t desk, size_t word)
+{
+    size_t all = (size_t)table[0] * table[2];
+    return 2 * (3 + table[4] + all + (desk - 1u) * (LIST + 2 * all) + word);
+}
+
+#if defined TAKE_REWRITES_THE_FIRST_WORD || defined TAKE_REWRITES_THE_NEXT_SCREEN
+uint32_t __real_board_take(uint16_t desk, uint16_t screen, uint16_t position, uint8_t *table, size_t bytes);
+
+uint32_t __wrap_board_take(uint16_t desk, uint16_t screen, uint16_t position, uint8_t *table, size_t bytes)
+{
+    uint32_t answer = __real_board_take(desk, screen, position, table, bytes);
+    if (board_number(answer) == BOARD_ACCEPTED) {
+        size_t shown = 3 + (size_t)table[4] + (desk - 1u) * (size_t)table[2] + screen - 1u;
+#if defined TAKE_REWRITES_THE_FIRST_WORD
+        (void)shown;
+        rewrite(table, 0);
+#else
+        rewrite(table, 2 * shown + 2);
+#endif
+    }
+    return answer;
+}
+#elif defined DROP_REFUSED_REWRITES_THE_LAST_BYTE
+uint32_t __real_board_drop(uint16_t desk, uint16_t screen, uint8_t *table, size_t bytes);
+
+uint32_t __wrap_board_drop(uint16_t desk, uint16_t screen, uint8_t *table, size_t bytes)
+{
+    uint32_t answer = __real_board_drop(desk, screen, table, bytes);
+    if (board_number(answer) != BOARD_ACCEPTED)
+        rewrite(table, bytes - 1);
+    return answer;
+}
+#elif defined SWAP_OF_NONE_REWRITES_OWED
+uint32_t __real_board_swap(uint16_t desk, uint16_t position, uint16_t session, uint8_t *table, size_t bytes);
+
+uint32_t __wrap_board_swap(uint16_t desk, uint16_t position, uint16_t session, uint8_t *table, size_t bytes)
+{
+    uint32_t answer = __real_board_swap(desk, position, session, table, bytes);
+    if (answer == 0)
+        rewrite(table, record_byte(table, desk, 0));
+    return answer;
+}
+#elif defined RETIRE_REWRITES_K
+uint32_t __real_board_retire(uint16_t desk, uint8_t *table, size_t bytes);
+
+uint32_t __wrap_board_retire(uint16_t desk, uint8_t *table, size_t bytes)
+{
+    uint32_t answer = __real_board_retire(desk, table, bytes);
+    if (board_number(answer) == BOARD_ACCEPTED)
+        rewrite(table, record_byte(table, desk, 1));
+    return answer;
+}
+#elif defined COLLECT_REWRITES_OWED || defined COLLECT_WRITES_AND_RESTORES
+uint32_t __real_board_collect(uint16_t desk, uint8_t *table, size_t bytes);
+
+uint32_t __wrap_board_collect(uint16_t desk, uint8_t *table, size_t bytes)
+{
+    uint32_t answer = __real_board_collect(desk, table, bytes);
+    if (board_number(answer) == BOARD_ACCEPTED) {
+#if defined COLLECT_REWRITES_OWED
+        rewrite(table, record_byte(table, desk, 0) + 1);
+#else
+        volatile uint8_t *position = table + 6;
+        *position ^= 1;
+        *position ^= 1;
+#endif
+    }
+    return answer;
+}
+#elif defined OPEN_WRITES_BEHIND_THE_NEED
+uint32_t __real_board_open(uint16_t desks, uint16_t screens, uint16_t positions, uint8_t *table, size_t bytes);
+
+uint32_t __wrap_board_open(uint16_t desks, uint16_t screens, uint16_t positions, uint8_t *table, size_t bytes)
+{
+    uint32_t answer = __real_board_open(desks, screens, positions, table, bytes);
+    if (board_number(answer) == BOARD_ACCEPTED)
+        table[2 * board_need(desks, screens, positions)] = 0;
+    return answer;
+}
+#endif
