@@ -32,12 +32,12 @@ def judged(run):
 
 
 def first_refusal(run, folder):
-    """The file of the crate in which the first refusal falls."""
+    """The file of the crate in which the first refusal falls, and what the prover says there."""
     for line in (run.stdout + run.stderr).splitlines():
         found = re.match(r'(?:note: )?(\S+?):\d+:\d+: (error|it is not proved)', line)
         if found:
-            return found[1].removeprefix(f'{folder}/')
-    return None
+            return found[1].removeprefix(f'{folder}/'), line
+    return None, ''
 
 
 @contextlib.contextmanager
