@@ -5,6 +5,7 @@ pub mod OwedSession
 pub mod DeskInvariants
 pub mod RunSplitting
 pub mod ScreenIndex
+pub mod Locality
 pub mod Screens
 pub mod InitialState
 pub mod Demand3

@@ -7,7 +7,7 @@ use mathlib.Core.List.{List, [], _∷_}
 use lib.ListN.{length}
 use lib.Dec.{eqb}
 use borrow.Author.Tests.{eq-eqb, ne-eqb}
-use Rattle.rules.specs.Hall.{Desk, Hall, State, allScreens, deskOf, usedSlots}
+use Rattle.rules.specs.Hall.{Desk, Formed, Hall, State, allScreens, deskOf, usedSlots}
 use Rattle.rules.specs.History.{Action, CollectBetween, CollectsBetweenRetires, Effect, _by_, actionsBy, byDesk, collects, collectsOf, drops, effectAt}
 use Rattle.rules.specs.History.{handBacks, handBacksOf, handsBack, isCollect, isHandBackWith, isRetireAttempt, isRetirementOf, isRetirementWith, noAction}
 use Rattle.rules.specs.History.{outOfRoom, retirements, retirementsOf, retires, swaps, takes}
@@ -18,7 +18,7 @@ use Rattle.rules.specs.laws.desk.HandBack.{Due, due-collect, due-end, du
 use Rattle.rules.specs.laws.desk.Room.{Room, collect-room, owe-room, retire-room}
 use Rattle.rules.specs.laws.desk.Sound.{Sound, collect-sound, retire-sound, sound-orderly, sound-owe}
 use Rattle.rules.specs.laws.history.Actions.{by-own-desk, same-action}
-use Rattle.rules.specs.laws.history.StepEffects.{Collects, DeskChangeIn, Formed, OutOfRoom, Same, desk-change, effectIn, formed-step}
+use Rattle.rules.specs.laws.history.StepEffects.{Collects, DeskChangeIn, OutOfRoom, Same, desk-change, effectIn, formed-step}
 use Rattle.rules.specs.laws.lists.Lists.{indicator, indicator-other, one-if-le}
 
 -- ---- A collect between any two retires. Has the desk tried to retire since its last collect?

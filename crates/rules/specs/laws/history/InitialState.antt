@@ -3,13 +3,12 @@ use Prim.Native.Nat.{ℕ, _-_, _≤_, zero, suc}
 use native.Mathlib.Omega.{arith}
 use mathlib.Core.Path.{_≡_, refl}
 use lib.ListN.{getD, replicate, length-replicate}
-use Rattle.rules.specs.Hall.{Hall, allScreens, deskOf, emptyDesk, fresh, usedSlots}
+use Rattle.rules.specs.Hall.{Formed, Hall, allScreens, deskOf, emptyDesk, fresh, usedSlots}
 use Rattle.rules.specs.History.{Effect}
 use Rattle.rules.specs.laws.desk.Collect.{copiesOn}
 use Rattle.rules.specs.laws.desk.Room.{Room}
 use Rattle.rules.specs.laws.desk.Sound.{Sound}
 use Rattle.rules.specs.laws.history.Screens.{AllShown}
-use Rattle.rules.specs.laws.history.StepEffects.{Formed}
 
 pub get-same : {A : Type 0} (n i : ℕ) (x : A) → getD (replicate n x) i x ≡ x
 get-same zero i x = refl
@@ -18,7 +17,7 @@ get-same (suc n) (suc i) x = get-same n i x
 
 module _ (H : Hall) where
   pub fresh-formed : Formed H (fresh H)
-  fresh-formed = record { desks = length-replicate (H .desks) emptyDesk; screens = length-replicate (allScreens H) 0 }
+  fresh-formed = record { positions = length-replicate (H .positions) 0; screens = length-replicate (allScreens H) 0; desks = length-replicate (H .desks) emptyDesk }
 
   -- no screen shows anything
   pub fresh-shown : (f : ℕ → Effect) → AllShown H f 0 (fresh H)

@@ -5,11 +5,11 @@ use native.Mathlib.Decide.{ℕ-discrete}
 use mathlib.Core.Path.{_≡_, refl, sym, ap, _∙_}
 use lib.ListN.{getD, set}
 use lib.Seq.{getD-set-same, getD-set-other}
-use Rattle.rules.specs.Hall.{Desk, Hall, State, allScreens, deskOf, emptyDesk}
+use Rattle.rules.specs.Hall.{Desk, Formed, Hall, State, allScreens, deskOf, emptyDesk}
 use Rattle.rules.specs.History.{Action, collects, drops, handsBack, noAction, outOfRoom, retires, swaps, takes}
 use Rattle.rules.specs.Steps.{collect}
 use Rattle.rules.specs.laws.desk.Collect.{owed-collect}
-use Rattle.rules.specs.laws.history.StepEffects.{Formed, IsDesk, StateChange, Swapped}
+use Rattle.rules.specs.laws.history.StepEffects.{IsDesk, StateChange, Swapped}
 
 module _ (H : Hall) (st : State) where
   pub held-kept : (d : ℕ) (a : Action) (after : State) → StateChange H st d a after → (p : ℕ) → 1 ≤ p → (a ≡ swaps p → ⊥)

@@ -7,7 +7,7 @@ use mathlib.Core.List.{List, [], _∷_}
 use lib.ListN.{length, take, getD, set}
 use lib.Dec.{eqb}
 use borrow.Author.Tests.{eqb-true, eqb-false}
-use Rattle.rules.specs.Hall.{Hall, State, screenIndex, withShown}
+use Rattle.rules.specs.Hall.{Formed, Hall, State, screenIndex, withShown}
 use Rattle.rules.specs.History.{Action, Effect, Shows, _by_, collects, drops, handsBack, noAction, outOfRoom, retires, swaps, takes}
 use Rattle.rules.specs.Lists.{occurrences}
 use Rattle.rules.specs.Steps.{Call, end, run, step}
@@ -15,7 +15,7 @@ use Rattle.rules.specs.laws.history.Actions.{isDrop, same-action, same-d
 use Rattle.rules.specs.laws.history.DeskInvariants.{Hidden}
 use Rattle.rules.specs.laws.history.RunSplitting.{Gives, gives-first, gives-rest, one-index-more}
 use Rattle.rules.specs.laws.history.ScreenIndex.{screen-stored}
-use Rattle.rules.specs.laws.history.StepEffects.{Dropped, Formed, StateChange, Took, effectIn, formed-step, state-change-as}
+use Rattle.rules.specs.laws.history.StepEffects.{Dropped, StateChange, Took, effectIn, formed-step, state-change-as}
 use Rattle.rules.specs.laws.lists.Lists.{indicator-other}
 
 -- What stands at index x of the screens is the session of a take.

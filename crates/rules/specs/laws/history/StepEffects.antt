@@ -9,16 +9,11 @@ use lib.ListN.{length, getD, set, length-set}
 use lib.Seq.{getD-set-same, getD-set-other, set-getD}
 use lib.Dec.{leb, ltb, eqb}
 use borrow.Author.Tests.{eqb-true, eqb-false, ltb-true, ltb-false, leb-true, not-true, le-leb}
-use Rattle.rules.specs.Hall.{Desk, Hall, State, allScreens, deskOf, emptyDesk, screenIndex, usedSlots, withDesk, withHeld, withShown}
+use Rattle.rules.specs.Hall.{Desk, Formed, Hall, State, allScreens, deskOf, emptyDesk, screenIndex, usedSlots, withDesk, withHeld, withShown}
 use Rattle.rules.specs.History.{Action, Effect, _by_, actionOf, byDesk, collects, drops, handsBack, noAction, outOfRoom, retires, swaps, takes}
 use Rattle.rules.specs.Steps.{Call, Collect, Drop, Question, Retire, Step, Swap, Take, _sends_, ask, collect, decide, firstNo, inRange, owe, performStep}
 use Rattle.rules.specs.Steps.{questions, retire, step}
 use Rattle.rules.specs.laws.lists.Bools.{and-left, and-right, and-true}
-
--- A state with as many desks and screens as the hall.
-pub record Formed (H : Hall) (st : State) : Type 0 where
-  pub desks : length (st .desks) ≡ H .desks
-  pub screens : length (st .shown) ≡ allScreens H
 
 abbrev pub IsDesk : Hall → ℕ → Type 0
 IsDesk H d = (1 ≤ d) × (d ≤ H .desks)
@@ -40,8 +35,11 @@ effectIn H st call = actionIn H st call by call .desk
 pub in-range : (n m : ℕ) → inRange n m ≡ true → (1 ≤ n) × (n ≤ m)
 in-range n m h = (leb-true 1 n (and-left (leb 1 n) (leb n m) h), leb-true n m (and-right (leb 1 n) (leb n m) h))
 
+pub range-holds : (n m : ℕ) → (1 ≤ n) × (n ≤ m) → inRange n m ≡ true
+range-holds n m r = and-true (leb 1 n) (leb n m) (le-leb 1 n (r .0)) (le-leb n m (r .1))
+
 pub out-of-range : (n m : ℕ) → inRange n m ≡ false → (1 ≤ n) × (n ≤ m) → ⊥
-out-of-range n m e r = true≢false (sym (and-true (leb 1 n) (leb n m) (le-leb 1 n (r .0)) (le-leb n m (r .1))) ∙ e)
+out-of-range n m e r = true≢false (sym (range-holds n m r) ∙ e)
 
 -- a first question, and those after it
 pub holds : (b : Bool) (m n : ℕ) → cond {A = ℕ} b m (suc n) ≡ 0 → (b ≡ true) × (m ≡ 0)
@@ -281,19 +279,20 @@ module _ (H : Hall) (st : State) (formed : Formed H st) where
   formed-step call = at (call .desk) (actionIn H st call) (step H st call .after) (state-change H st call)
     where
       screen : (index v : ℕ) → Formed H (withShown st index v)
-      screen index v = record { desks = formed .desks; screens = length-set (st .shown) index v ∙ formed .screens }
+      screen index v = record { positions = formed .positions; screens = length-set (st .shown) index v ∙ formed .screens; desks = formed .desks }
 
-      desk : (held : List ℕ) (d : ℕ) (new : Desk) → Formed H (record { held = held; shown = st .shown; desks = set (st .desks) (d - 1) new })
-      desk held d new = record { desks = length-set (st .desks) (d - 1) new ∙ formed .desks; screens = formed .screens }
+      desk : (held : List ℕ) (d : ℕ) (new : Desk) → length held ≡ H .positions
+          → Formed H (record { held = held; shown = st .shown; desks = set (st .desks) (d - 1) new })
+      desk held d new positions = record { positions = positions; screens = formed .screens; desks = length-set (st .desks) (d - 1) new ∙ formed .desks }
 
       at : (d : ℕ) (a : Action) (after : State) → StateChange H st d a after → Formed H after
       at d (takes c p v) after k = rw (k .state) (screen (screenIndex H d c) v)
       at d (drops c) after k = rw (k .state) (screen (screenIndex H d c) 0)
-      at d (swaps p) after k = rw (k .state) (desk _ d _)
-      at d (retires v) after k = rw (k .state) (desk (st .held) d (k .new))
-      at d outOfRoom after k = rw (k .state) (desk (st .held) d (k .new))
-      at d collects after k = rw (k .state) (desk (st .held) d (k .new))
-      at d (handsBack v) after k = rw (k .state) (desk (st .held) d (k .new))
+      at d (swaps p) after k = rw (k .state) (desk _ d _ (length-set (st .held) (p - 1) (k .session) ∙ formed .positions))
+      at d (retires v) after k = rw (k .state) (desk (st .held) d (k .new) (formed .positions))
+      at d outOfRoom after k = rw (k .state) (desk (st .held) d (k .new) (formed .positions))
+      at d collects after k = rw (k .state) (desk (st .held) d (k .new) (formed .positions))
+      at d (handsBack v) after k = rw (k .state) (desk (st .held) d (k .new) (formed .positions))
       at d noAction after k = rw k formed
 
   module _ (d : ℕ) (hd : 1 ≤ d) where

@@ -6,12 +6,12 @@ use mathlib.Core.Path.{_≡_, refl, sym, _∙_}
 use mathlib.Core.Bool.{true≢false}
 use mathlib.Core.List.{List, [], _∷_}
 use lib.ListN.{getD}
-use Rattle.rules.specs.Hall.{Hall, State, deskOf}
+use Rattle.rules.specs.Hall.{Formed, Hall, State, deskOf}
 use Rattle.rules.specs.History.{Linked, _by_, effectAt, retires, swaps, takes}
 use Rattle.rules.specs.Steps.{Call, run, step}
 use Rattle.rules.specs.laws.history.Actions.{effect-is, same-action}
 use Rattle.rules.specs.laws.history.OwedSession.{held-kept, owed-kept, swap-owes}
-use Rattle.rules.specs.laws.history.StepEffects.{Formed, actionIn, formed-step, state-change, state-change-as}
+use Rattle.rules.specs.laws.history.StepEffects.{actionIn, formed-step, state-change, state-change-as}
 
 -- The desk owes v: its next retirement is of v.
 owed-run : (H : Hall) (e v s : ℕ) → 1 ≤ e → (v ≡ 0 → ⊥) → (cs : List Call) (st : State) (r : ℕ) → Formed H st → deskOf st e .owed ≡ v

@@ -7,13 +7,13 @@ use mathlib.Core.List.{List}
 use lib.ListN.{getD}
 use lib.Dec.{eqb}
 use borrow.Author.Tests.{eqb-true, eqb-false}
-use Rattle.rules.specs.Hall.{Hall, State, allScreens, deskOf, screenIndex}
+use Rattle.rules.specs.Hall.{Formed, Hall, State, allScreens, deskOf, screenIndex}
 use Rattle.rules.specs.History.{Action, Effect, _by_, collects, drops, handsBack, isRetirement, noAction, outOfRoom, retires, swaps, takes}
 use Rattle.rules.specs.Steps.{Call, step}
 use Rattle.rules.specs.laws.history.Actions.{isSwap, same-action}
 use Rattle.rules.specs.laws.history.OwedSession.{held-kept, owed-kept, swap-owes}
 use Rattle.rules.specs.laws.history.ScreenIndex.{screen-in, screen-stored}
-use Rattle.rules.specs.laws.history.StepEffects.{Dropped, Formed, StateChange, Swapped, Took, effectIn, state-change-as}
+use Rattle.rules.specs.laws.history.StepEffects.{Dropped, StateChange, Swapped, Took, effectIn, state-change-as}
 
 -- The link of a screen.
 pub data Link : Type 0 where

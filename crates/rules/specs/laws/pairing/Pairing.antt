@@ -9,7 +9,7 @@ use mathlib.Core.List.{List, [], _∷_, _++_}
 use lib.ListN.{length}
 use lib.Dec.{eqb}
 use borrow.Author.Tests.{eq-eqb, ne-eqb}
-use Rattle.rules.specs.Hall.{Desk, Hall, State, allScreens, deskOf, screenIndex}
+use Rattle.rules.specs.Hall.{Desk, Formed, Hall, State, allScreens, deskOf, screenIndex}
 use Rattle.rules.specs.History.{Action, DroppedBefore, Effect, Linked, _by_, byDesk, collects, drops, handsBack, isHandBack, noAction, outOfRoom, retires}
 use Rattle.rules.specs.History.{swaps, takes}
 use Rattle.rules.specs.Lists.{occurrences}
@@ -20,7 +20,7 @@ use Rattle.rules.specs.laws.history.Actions.{by-own-desk, own-action, sa
 use Rattle.rules.specs.laws.history.DeskInvariants.{sound-step}
 use Rattle.rules.specs.laws.history.RunSplitting.{Gives, gives-first, gives-rest}
 use Rattle.rules.specs.laws.history.ScreenIndex.{screen-in}
-use Rattle.rules.specs.laws.history.StepEffects.{DeskChangeIn, Formed, InHall, desk-change, effectIn, formed-step}
+use Rattle.rules.specs.laws.history.StepEffects.{DeskChangeIn, InHall, desk-change, effectIn, formed-step}
 use Rattle.rules.specs.laws.lists.Lists.{indicator, indicator-at-most-one, indicator-other, indicator-same, occurrences-append}
 use Rattle.rules.specs.laws.pairing.LinkedTakes.{linked-dropped}
 use Rattle.rules.specs.laws.pairing.Links.{ScreensAgree, agree-step, link, linkedTo, take-finds-unlinked, unlinked}

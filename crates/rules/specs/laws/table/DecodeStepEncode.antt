@@ -74,9 +74,13 @@ valid t k =
     let l2 = length-drop (H .positions) (drop headerWords t) in
     let l3 = length-drop (allScreens H) (drop (H .positions) (drop headerWords t)) in
     record {
-      formed =
-          record { desks = length-map (recordsIn H t) (decodeDesk (allScreens H)) ∙ length-records (H .desks) (recordWidth H) (drop (allScreens H) (drop (H .positions) (drop headerWords t))); screens = length-take-le (allScreens H) (drop (H .positions) (drop headerWords t)) (omega arith) };
-      held = length-take-le (H .positions) (drop headerWords t) (omega arith);
+      formed = record {
+        positions = length-take-le (H .positions) (drop headerWords t) (omega arith);
+        screens = length-take-le (allScreens H) (drop (H .positions) (drop headerWords t)) (omega arith);
+        desks =
+            length-map (recordsIn H t) (decodeDesk (allScreens H))
+            ∙ length-records (H .desks) (recordWidth H) (drop (allScreens H) (drop (H .positions) (drop headerWords t)));
+      };
       desks = records-sound (allScreens H) (k .bounded) (H .desks) (drop (allScreens H) (drop (H .positions) (drop headerWords t))) (omega arith) (k .records);
     }
 

@@ -9,7 +9,7 @@ use lib.ListN.{length, getD, take, drop, set, replicate, length-append, length-r
 use lib.Seq.{take-at, drop-at}
 use lib.Dec.{leb, ltb, eqb, eqb·suc-zero}
 use borrow.Author.Tests.{le-leb, eqb-false, ltb-true, not-true, leb-true}
-use Rattle.rules.specs.Hall.{Desk, Hall, Limits, State, allScreens, deskOf, emptyDesk, fresh, maxAllScreens, maxDesks, maxPositions, maxScreens}
+use Rattle.rules.specs.Hall.{Desk, Formed, Hall, Limits, State, allScreens, deskOf, emptyDesk, fresh, maxAllScreens, maxDesks, maxPositions, maxScreens}
 use Rattle.rules.specs.Hall.{screenIndex, usedSlots, withDesk, withHeld, withShown}
 use Rattle.rules.specs.Lists.{chunks, concat, every}
 use Rattle.rules.specs.Steps.{Call, Collect, Drop, Event, Result, Retire, Step, Swap, Take, _sends_, accept, collect, decide, end, firstNo, inRange, owe}
@@ -19,8 +19,9 @@ use Rattle.rules.specs.Table.{positionWord, putRecord, recordOf, recordS
 use Rattle.rules.specs.Table.{stepTable, tableAfter, tableAfterStep, tailWords}
 use Rattle.rules.specs.laws.desk.Encoding.{desk-read-back, length-slots-for, length-tail}
 use Rattle.rules.specs.laws.desk.Sound.{Sound, collect-sound, encoded-sound, retire-sound, sound-owe}
+use Rattle.rules.specs.laws.history.InitialState.{fresh-formed}
 use Rattle.rules.specs.laws.history.ScreenIndex.{screen-in}
-use Rattle.rules.specs.laws.history.StepEffects.{Formed, IsDesk, desk-asked, drop-asked, formed-step, holds, in-range, retire-asked, swap-asked}
+use Rattle.rules.specs.laws.history.StepEffects.{IsDesk, desk-asked, drop-asked, formed-step, holds, in-range, retire-asked, swap-asked}
 use Rattle.rules.specs.laws.history.StepEffects.{take-asked}
 use Rattle.rules.specs.laws.lists.Bools.{and-left, and-right, and-true}
 use Rattle.rules.specs.laws.lists.ListSlices.{get-mid, put-mid, set-mid, take-mid}
@@ -67,7 +68,6 @@ all-replicate P (suc n) y py = (py, all-replicate P n y py)
 
 pub record Valid (H : Hall) (st : State) : Type 0 where
   pub formed : Formed H st
-  pub held : length (st .held) ≡ H .positions
   pub desks : All (Sound (allScreens H)) (st .desks)
 
 pub empty-desk-sound : (S : ℕ) → Sound S emptyDesk
@@ -83,20 +83,11 @@ module _ (H : Hall) (fits : Fits H) where
   pub valid-step : (st : State) (c : Call) → Valid H st → Valid H (step H st c .after)
   valid-step st c v = record {
     formed = formed-step H st (v .formed) c;
-    held = held-length (firstNo (questions H st c)) (c .desk) (c .step);
     desks = desks-sound (firstNo (questions H st c)) (c .desk) (c .step) refl;
   }
     where
       afterwards : ℕ → ℕ → Step → State
       afterwards n d s = let outcome = performStep H st d s in decide n st (outcome .session) (outcome .after) .after
-
-      held-length : (n d : ℕ) (s : Step) → length (afterwards n d s .held) ≡ H .positions
-      held-length zero d (Take c p) = v .held
-      held-length zero d (Drop c) = v .held
-      held-length zero d (Swap p w) = length-set (st .held) (p - 1) w ∙ v .held
-      held-length zero d Retire = v .held
-      held-length zero d Collect = v .held
-      held-length (suc n) d s = v .held
 
       desk-sound : (d : ℕ) → Sound (allScreens H) (deskOf st d)
       desk-sound d = all-get (Sound (allScreens H)) (st .desks) (d - 1) emptyDesk (empty-desk-sound (allScreens H)) (v .desks)
@@ -191,13 +182,13 @@ module _ (H : Hall) (fits : Fits H) where
     past-held : drop (H .positions) ((st .held ++ (st .shown ++ concat (map (encodeDesk (allScreens H)) (st .desks)))) ++ rest) ≡ st .shown ++ (concat (map (encodeDesk (allScreens H)) (st .desks)) ++ rest)
     past-held =
         ap (drop (H .positions)) (append-assoc (st .held) (st .shown ++ concat (map (encodeDesk (allScreens H)) (st .desks))) rest)
-        ∙ drop-at (st .held) ((st .shown ++ concat (map (encodeDesk (allScreens H)) (st .desks))) ++ rest) (H .positions) (v .held)
+        ∙ drop-at (st .held) ((st .shown ++ concat (map (encodeDesk (allScreens H)) (st .desks))) ++ rest) (H .positions) (v .formed .positions)
         ∙ append-assoc (st .shown) (concat (map (encodeDesk (allScreens H)) (st .desks))) rest
 
     held-of-encode : take (H .positions) ((st .held ++ (st .shown ++ concat (map (encodeDesk (allScreens H)) (st .desks)))) ++ rest) ≡ st .held
     held-of-encode =
         ap (take (H .positions)) (append-assoc (st .held) (st .shown ++ concat (map (encodeDesk (allScreens H)) (st .desks))) rest)
-        ∙ take-at (st .held) ((st .shown ++ concat (map (encodeDesk (allScreens H)) (st .desks))) ++ rest) (H .positions) (v .held)
+        ∙ take-at (st .held) ((st .shown ++ concat (map (encodeDesk (allScreens H)) (st .desks))) ++ rest) (H .positions) (v .formed .positions)
 
     pub records-of-encode : recordsIn H (encode H st ++ rest) ≡ map (encodeDesk (allScreens H)) (st .desks)
     records-of-encode =
@@ -214,7 +205,7 @@ module _ (H : Hall) (fits : Fits H) where
     pub length-table : length (encode H st) ≡ need H
     length-table =
         omega
-        (arith, length-append (st .held) (st .shown ++ concat (map (encodeDesk (allScreens H)) (st .desks))), length-append (st .shown) (concat (map (encodeDesk (allScreens H)) (st .desks))), length-flat (st .desks) (v .desks), v .held, v .formed .screens, ap (λ (n : ℕ). n * recordWidth H) (v .formed .desks))
+        (arith, length-append (st .held) (st .shown ++ concat (map (encodeDesk (allScreens H)) (st .desks))), length-append (st .shown) (concat (map (encodeDesk (allScreens H)) (st .desks))), length-flat (st .desks) (v .desks), v .formed .positions, v .formed .screens, ap (λ (n : ℕ). n * recordWidth H) (v .formed .desks))
 
     -- the table in three parts, with the positions, the screens or one record in the middle
     as-held : (h s f : List ℕ)
@@ -241,7 +232,7 @@ module _ (H : Hall) (fits : Fits H) where
         let a : List ℕ = H .desks ∷ H .screens ∷ H .positions ∷ (st .held ++ (st .shown ++ c .front)) in
         let n : length a ≡ recordStart H d =
         omega
-        (arith, length-append (st .held) (st .shown ++ c .front), length-append (st .shown) (c .front), v .held, v .formed .screens, c .starts) in
+        (arith, length-append (st .held) (st .shown ++ c .front), length-append (st .shown) (c .front), v .formed .positions, v .formed .screens, c .starts) in
         let q =
         as-record (st .held) (st .shown) (c .front) (encodeDesk (allScreens H) (deskOf st d)) (c .back)
         (concat (map (encodeDesk (allScreens H)) (st .desks))) (c .is) in
@@ -257,7 +248,7 @@ module _ (H : Hall) (fits : Fits H) where
         let a : List ℕ = H .desks ∷ H .screens ∷ H .positions ∷ (st .held ++ (st .shown ++ c .front)) in
         let n : length a ≡ recordStart H d =
         omega
-        (arith, length-append (st .held) (st .shown ++ c .front), length-append (st .shown) (c .front), v .held, v .formed .screens, c .starts) in
+        (arith, length-append (st .held) (st .shown ++ c .front), length-append (st .shown) (c .front), v .formed .positions, v .formed .screens, c .starts) in
         let q =
         as-record (st .held) (st .shown) (c .front) (encodeDesk (allScreens H) (deskOf st d)) (c .back)
         (concat (map (encodeDesk (allScreens H)) (st .desks))) (c .is) in
@@ -278,20 +269,20 @@ module _ (H : Hall) (fits : Fits H) where
     position-word-is p l m =
         ap (λ (t : List ℕ). getD t (headerWords + (p - 1)) 0) (as-held (st .held) (st .shown) (concat (map (encodeDesk (allScreens H)) (st .desks))))
         ∙ get-mid (H .desks ∷ H .screens ∷ H .positions ∷ []) (st .held)
-        ((st .shown ++ concat (map (encodeDesk (allScreens H)) (st .desks))) ++ rest) headerWords refl (p - 1) (omega (arith, v .held))
+        ((st .shown ++ concat (map (encodeDesk (allScreens H)) (st .desks))) ++ rest) headerWords refl (p - 1) (omega (arith, v .formed .positions))
 
     position-written : (p w : ℕ) → 1 ≤ p → p ≤ H .positions → set (encode H st ++ rest) (positionWord p) w ≡ encode H (withHeld st (p - 1) w) ++ rest
     position-written p w l m =
         let f = concat (map (encodeDesk (allScreens H)) (st .desks)) in
         ap (λ (t : List ℕ). set t (headerWords + (p - 1)) w) (as-held (st .held) (st .shown) f)
-        ∙ set-mid (H .desks ∷ H .screens ∷ H .positions ∷ []) (st .held) ((st .shown ++ f) ++ rest) headerWords refl (p - 1) w (omega (arith, v .held))
+        ∙ set-mid (H .desks ∷ H .screens ∷ H .positions ∷ []) (st .held) ((st .shown ++ f) ++ rest) headerWords refl (p - 1) w (omega (arith, v .formed .positions))
         ∙ sym (as-held (set (st .held) (p - 1) w) (st .shown) f)
 
     screen-written : (d c w : ℕ) → (1 ≤ d) × (d ≤ H .desks) → (1 ≤ c) × (c ≤ H .screens)
         → set (encode H st ++ rest) (screenWord H d c) w ≡ encode H (withShown st (screenIndex H d c) w) ++ rest
     screen-written d c w i j =
         let f = concat (map (encodeDesk (allScreens H)) (st .desks)) in
-        let n : length (H .desks ∷ H .screens ∷ H .positions ∷ st .held) ≡ headerWords + H .positions = omega (arith, v .held) in
+        let n : length (H .desks ∷ H .screens ∷ H .positions ∷ st .held) ≡ headerWords + H .positions = omega (arith, v .formed .positions) in
         ap (λ (t : List ℕ). set t (screenWord H d c) w) (as-shown (st .held) (st .shown) f)
         ∙ set-mid (H .desks ∷ H .screens ∷ H .positions ∷ st .held) (st .shown) (f ++ rest) (headerWords + H .positions) n (screenIndex H d c) w
         (omega (arith, v .formed .screens, screen-in H d c (i .0) (i .1) (j .0) (j .1)))
@@ -318,7 +309,7 @@ module _ (H : Hall) (fits : Fits H) where
             let a : List ℕ = H .desks ∷ H .screens ∷ H .positions ∷ (h ++ (st .shown ++ k .front)) in
             let n : length a ≡ recordStart H d =
             omega
-            (arith, length-append h (st .shown ++ k .front), length-append (st .shown) (k .front), length-set (st .held) (p - 1) w, v .held, v .formed .screens, k .starts) in
+            (arith, length-append h (st .shown ++ k .front), length-append (st .shown) (k .front), length-set (st .held) (p - 1) w, v .formed .positions, v .formed .screens, k .starts) in
             let z : recordStart H d ≡ recordStart H d + 0 = omega arith in
             (λ i. set (position-written p w (ip .0) (ip .1) i) (z i) (position-word-is p (ip .0) (ip .1) i))
             ∙ ap (λ (t : List ℕ). set t (recordStart H d + 0) o)
@@ -337,8 +328,7 @@ module _ (H : Hall) (fits : Fits H) where
 
   pub fresh-valid : Valid H (fresh H)
   fresh-valid = record {
-    formed = record { desks = length-replicate (H .desks) emptyDesk; screens = length-replicate (allScreens H) 0 };
-    held = length-replicate (H .positions) 0;
+    formed = fresh-formed H;
     desks = all-replicate (Sound (allScreens H)) (H .desks) emptyDesk (empty-desk-sound (allScreens H));
   }
 

@@ -1,0 +1,220 @@
+-- Locality of one call: what it leaves alone, and what its answer and its own desk depend on.
+use Prim.Native.Nat.{ℕ, zero, suc, _-_}
+use native.Mathlib.Omega.{arith}
+use mathlib.Core.Path.{_≡_, refl, sym, ap, ap₂, _∙_}
+use mathlib.Core.Bool.{Bool, true, false, cond, _&&_, true≢false}
+use mathlib.Core.List.{List, [], _∷_}
+use lib.ListN.{getD, set}
+use lib.Seq.{getD-set-same, getD-set-other}
+use borrow.Author.Tests.{eqb-false}
+use Rattle.rules.specs.Hall.{Desk, Formed, Hall, State, TestedSlot, allScreens, deskOf, emptyDesk, screenIndex, withHeld, withShown}
+use Rattle.rules.specs.Locality.{OthersStay, SameView, StepsAlike, deskAt, positionAt, collectReads, readIfTested, screenAt}
+use Rattle.rules.specs.Steps.{Answer, Call, Collect, Collected, Drop, Retire, Step, Swap, Take, _sends_, begin, collect, decide, firstNo, handBack, inRange}
+use Rattle.rules.specs.Steps.{isNone, isSession, owe, performStep, questions, readScreens, retire, retireQuestions, scanAt, settle, step}
+use Rattle.rules.specs.laws.history.ScreenIndex.{screen-in, screen-same}
+use Rattle.rules.specs.laws.history.StepEffects.{IsDesk, IsPosition, IsScreen, desk-asked, drop-asked, in-range, range-holds, swap-asked, take-asked}
+use Rattle.rules.specs.laws.lists.Bools.{and-left, and-right, and-true}
+
+-- What is chosen by a test is the same where it is the same whenever the test holds; and back, where it holds.
+cond-cong : {A : Type 0} (b : Bool) (x y z : A) → (b ≡ true → x ≡ y) → cond b x z ≡ cond b y z
+cond-cong true x y z h = h refl
+cond-cong false x y z h = refl
+
+cond-true-injective : {A : Type 0} (b : Bool) (x y z : A) → b ≡ true → cond b x z ≡ cond b y z → x ≡ y
+cond-true-injective true x y z q e = e
+cond-true-injective false x y z q e = absurd (true≢false (sym q))
+
+-- the first and the second of two lists that are the same
+first-same : {xs ys : List ℕ} → xs ≡ ys → getD xs 0 0 ≡ getD ys 0 0
+first-same e = ap (λ (l : List ℕ). getD l 0 0) e
+
+second-same : {xs ys : List ℕ} → xs ≡ ys → getD xs 1 0 ≡ getD ys 1 0
+second-same e = ap (λ (l : List ℕ). getD l 1 0) e
+
+-- ---- What a call leaves alone.
+module _ (H : Hall) (st : State) where
+  other-desk-stays : (held : List ℕ) (d : ℕ) (new : Desk) → IsDesk H d → (x : ℕ) → (x ≡ d → ⊥)
+      → deskAt H (record { held = held; shown = st .shown; desks = set (st .desks) (d - 1) new }) x ≡ deskAt H st x
+  other-desk-stays held d new hd x other =
+      cond-cong (inRange x (H .desks)) _ _ emptyDesk (λ h.
+      let hx = in-range x (H .desks) h in
+      getD-set-other (st .desks) (d - 1) (x - 1) new emptyDesk (λ m. other (omega (arith, hd .0, hx .0))))
+
+  other-screen-stays : (d c v : ℕ) → IsDesk H d → IsScreen H c → (x y : ℕ) → (x ≡ d → y ≡ c → ⊥)
+      → screenAt H (withShown st (screenIndex H d c) v) x y ≡ screenAt H st x y
+  other-screen-stays d c v hd hc x y other =
+      cond-cong (inRange x (H .desks) && inRange y (H .screens)) _ _ 0 (λ h.
+      let hx = in-range x (H .desks) (and-left (inRange x (H .desks)) (inRange y (H .screens)) h) in
+      let hy = in-range y (H .screens) (and-right (inRange x (H .desks)) (inRange y (H .screens)) h) in
+      getD-set-other (st .shown) (screenIndex H d c) (screenIndex H x y) v 0 (λ m.
+      let same = screen-same H x y d c (hx .0, hx .1, hy .0, hy .1) (hd .0, hd .1, hc .0, hc .1) m in
+      other (same .0) (same .1)))
+
+  other-position-stays : (p v : ℕ) → IsPosition H p → (q : ℕ) → (q ≡ p → ⊥) → positionAt H (withHeld st (p - 1) v) q ≡ positionAt H st q
+  other-position-stays p v hp q other =
+      cond-cong (inRange q (H .positions)) _ _ 0 (λ h.
+      let hq = in-range q (H .positions) h in
+      getD-set-other (st .held) (p - 1) (q - 1) v 0 (λ m. other (omega (arith, hp .0, hq .0))))
+
+  pub others-stay : (call : Call) → OthersStay H call st (step H st call .after)
+  others-stay call = by-number (firstNo (questions H st call)) (call .desk) (call .step) refl
+    where
+      by-number : (n d : ℕ) (s : Step) → firstNo (questions H st (d sends s)) ≡ n
+          → let outcome = performStep H st d s in
+          OthersStay H (d sends s) st (decide n st (outcome .session) (outcome .after) .after)
+      by-number zero d (Take c p) e =
+          let asked = take-asked H st d c p e in
+          record {
+            desks = λ x other. refl;
+            screens = λ x y free. other-screen-stays d c _ (asked .desk) (asked .screen) x y (λ own same. eqb-false c y (free own) (sym same));
+            positions = λ q free. refl;
+          }
+      by-number zero d (Drop c) e =
+          let asked = drop-asked H st d c e in
+          record {
+            desks = λ x other. refl;
+            screens = λ x y free. other-screen-stays d c 0 (asked .desk) (asked .screen) x y (λ own same. eqb-false c y (free own) (sym same));
+            positions = λ q free. refl;
+          }
+      by-number zero d (Swap p v) e =
+          let asked = swap-asked H st d p v e in
+          record {
+            desks = other-desk-stays (set (st .held) (p - 1) v) d _ (asked .desk);
+            screens = λ x y free. refl;
+            positions = λ q free. other-position-stays p v (asked .position) q (λ same. eqb-false p q free (sym same));
+          }
+      by-number zero d Retire e =
+          record { desks = other-desk-stays (st .held) d _ (desk-asked H st (d sends Retire) e); screens = λ x y free. refl; positions = λ q free. refl }
+      by-number zero d Collect e =
+          record { desks = other-desk-stays (st .held) d _ (desk-asked H st (d sends Collect) e); screens = λ x y free. refl; positions = λ q free. refl }
+      by-number (suc n) d s e = record { desks = λ x other. refl; screens = λ x y free. refl; positions = λ q free. refl }
+
+-- ---- What a call's answer and its own desk depend on.
+
+-- A collect looks at the screens only through those that it reads.
+scan-reads : (slots : List TestedSlot) (left right : List ℕ) (D : Desk) → readIfTested slots left ≡ readIfTested slots right
+    → scanAt slots left D ≡ scanAt slots right D
+scan-reads [] left right D e = refl
+scan-reads (slot ∷ slots) left right D e = ap (λ (sessions : List ℕ). readScreens sessions D) e
+
+pub collect-reads : (S : ℕ) (left right : List ℕ) (D : Desk) → collectReads left D ≡ collectReads right D → collect S left D ≡ collect S right D
+collect-reads S left right D e = ap (λ (E : Desk). handBack (settle S E)) (scan-reads (begin D .tested) _ _ (begin D) e)
+
+module _ (H : Hall) (A B : State) where
+  -- Where the hall has them, the words themselves are the same.
+  same-desk : (d : ℕ) → deskAt H A d ≡ deskAt H B d → inRange d (H .desks) ≡ true → deskOf A d ≡ deskOf B d
+  same-desk d e h = cond-true-injective (inRange d (H .desks)) _ _ emptyDesk h e
+
+  same-screen : (d c : ℕ) → screenAt H A d c ≡ screenAt H B d c → inRange d (H .desks) ≡ true → inRange c (H .screens) ≡ true
+      → getD (A .shown) (screenIndex H d c) 0 ≡ getD (B .shown) (screenIndex H d c) 0
+  same-screen d c e hd hc =
+      cond-true-injective (inRange d (H .desks) && inRange c (H .screens)) _ _ 0 (and-true (inRange d (H .desks)) (inRange c (H .screens)) hd hc) e
+
+  same-position : (p : ℕ) → positionAt H A p ≡ positionAt H B p → inRange p (H .positions) ≡ true → getD (A .held) (p - 1) 0 ≡ getD (B .held) (p - 1) 0
+  same-position p e h = cond-true-injective (inRange p (H .positions)) _ _ 0 h e
+
+  -- A call is asked the same in both, so it is refused by the same number or accepted in both.
+  asked-alike : (d : ℕ) (s : Step) → SameView H A B (d sends s) → firstNo (questions H A (d sends s)) ≡ firstNo (questions H B (d sends s))
+  asked-alike d (Take c p) view =
+      cond-cong (inRange d (H .desks)) _ _ 6 (λ hd.
+      cond-cong (inRange c (H .screens)) _ _ 7 (λ hc.
+      cond-cong (inRange p (H .positions)) _ _ 8 (λ hp.
+      ap₂ (λ (shown held : ℕ). cond (isNone shown) (cond (isSession held) 0 10) 9) (same-screen d c (first-same (view .named)) hd hc)
+      (same-position p (second-same (view .named)) hp))))
+  asked-alike d (Drop c) view =
+      cond-cong (inRange d (H .desks)) _ _ 6 (λ hd.
+      cond-cong (inRange c (H .screens)) _ _ 7 (λ hc. ap (λ (shown : ℕ). cond (isSession shown) 0 11) (same-screen d c (first-same (view .named)) hd hc)))
+  asked-alike d (Swap p v) view =
+      cond-cong (inRange d (H .desks)) _ _ 6 (λ hd.
+      cond-cong (inRange p (H .positions)) _ _ 8 (λ hp. ap (λ (D : Desk). cond (isNone (D .owed)) 0 12) (same-desk d (view .desk) hd)))
+  asked-alike d Retire view =
+      cond-cong (inRange d (H .desks)) _ _ 6 (λ hd. ap (λ (D : Desk). firstNo (retireQuestions (allScreens H) D)) (same-desk d (view .desk) hd))
+  asked-alike d Collect view = refl
+
+  module _ (formedA : Formed H A) (formedB : Formed H B) where
+    -- What is the same and stored in both at one desk, one screen or one position is the same there.
+    desk-stored : (d : ℕ) (D E : Desk) (heldA heldB : List ℕ) → IsDesk H d → D ≡ E
+        → deskAt H (record { held = heldA; shown = A .shown; desks = set (A .desks) (d - 1) D }) d
+        ≡ deskAt H (record { held = heldB; shown = B .shown; desks = set (B .desks) (d - 1) E }) d
+    desk-stored d D E heldA heldB hd e =
+        cond-cong (inRange d (H .desks)) _ _ emptyDesk (λ h.
+        getD-set-same (A .desks) (d - 1) D emptyDesk (omega (arith, formedA .desks))
+        ∙ e
+        ∙ sym (getD-set-same (B .desks) (d - 1) E emptyDesk (omega (arith, formedB .desks))))
+
+    screen-stored-alike : (d c v w : ℕ) → IsDesk H d → IsScreen H c → v ≡ w
+        → screenAt H (withShown A (screenIndex H d c) v) d c ≡ screenAt H (withShown B (screenIndex H d c) w) d c
+    screen-stored-alike d c v w hd hc e =
+        let inside = screen-in H d c (hd .0) (hd .1) (hc .0) (hc .1) in
+        cond-cong (inRange d (H .desks) && inRange c (H .screens)) _ _ 0 (λ h.
+        getD-set-same (A .shown) (screenIndex H d c) v 0 (omega (arith, inside, formedA .screens))
+        ∙ e
+        ∙ sym (getD-set-same (B .shown) (screenIndex H d c) w 0 (omega (arith, inside, formedB .screens))))
+
+    position-stored : (p v : ℕ) → IsPosition H p → positionAt H (withHeld A (p - 1) v) p ≡ positionAt H (withHeld B (p - 1) v) p
+    position-stored p v hp =
+        cond-cong (inRange p (H .positions)) _ _ 0 (λ h.
+        getD-set-same (A .held) (p - 1) v 0 (omega (arith, formedA .positions))
+        ∙ sym (getD-set-same (B .held) (p - 1) v 0 (omega (arith, formedB .positions))))
+
+    pub steps-alike : (call : Call) → SameView H A B call → StepsAlike H call (step H A call) (step H B call)
+    steps-alike call view = from (firstNo (questions H B call)) (asked-alike (call .desk) (call .step) view) refl
+      where
+        accepted : {v w : ℕ} → v ≡ w → _≡_ {A = Answer} (record { number = 0; session = v }) (record { number = 0; session = w })
+        accepted e = λ i. record { number = 0; session = e i }
+
+        -- a collect of the same desk that reads the same screens
+        collect-alike : (d : ℕ) → inRange d (H .desks) ≡ true → SameView H A B (d sends Collect)
+            → collect (allScreens H) (A .shown) (deskOf A d) ≡ collect (allScreens H) (B .shown) (deskOf B d)
+        collect-alike d hd view =
+            let same = same-desk d (view .desk) hd in
+            let reads : collectReads (A .shown) (deskOf A d) ≡ collectReads (B .shown) (deskOf B d) =
+            ap (λ (b : Bool). collectReads (A .shown) (cond b (deskOf A d) emptyDesk)) (sym hd)
+            ∙ view .read
+            ∙ ap (λ (b : Bool). collectReads (B .shown) (cond b (deskOf B d) emptyDesk)) hd in
+            collect-reads (allScreens H) (A .shown) (B .shown) (deskOf A d) (reads ∙ ap (collectReads (B .shown)) (sym same))
+            ∙ ap (collect (allScreens H) (B .shown)) same
+
+        by-number : (n d : ℕ) (s : Step) → SameView H A B (d sends s) → firstNo (questions H A (d sends s)) ≡ n
+            → let left = performStep H A d s in
+            let right = performStep H B d s in
+            StepsAlike H (d sends s) (decide n A (left .session) (left .after)) (decide n B (right .session) (right .after))
+        by-number zero d (Take c p) view e =
+            let asked = take-asked H A d c p e in
+            let session = same-position p (second-same (view .named)) (range-holds p (H .positions) (asked .position)) in
+            record {
+              answer = accepted session;
+              desk = view .desk;
+              named = λ i. screen-stored-alike d c _ _ (asked .desk) (asked .screen) session i ∷ second-same (view .named) i ∷ [];
+            }
+        by-number zero d (Drop c) view e =
+            let asked = drop-asked H A d c e in
+            record {
+              answer = accepted (same-screen d c (first-same (view .named)) (range-holds d (H .desks) (asked .desk)) (range-holds c (H .screens) (asked .screen)));
+              desk = view .desk;
+              named = λ i. screen-stored-alike d c 0 0 (asked .desk) (asked .screen) refl i ∷ [];
+            }
+        by-number zero d (Swap p v) view e =
+            let asked = swap-asked H A d p v e in
+            let old = same-position p (first-same (view .named)) (range-holds p (H .positions) (asked .position)) in
+            record {
+              answer = accepted old;
+              desk = desk-stored d _ _ (set (A .held) (p - 1) v) (set (B .held) (p - 1) v) (asked .desk) (ap₂ owe (same-desk d (view .desk) (range-holds d (H .desks) (asked .desk))) old);
+              named = λ i. position-stored p v (asked .position) i ∷ [];
+            }
+        by-number zero d Retire view e =
+            let hd = desk-asked H A (d sends Retire) e in
+            let same = same-desk d (view .desk) (range-holds d (H .desks) hd) in
+            record { answer = accepted (ap (λ (D : Desk). D .owed) same); desk = desk-stored d _ _ (A .held) (B .held) hd (ap retire same); named = refl }
+        by-number zero d Collect view e =
+            let hd = desk-asked H A (d sends Collect) e in
+            let same = collect-alike d (range-holds d (H .desks) hd) view in
+            record {
+              answer = accepted (ap (λ (collected : Collected). collected .session) same);
+              desk = desk-stored d _ _ (A .held) (B .held) hd (ap (λ (collected : Collected). collected .after) same);
+              named = refl;
+            }
+        by-number (suc n) d s view e = record { answer = refl; desk = view .desk; named = view .named }
+
+        from : (n : ℕ) → firstNo (questions H A call) ≡ n → firstNo (questions H B call) ≡ n → StepsAlike H call (step H A call) (step H B call)
+        from n e f = rw (e, f) (by-number n (call .desk) (call .step) view e)
