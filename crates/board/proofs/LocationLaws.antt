@@ -1,18 +1,21 @@
 -- Where the words of a step stand in a sound table, as the code finds them.
-use Prim.Native.Nat.{ℕ, _-_, _^_, _≤_, _<_}
+use Prim.Native.Nat.{ℕ, _-_, _*_, _^_, _≤_, _<_}
 use native.Mathlib.Omega.{arith}
 use mathlib.Core.Bool.{true}
 use mathlib.Core.List.{List}
-use mathlib.Core.Path.{_≡_, sym, ap, ap₂, _∙_}
+use mathlib.Core.Path.{_≡_, refl, sym, ap, ap₂, _∙_}
 use lib.ListN.{length, getD, take, drop}
 use borrow.Rule.Slice.PartMut.{mid-len, midOf, putMid}
+use Rattle.rules.specs.Bytes.{wordsOfBytes}
 use Rattle.rules.specs.Hall.{Hall, allScreens, deskOf, screenIndex}
 use Rattle.rules.specs.Steps.{inRange}
-use Rattle.rules.specs.Table.{decode, decodeDesk, hallIn, maxWords, positionWord, putRecord, recordOf, recordSound, screenWord, widthFor}
+use Rattle.rules.specs.Table.{decode, decodeDesk, hallIn, maxWords, positionWord, putRecord, recordOf, recordSound, recordStart, screenWord, widthFor}
 use Rattle.rules.specs.laws.desk.Decoding.{small-drop, small-take}
 use Rattle.rules.specs.laws.history.ScreenIndex.{screen-in}
 use Rattle.rules.specs.laws.history.StepEffects.{in-range}
 use Rattle.rules.specs.laws.table.TableSteps.{desk-word, held-word, record-sound, shown-word}
+use Rattle.words.specs.Written.{Written}
+use Rattle.words.proofs.Laws.{length-words, part-written, words-part}
 use Rattle.desk.specs.Record.{Encoded}
 use Rattle.board.specs.Admission.{screenFor}
 use Rattle.desk.proofs.DeskTie.{sound-encoded}
@@ -49,17 +52,24 @@ at-screen {t} {d} {i} {a} {p} e inside at =
     }
 
 -- ---- position q, from 1
-pub record AtPosition (t : List ℕ) (q : ℕ) : Type 0 where
+pub record AtPosition (t : List ℕ) (d q : ℕ) : Type 0 where
   pub first : 1 ≤ q
   pub yes-position : inRange q (hallIn t .positions) ≡ true
   pub there : positionWord q < length t
+  pub apart : (a : ℕ) → a ≡ recordStart (hallIn t) d → positionWord q < a
   pub holds : getD (decode (hallIn t) t .held) (q - 1) 0 ≡ getD t (positionWord q) 0
 
-pub at-position : {t : List ℕ} {d q : ℕ} {p : Location} → Admitted t d p → inRange q (p .positions) ≡ true → AtPosition t q
+pub at-position : {t : List ℕ} {d q : ℕ} {p : Location} → Admitted t d p → inRange q (p .positions) ≡ true → AtPosition t d q
 at-position {t} {d} {q} e inside =
     let yes-position : inRange q (hallIn t .positions) ≡ true = ap (inRange q) (sym (e .positions-is)) ∙ inside in
     let r = in-range q (hallIn t .positions) yes-position in
-    record { first = r .0; yes-position = yes-position; there = omega (arith, r .1, r .0, e .facts .long); holds = held-word t q (r .0) (r .1) }
+    record {
+      first = r .0;
+      yes-position = yes-position;
+      there = omega (arith, r .1, r .0, e .facts .long);
+      apart = λ a at. omega (arith, at, r .1, r .0);
+      holds = held-word t q (r .0) (r .1);
+    }
 
 -- ---- the record of the desk, as the code lends it and as it comes back
 abbrev pub lentRecord : List ℕ → Location → List ℕ
@@ -90,3 +100,19 @@ lent {t} {d} {p} e small =
       desk-is = ap₂ decodeDesk (e .all-is) part ∙ sym (desk-word t d (e .range .0) (e .range .1));
       put = λ ys. ap₂ (λ (k b : ℕ). putMid b k t ys) n-is (e .start-is);
     }
+
+-- the same part of the bytes
+module _ (bytes : List ℕ) {d : ℕ} {p : Location} (e : Admitted (wordsOfBytes bytes) d p) where
+  room-bytes : 2 * p .end ≤ length bytes
+  room-bytes = omega (arith, e .room, length-words bytes)
+
+  pub lent-words : wordsOfBytes (midOf (2 * p .start) (2 * p .end - 2 * p .start) bytes) ≡ lentRecord (wordsOfBytes bytes) p
+  lent-words = words-part (p .start) (p .end) bytes
+
+  pub lent-length : length (midOf (2 * p .start) (2 * p .end - 2 * p .start) bytes) ≡ 2 * widthFor (p .all)
+  lent-length = mid-len (2 * p .start) (2 * p .end) bytes room-bytes ∙ omega (arith, e .end-is)
+
+  pub lent-back : (part : List ℕ) → length part ≡ length (midOf (2 * p .start) (2 * p .end - 2 * p .start) bytes)
+      → Written bytes (withRecord (wordsOfBytes bytes) p (wordsOfBytes part)) (putMid (2 * p .start) (2 * p .end - 2 * p .start) bytes part)
+  lent-back part wide =
+      part-written (p .start) (p .end) bytes part (wordsOfBytes part) (omega (arith, e .end-is)) room-bytes (wide ∙ mid-len (2 * p .start) (2 * p .end) bytes room-bytes) refl

@@ -1,18 +1,22 @@
 -- The opening: what its questions answer, and the table that it leaves.
-use Prim.Native.Nat.{ℕ, suc, _-_, _≤_, _<_}
+use Prim.Native.Nat.{ℕ, suc, _-_, _*_, _≤_, _<_}
 use native.Mathlib.Omega.{arith}
 use mathlib.Core.Bool.{true, false}
 use mathlib.Core.List.{List, [], _∷_, _++_}
-use mathlib.Core.Path.{_≡_, refl, ap}
-use lib.ListN.{length, take, drop, set, replicate}
+use mathlib.Core.Path.{_≡_, refl, sym, ap, _∙_}
+use lib.ListN.{length, take, drop, set, replicate, length-replicate}
 use borrow.Author.Tests.{le-leb, lt-leb}
 use borrow.Rule.Slice.PartMut.{mid-len, midOf, post-is, putMid}
+use Rattle.rules.specs.Bytes.{wordsOfBytes}
 use Rattle.rules.specs.Hall.{Hall, hallLimits, maxDesks, maxPositions, maxScreens}
 use Rattle.rules.specs.Steps.{Answer, firstNo, inRange}
 use Rattle.rules.specs.Table.{headerWords, need, openQuestions, openTable}
+use Rattle.rules.specs.laws.bytes.Bytes.{zero-words}
 use Rattle.rules.specs.laws.table.EncodedStep.{hall-opens}
 use Rattle.rules.specs.laws.table.TableSteps.{accepted-open, refused-open}
 use Rattle.rules.specs.laws.table.WordBounds.{by-open}
+use Rattle.words.specs.Written.{Written}
+use Rattle.words.proofs.Laws.{length-words, part-written}
 use Rattle.reply.specs.Answer.{answerOf, tableResult}
 use Rattle.reply.specs.declared.Reply.{Reply}
 use Rattle.reply.specs.declared.Reply.the-variants.{Accepted, BadDesks, BadPositions, BadScreens, TableShort}
@@ -52,8 +56,12 @@ module _ (H : Hall) (t : List ℕ) (r : Reply) (e : answerOf r ≡ openTable hal
       by-open hallLimits (λ d. answerOf r ≡ d .answer → firstNo (openQuestions hallLimits H t) ≡ 0) H t
       (λ n q a. absurd (omega (arith, ap (λ (x : Answer). x .number) a))) (λ q a. q) e
 
+  -- then the need is there
+  pub need-there : answerOf r .number ≡ 0 → need H ≤ length t
+  need-there accepted = hall-opens hallLimits H t (is-opened accepted) .1
+
 -- the words from the header up to the need were cleared, and then the three of the header stored
-pub opened : (H : Hall) (t : List ℕ) (n : ℕ) (ys : List ℕ) → firstNo (openQuestions hallLimits H t) ≡ 0 → n ≡ need H
+opened : (H : Hall) (t : List ℕ) (n : ℕ) (ys : List ℕ) → firstNo (openQuestions hallLimits H t) ≡ 0 → n ≡ need H
     → ys ≡ replicate (length (midOf headerWords (n - headerWords) t)) 0
     → tableResult (Accepted 0) (set (set (set (putMid headerWords (n - headerWords) t ys) 0 (H .desks)) 1 (H .screens)) 2 (H .positions)) ≡ openTable hallLimits H t
 opened H t n ys asked-all e q =
@@ -68,3 +76,24 @@ opened H t n ys asked-all e q =
     stores (a ∷ []) x g = absurd (omega arith)
     stores (a ∷ b ∷ []) x g = absurd (omega arith)
     stores (a ∷ b ∷ f ∷ u) x g = refl
+
+-- the same on bytes
+module _ (H : Hall) (bytes part : List ℕ) (n : ℕ) (e : n ≡ need H) (room : 2 * n ≤ length bytes)
+    (q : part ≡ replicate (length (midOf (2 * headerWords) (2 * n - 2 * headerWords) bytes)) 0) where
+  wide : length part ≡ 2 * n - 2 * headerWords
+  wide = ap length q ∙ length-replicate {A = ℕ} (length (midOf (2 * headerWords) (2 * n - 2 * headerWords) bytes)) 0 ∙ mid-len (2 * headerWords) (2 * n) bytes room
+
+  pub cleared : Written bytes (putMid headerWords (n - headerWords) (wordsOfBytes bytes) (wordsOfBytes part)) (putMid (2 * headerWords) (2 * n - 2 * headerWords) bytes part)
+  cleared = part-written headerWords n bytes part (wordsOfBytes part) (omega (arith, e)) room wide refl
+
+  pub opened-bytes : firstNo (openQuestions hallLimits H (wordsOfBytes bytes)) ≡ 0
+      → tableResult (Accepted 0) (set (set (set (wordsOfBytes (putMid (2 * headerWords) (2 * n - 2 * headerWords) bytes part)) 0 (H .desks)) 1 (H .screens)) 2 (H .positions))
+      ≡ openTable hallLimits H (wordsOfBytes bytes)
+  opened-bytes asked =
+      let t = wordsOfBytes bytes in
+      let double : length (midOf (2 * headerWords) (2 * n - 2 * headerWords) bytes) ≡ 2 * (n - headerWords) = mid-len (2 * headerWords) (2 * n) bytes room ∙ omega arith in
+      let long : length (midOf headerWords (n - headerWords) t) ≡ n - headerWords = mid-len headerWords n t (omega (arith, room, length-words bytes)) in
+      let zeros : wordsOfBytes part ≡ replicate (length (midOf headerWords (n - headerWords) t)) 0 =
+      ap wordsOfBytes (q ∙ ap (λ (k : ℕ). replicate k 0) double) ∙ zero-words (n - headerWords) ∙ ap (λ (k : ℕ). replicate k 0) (sym long) in
+      ap (λ (x : List ℕ). tableResult (Accepted 0) (set (set (set x 0 (H .desks)) 1 (H .screens)) 2 (H .positions))) (cleared .holds)
+      ∙ opened H t n (wordsOfBytes part) asked e zeros

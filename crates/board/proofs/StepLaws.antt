@@ -7,7 +7,7 @@ use mathlib.Core.List.{List, [], _∷_}
 use mathlib.Core.Path.{_≡_, refl, sym, ap, ap₂, _∙_}
 use lib.Dec.{eqb·suc-zero}
 use lib.ListN.{length, getD, take, drop, set, length-drop}
-use lib.Seq.{getD-take, getD-drop, length-take-le}
+use lib.Seq.{getD-drop, getD-set-other, getD-take, length-take-le, set-getD}
 use borrow.Author.Tests.{ne-eqb}
 use borrow.Rule.Slice.PartMut.{put-same}
 use Rattle.rules.specs.Hall.{Desk, Hall, allScreens, deskOf, hallLimits}
@@ -20,7 +20,7 @@ use Rattle.desk.specs.Record.{Retired}
 use Rattle.reply.specs.Answer.{answerOf, tableResult}
 use Rattle.reply.specs.declared.Reply.{Reply}
 use Rattle.reply.specs.declared.Reply.the-variants.{Accepted, NoPosition, NoScreen, Owing, PositionEmpty, ScreenEmpty, ScreenFull}
-use Rattle.marks.proofs.Scan.{ended, rest}
+use Rattle.words.proofs.Scan.{ended, rest}
 use Rattle.desk.proofs.DeskTie.{scanned-below}
 use Rattle.board.specs.declared.Location.{Location}
 use Rattle.board.proofs.AdmissionLaws.{Admitted}
@@ -56,7 +56,7 @@ module _ {t : List ℕ} {d : ℕ} {p : Location} (e : Admitted t d p) where
     pub take-no-position : (q : ℕ) → inRange q (p .positions) ≡ false → tableResult NoPosition t ≡ stepTable hallLimits t (d sends Take i q)
     take-no-position q out = refused-as 7 (d sends Take i q) (rw (e .yes-desk, s .yes-screen, ← e .positions-is, out))
 
-    module _ {q : ℕ} (h : AtPosition t q) where
+    module _ {q : ℕ} (h : AtPosition t d q) where
       pub take-screen-full : (getD t a 0 ≡ 0 → ⊥) → tableResult ScreenFull t ≡ stepTable hallLimits t (d sends Take i q)
       take-screen-full some =
           refused-as 8 (d sends Take i q) (rw (e .yes-desk, s .yes-screen, h .yes-position, s .shows, ne-eqb (getD t a 0) 0 some))
@@ -78,7 +78,7 @@ module _ {t : List ℕ} {d : ℕ} {p : Location} (e : Admitted t d p) where
     pub swap-no-position : inRange q (p .positions) ≡ false → tableResult NoPosition t ≡ stepTable hallLimits t (d sends Swap q v)
     swap-no-position out = refused-as 7 (d sends Swap q v) (rw (e .yes-desk, ← e .positions-is, out))
 
-    module _ (h : AtPosition t q) where
+    module _ (h : AtPosition t d q) where
       pub swap-owing : (getD t (p .start) 0 ≡ 0 → ⊥) → tableResult Owing t ≡ stepTable hallLimits t (d sends Swap q v)
       swap-owing some = refused-as 11 (d sends Swap q v) (rw (e .yes-desk, h .yes-position, owes, ne-eqb (getD t (p .start) 0) 0 some))
 
@@ -88,6 +88,14 @@ module _ {t : List ℕ} {d : ℕ} {p : Location} (e : Admitted t d p) where
           let old = getD t (positionWord q) 0 in
           (λ j. record { answer = record { number = 0; session = sym (h .holds) j }; after = set (set t (positionWord q) v) (e .start-is j) old })
           ∙ accepted-as (d sends Swap q v) (rw (e .yes-desk, h .yes-position, owes, none))
+
+      -- nothing stood there: the owed word stays 0
+      pub swap-accepted-none : getD t (p .start) 0 ≡ 0 → getD t (positionWord q) 0 ≡ 0
+          → tableResult (Accepted (getD t (positionWord q) 0)) (set t (positionWord q) v) ≡ stepTable hallLimits t (d sends Swap q v)
+      swap-accepted-none none empty =
+          let after : List ℕ = set t (positionWord q) v in
+          let owed : getD after (p .start) 0 ≡ getD t (positionWord q) 0 = getD-set-other t (positionWord q) (p .start) v 0 (λ z. omega (arith, z, h .apart (p .start) (e .start-is))) ∙ none ∙ sym empty in
+          (λ j. tableResult (Accepted (getD t (positionWord q) 0)) ((sym (set-getD after (p .start) 0) ∙ ap (set after (p .start)) owed) j)) ∙ swap-accepted none
 
   -- ---- retire
   module _ (l : Lent t d p) where

@@ -1,14 +1,23 @@
 -- What every step asks first: is the table sound, is the desk one of the hall; and where the desk's things stand.
 use Prim.Native.Nat.{ℕ, _+_, _-_, _*_}
-use mathlib.Core.Bool.{cond}
+use mathlib.Core.Bool.{cond, true}
 use mathlib.Core.List.{List}
+use mathlib.Core.Path.{_≡_}
 use Rattle.rules.specs.Hall.{allScreens, hallLimits}
 use Rattle.rules.specs.Steps.{inRange}
 use Rattle.rules.specs.Table.{hallIn, headerWords, recordStart, sound, startFor}
-use Rattle.reply.specs.declared.Reply.the-variants.{NoDesk, Unsound}
+use Rattle.board.specs.declared.Hall.{Hall}
+use Rattle.board.specs.declared.Soundness.{Soundness}
+use Rattle.board.specs.declared.Soundness.the-variants.{Sound, Unsound as NotSound}
 use Rattle.board.specs.declared.Location.{Location}
 use Rattle.board.specs.declared.Admission.{Admission}
-use Rattle.board.specs.declared.Admission.the-variants.{At, No}
+use Rattle.board.specs.declared.Admission.the-variants.{At, NoDesk, Unsound}
+
+abbrev pub numbersIn : List ℕ → Hall
+numbersIn t = let H = hallIn t in record { desks = H .desks; screens = H .screens; positions = H .positions; all = allScreens H }
+
+unfoldable pub soundnessOf : List ℕ → Soundness
+soundnessOf t = cond (sound hallLimits t) (Sound (numbersIn t)) NotSound
 
 abbrev pub locationOf : List ℕ → ℕ → Location
 locationOf t desk =
@@ -16,7 +25,13 @@ locationOf t desk =
     record { positions = H .positions; screens = H .screens; all = allScreens H; start = recordStart H desk; end = startFor (H .positions) (allScreens H) desk }
 
 unfoldable pub admissionOf : List ℕ → ℕ → Admission
-admissionOf t desk = cond (sound hallLimits t) (cond (inRange desk (hallIn t .desks)) (At (locationOf t desk)) (No NoDesk)) (No Unsound)
+admissionOf t desk = cond (sound hallLimits t) (cond (inRange desk (hallIn t .desks)) (At (locationOf t desk)) NoDesk) Unsound
+
+-- both questions are answered yes, and the desk's things stand there
+pub record Admits (t : List ℕ) (desk : ℕ) (location : Location) : Type 0 where
+  pub yes-sound : sound hallLimits t ≡ true
+  pub yes-desk : inRange desk (hallIn t .desks) ≡ true
+  pub is : location ≡ locationOf t desk
 
 -- the word of desk d's screen i, in a hall of L positions and c screens per desk
 abbrev pub screenFor : ℕ → ℕ → ℕ → ℕ → ℕ

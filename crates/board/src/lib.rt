@@ -1,24 +1,28 @@
 use desk::LIST;
+use desk::OWED;
 use desk::SCANNED;
 use desk::collect_record;
+use desk::record_words;
 use desk::retire_record;
 use desk::sound_record;
-use marks::clear;
-use marks::word;
 use reply::Reply;
 use reply::number;
+use words::clear;
+use words::count;
+use words::put_word;
+use words::word;
 ghost use mathlib.Core.Path.{_≡_};
 ghost use Prim.Native.Nat.{_+_, _-_, _*_, _≤_, _<_};
 ghost use lib.ListN.{length, drop as dropWords};
+ghost use Rattle.rules.specs.Bytes.{wordsOfBytes};
 ghost use Rattle.rules.specs.Hall.{hallLimits, hallOf, maxAllScreens, maxDesks, maxPositions};
 ghost use Rattle.rules.specs.Lists.{chunks, every};
 ghost use Rattle.rules.specs.Steps.{Collect, Drop, Retire, Swap, Take, _sends_, inRange};
-ghost use Rattle.rules.specs.Table.{headerWords, inLimits, maxWords, need as hallNeed, openTable, recordSound, sound as soundTable, startFor, stepTable};
-ghost use Rattle.rules.specs.Table.{widthFor};
-ghost use Rattle.reply.specs.Answer.{answerOf, tableResult};
-ghost use Rattle.board.specs.Admission.{admissionOf, screenFor};
-ghost use Rattle.board.specs.Asked.{callOf};
+ghost use Rattle.rules.specs.Table.{headerWords, inLimits, maxWords, need as hallNeed, recordSound, startFor, widthFor};
+ghost use Rattle.reply.specs.Answer.{answerOf};
+ghost use Rattle.board.specs.Admission.{Admits, admissionOf, screenFor, soundnessOf};
 ghost use Rattle.board.specs.Opening.{OpeningAnswer};
+ghost use Rattle.board.specs.Results.{Opened, Stepped};
 
 // Where things stand in a table: P, the desks.
 const DESKS: usize = 0;
@@ -43,8 +47,10 @@ impl Board {
 
     pub const MAX_POSITIONS: usize = 64;
 
-    // The words that the largest hall needs.
+    // The words that the largest hall needs, and their bytes.
     pub const MAX_WORDS: usize = 2387;
+
+    pub const MAX_BYTES: usize = 4774;
 
     // The words that a hall needs: 3 + L + S + P times (13 + 2S).
     pub fn need(desks: u16, screens: u16, positions: u16) -> usize
@@ -65,7 +71,7 @@ fn in_range(n: u16, most: usize) -> bool
 }
 
 // Whether P, c and L are in range.
-pub fn in_limits(desks: u16, screens: u16, positions: u16) -> bool
+fn in_limits(desks: u16, screens: u16, positions: u16) -> bool
     ensures { λ r. ⌜ r ≡ inLimits hallLimits (hallOf desks screens positions) ⌝ }
 {
     if !in_range(desks, Board::MAX_DESKS) {
@@ -79,11 +85,11 @@ pub fn in_limits(desks: u16, screens: u16, positions: u16) -> bool
 
 // Where the record of desk d stands, with d counted from 0, in a hall of l positions and s screens.
 // It requires numbers within the limits: a sound table tells them. Desk P's end is the start of a desk after it.
-pub fn record_start(l: usize, s: usize, d: usize) -> usize
+fn record_start(l: usize, s: usize, d: usize) -> usize
     requires { ⌜ (l ≤ maxPositions) × (s ≤ maxAllScreens) × (d ≤ maxDesks) ⌝ }
     ensures { λ r. ⌜ (r ≡ startFor l s d) × (r ≤ maxWords) ⌝ }
 {
-    HEADER + l + s + d * (LIST + 2 * s)
+    HEADER + l + s + d * record_words(s)
 }
 
 // Where screen i of desk d stands, both counted from 1, in a hall of l positions and c screens per desk. It requires numbers of
@@ -95,42 +101,68 @@ fn screen_at(l: usize, c: usize, d: u16, i: u16) -> usize
     HEADER + l + ((d as usize - 1) * c + (i as usize - 1))
 }
 
-// Whether a table is sound.
-pub fn sound(t: &[u16]) -> bool
-    ensures { λ r. ⌜ r ≡ soundTable hallLimits (now (t .entry)) ⌝ }
-{
-    if t.len() < HEADER {
-        return false;
-    }
-    let desks = t[DESKS];
-    let screens = t[SCREENS];
-    let positions = t[POSITIONS];
-    if !in_limits(desks, screens, positions) {
-        return false;
-    }
-    if t.len() < Board::need(desks, screens, positions) {
-        return false;
-    }
-    let p = desks as usize;
-    sound_records(t, p, positions as usize, p * screens as usize)
-}
-
 // Whether the record of each desk is sound, in a table that is long enough.
-fn sound_records(t: &[u16], p: usize, l: usize, s: usize) -> bool
-    requires { ⌜ (p ≤ maxDesks) × (l ≤ maxPositions) × (s ≤ maxAllScreens) × (startFor l s p ≤ length (now t)) ⌝ }
-    ensures { λ r. ⌜ r ≡ every (recordSound s) (chunks p (widthFor s) (dropWords (headerWords + l + s) (now (t .entry)))) ⌝ }
+fn sound_records(t: &[u8], p: usize, l: usize, s: usize) -> bool
+    requires { ⌜ (p ≤ maxDesks) × (l ≤ maxPositions) × (s ≤ maxAllScreens) × (2 * startFor l s p ≤ length (now t)) ⌝ }
+    ensures { λ r. ⌜ r ≡ every (recordSound s) (chunks p (widthFor s) (dropWords (headerWords + l + s) (wordsOfBytes (now (t .entry))))) ⌝ }
 {
-    let size = LIST + 2 * s;
+    let size = record_words(s);
     let mut d = 0;
     while d < p {
         let a = record_start(l, s, d);
         let e = a + size;
-        if !sound_record(&t[a..e], s) {
+        if !sound_record(&t[2 * a..2 * e], s) {
             return false;
         }
         d += 1;
     }
     true
+}
+
+// The numbers of a hall: P, c and L, and S, the screens of all desks.
+struct Hall {
+    pub desks: usize,
+    pub screens: usize,
+    pub positions: usize,
+    pub all: usize,
+}
+
+// Whether a table is sound, and then its hall.
+enum Soundness {
+    Unsound,
+    Sound(Hall),
+}
+
+// Whether a table is sound. Its header is read here, once for a call.
+fn sound_hall(t: &[u8]) -> Soundness
+    ensures { λ r. ⌜ r ≡ soundnessOf (wordsOfBytes (now (t .entry))) ⌝ }
+{
+    let n = t.len() / 2;
+    if n < HEADER {
+        return Soundness::Unsound;
+    }
+    let desks = word(t, DESKS);
+    let screens = word(t, SCREENS);
+    let positions = word(t, POSITIONS);
+    if !in_limits(desks, screens, positions) {
+        return Soundness::Unsound;
+    }
+    if n < Board::need(desks, screens, positions) {
+        return Soundness::Unsound;
+    }
+    let p = desks as usize;
+    let c = screens as usize;
+    let l = positions as usize;
+    let s = p * c;
+    if !sound_records(t, p, l, s) {
+        return Soundness::Unsound;
+    }
+    Soundness::Sound(Hall {
+        desks: p,
+        screens: c,
+        positions: l,
+        all: s,
+    })
 }
 
 // Where a desk's things stand in a sound table: the counts of positions, of screens per desk and of all screens, and the
@@ -143,40 +175,42 @@ struct Location {
     pub end: usize,
 }
 
-// What the first questions of a step answer: a refusal, or the location of the desk.
+// What the first questions of a step answer: one of their refusals, or the location of the desk.
 enum Admission {
-    No(Reply),
+    Unsound,
+    NoDesk,
     At(Location),
 }
 
 // What every step asks first: is the table sound, is the desk 1 to P.
-fn admit(t: &[u16], desk: u16) -> Admission
-    ensures { λ r. ⌜ r ≡ admissionOf (now (t .entry)) desk ⌝ }
+fn admit(t: &[u8], desk: u16) -> Admission
+    ensures { λ r. ⌜ r ≡ admissionOf (wordsOfBytes (now (t .entry))) desk ⌝ }
 {
-    if !sound(t) {
-        return Admission::No(Reply::Unsound);
+    let found = sound_hall(t);
+    match found {
+        Soundness::Unsound => Admission::Unsound,
+        Soundness::Sound(hall) => {
+            if !in_range(desk, hall.desks) {
+                return Admission::NoDesk;
+            }
+            let l = hall.positions;
+            let s = hall.all;
+            let d = desk as usize;
+            let a = record_start(l, s, d - 1);
+            let e = record_start(l, s, d);
+            Admission::At(Location {
+                positions: l,
+                screens: hall.screens,
+                all: s,
+                start: a,
+                end: e,
+            })
+        }
     }
-    let p = word(t, DESKS);
-    if !in_range(desk, p) {
-        return Admission::No(Reply::NoDesk);
-    }
-    let c = word(t, SCREENS);
-    let l = word(t, POSITIONS);
-    let s = p * c;
-    let d = desk as usize;
-    let a = record_start(l, s, d - 1);
-    let e = record_start(l, s, d);
-    Admission::At(Location {
-        positions: l,
-        screens: c,
-        all: s,
-        start: a,
-        end: e,
-    })
 }
 
 // What the opening of a hall asks, in order, of its three numbers and of the words that the table has.
-pub fn opening(desks: u16, screens: u16, positions: u16, words: usize) -> Reply
+fn opening(desks: u16, screens: u16, positions: u16, words: usize) -> Reply
     ensures { λ r. ⌜ OpeningAnswer (hallOf desks screens positions) words (answerOf r) ⌝ }
 {
     if !in_range(desks, Board::MAX_DESKS) {
@@ -195,173 +229,172 @@ pub fn opening(desks: u16, screens: u16, positions: u16, words: usize) -> Reply
 }
 
 // Opening writes P, c, L and zeros up to the need.
-pub fn open(t: &mut [u16], desks: u16, screens: u16, positions: u16) -> Reply
-    ensures { λ r. ⌜ tableResult r (now (t .exit)) ≡ openTable hallLimits (hallOf desks screens positions) (now (t .entry)) ⌝ }
+pub fn open(t: &mut [u8], desks: u16, screens: u16, positions: u16) -> Reply
+    ensures { λ r. ⌜ Opened (hallOf desks screens positions) (now (t .entry)) r (now (t .exit)) ⌝ }
 {
-    let r = opening(desks, screens, positions, t.len());
+    let r = opening(desks, screens, positions, t.len() / 2);
     if number(r) != 0 {
         return r;
     }
     let n = Board::need(desks, screens, positions);
-    clear(&mut t[HEADER..n]);
-    t[DESKS] = desks;
-    t[SCREENS] = screens;
-    t[POSITIONS] = positions;
+    clear(&mut t[2 * HEADER..2 * n]);
+    put_word(t, DESKS, desks);
+    put_word(t, SCREENS, screens);
+    put_word(t, POSITIONS, positions);
     Reply::Accepted(0)
 }
 
+// Take, of a desk that was admitted.
+fn take_at(t: &mut [u8], desk: u16, location: Location, screen: u16, position: u16) -> Reply
+    requires { ⌜ Admits (wordsOfBytes (now t)) desk location ⌝ }
+    ensures { λ r. ⌜ Stepped (desk sends Take screen position) (now (t .entry)) r (now (t .exit)) ⌝ }
+{
+    let c = location.screens;
+    let l = location.positions;
+    if !in_range(screen, c) {
+        return Reply::NoScreen;
+    }
+    if !in_range(position, l) {
+        return Reply::NoPosition;
+    }
+    let at = screen_at(l, c, desk, screen);
+    if word(t, at) != 0 {
+        return Reply::ScreenFull;
+    }
+    let held = word(t, HEADER + (position as usize - 1));
+    if held == 0 {
+        return Reply::PositionEmpty;
+    }
+    put_word(t, at, held);
+    Reply::Accepted(held)
+}
+
 // Take: the screen shows the position's session; the reply is that session.
-pub fn take(t: &mut [u16], desk: u16, screen: u16, position: u16) -> Reply
-    ensures { λ r. ⌜ tableResult r (now (t .exit)) ≡ stepTable hallLimits (now (t .entry)) (desk sends Take screen position) ⌝ }
+pub fn take(t: &mut [u8], desk: u16, screen: u16, position: u16) -> Reply
+    ensures { λ r. ⌜ Stepped (desk sends Take screen position) (now (t .entry)) r (now (t .exit)) ⌝ }
 {
     let admission = admit(t, desk);
     match admission {
-        Admission::No(reply) => reply,
-        Admission::At(location) => {
-            let c = location.screens;
-            let l = location.positions;
-            if !in_range(screen, c) {
-                return Reply::NoScreen;
-            }
-            if !in_range(position, l) {
-                return Reply::NoPosition;
-            }
-            let at = screen_at(l, c, desk, screen);
-            let q = position as usize;
-            if t[at] != 0 {
-                return Reply::ScreenFull;
-            }
-            let held = t[HEADER + (q - 1)];
-            if held == 0 {
-                return Reply::PositionEmpty;
-            }
-            t[at] = held;
-            Reply::Accepted(held)
-        }
+        Admission::Unsound => Reply::Unsound,
+        Admission::NoDesk => Reply::NoDesk,
+        Admission::At(location) => take_at(t, desk, location, screen, position),
     }
+}
+
+// Drop, of a desk that was admitted.
+fn drop_at(t: &mut [u8], desk: u16, location: Location, screen: u16) -> Reply
+    requires { ⌜ Admits (wordsOfBytes (now t)) desk location ⌝ }
+    ensures { λ r. ⌜ Stepped (desk sends Drop screen) (now (t .entry)) r (now (t .exit)) ⌝ }
+{
+    let c = location.screens;
+    let l = location.positions;
+    if !in_range(screen, c) {
+        return Reply::NoScreen;
+    }
+    let at = screen_at(l, c, desk, screen);
+    let shown = word(t, at);
+    if shown == 0 {
+        return Reply::ScreenEmpty;
+    }
+    put_word(t, at, 0);
+    Reply::Accepted(shown)
 }
 
 // Drop: the screen becomes 0; the reply is what it showed.
-pub fn drop(t: &mut [u16], desk: u16, screen: u16) -> Reply
-    ensures { λ r. ⌜ tableResult r (now (t .exit)) ≡ stepTable hallLimits (now (t .entry)) (desk sends Drop screen) ⌝ }
+pub fn drop(t: &mut [u8], desk: u16, screen: u16) -> Reply
+    ensures { λ r. ⌜ Stepped (desk sends Drop screen) (now (t .entry)) r (now (t .exit)) ⌝ }
 {
     let admission = admit(t, desk);
     match admission {
-        Admission::No(reply) => reply,
-        Admission::At(location) => {
-            let c = location.screens;
-            let l = location.positions;
-            if !in_range(screen, c) {
-                return Reply::NoScreen;
-            }
-            let at = screen_at(l, c, desk, screen);
-            let shown = t[at];
-            if shown == 0 {
-                return Reply::ScreenEmpty;
-            }
-            t[at] = 0;
-            Reply::Accepted(shown)
-        }
+        Admission::Unsound => Reply::Unsound,
+        Admission::NoDesk => Reply::NoDesk,
+        Admission::At(location) => drop_at(t, desk, location, screen),
     }
+}
+
+// Swap, of a desk that was admitted.
+fn swap_at(t: &mut [u8], desk: u16, location: Location, position: u16, session: u16) -> Reply
+    requires { ⌜ Admits (wordsOfBytes (now t)) desk location ⌝ }
+    ensures { λ r. ⌜ Stepped (desk sends Swap position session) (now (t .entry)) r (now (t .exit)) ⌝ }
+{
+    let l = location.positions;
+    if !in_range(position, l) {
+        return Reply::NoPosition;
+    }
+    let owed = location.start + OWED;
+    if word(t, owed) != 0 {
+        return Reply::Owing;
+    }
+    let at = HEADER + (position as usize - 1);
+    let old = word(t, at);
+    put_word(t, at, session);
+    if old != 0 {
+        put_word(t, owed, old);
+    }
+    Reply::Accepted(old)
 }
 
 // Swap: the position holds the new session or 0; the reply is the old one, and the desk owes it.
-pub fn swap(t: &mut [u16], desk: u16, position: u16, session: u16) -> Reply
-    ensures { λ r. ⌜ tableResult r (now (t .exit)) ≡ stepTable hallLimits (now (t .entry)) (desk sends Swap position session) ⌝ }
+pub fn swap(t: &mut [u8], desk: u16, position: u16, session: u16) -> Reply
+    ensures { λ r. ⌜ Stepped (desk sends Swap position session) (now (t .entry)) r (now (t .exit)) ⌝ }
 {
     let admission = admit(t, desk);
     match admission {
-        Admission::No(reply) => reply,
-        Admission::At(location) => {
-            let l = location.positions;
-            let a = location.start;
-            if !in_range(position, l) {
-                return Reply::NoPosition;
-            }
-            if t[a] != 0 {
-                return Reply::Owing;
-            }
-            let q = position as usize;
-            let at = HEADER + (q - 1);
-            let old = t[at];
-            t[at] = session;
-            t[a] = old;
-            Reply::Accepted(old)
-        }
+        Admission::Unsound => Reply::Unsound,
+        Admission::NoDesk => Reply::NoDesk,
+        Admission::At(location) => swap_at(t, desk, location, position, session),
     }
+}
+
+// Retire, of a desk that was admitted: on its record.
+fn retire_at(t: &mut [u8], desk: u16, location: Location) -> Reply
+    requires { ⌜ Admits (wordsOfBytes (now t)) desk location ⌝ }
+    ensures { λ r. ⌜ Stepped (desk sends Retire) (now (t .entry)) r (now (t .exit)) ⌝ }
+{
+    let a = location.start;
+    let e = location.end;
+    retire_record(&mut t[2 * a..2 * e], location.all)
 }
 
 // Retire: the owed session goes to the end of the list as waiting; nothing is owed; the reply is that session.
-pub fn retire(t: &mut [u16], desk: u16) -> Reply
-    ensures { λ r. ⌜ tableResult r (now (t .exit)) ≡ stepTable hallLimits (now (t .entry)) (desk sends Retire) ⌝ }
+pub fn retire(t: &mut [u8], desk: u16) -> Reply
+    ensures { λ r. ⌜ Stepped (desk sends Retire) (now (t .entry)) r (now (t .exit)) ⌝ }
 {
     let admission = admit(t, desk);
     match admission {
-        Admission::No(reply) => reply,
-        Admission::At(location) => {
-            let s = location.all;
-            let a = location.start;
-            let e = location.end;
-            retire_record(&mut t[a..e], s)
-        }
+        Admission::Unsound => Reply::Unsound,
+        Admission::NoDesk => Reply::NoDesk,
+        Admission::At(location) => retire_at(t, desk, location),
     }
 }
 
-// Collect: (a) to (d), on the record of the desk, with the next two screens of the hall or the last one alone.
-pub fn collect(t: &mut [u16], desk: u16) -> Reply
-    ensures { λ r. ⌜ tableResult r (now (t .exit)) ≡ stepTable hallLimits (now (t .entry)) (desk sends Collect) ⌝ }
+// Collect, of a desk that was admitted: on its record, with the next two screens of the hall or the last one alone.
+fn collect_at(t: &mut [u8], desk: u16, location: Location) -> Reply
+    requires { ⌜ Admits (wordsOfBytes (now t)) desk location ⌝ }
+    ensures { λ r. ⌜ Stepped (desk sends Collect) (now (t .entry)) r (now (t .exit)) ⌝ }
+{
+    let s = location.all;
+    let a = location.start;
+    let e = location.end;
+    let k = count(t, a + SCANNED);
+    let at = HEADER + location.positions + k;
+    let x = word(t, at);
+    if k + 1 < s {
+        let y = word(t, at + 1);
+        Reply::Accepted(collect_record(&mut t[2 * a..2 * e], s, 2, x, y))
+    } else {
+        Reply::Accepted(collect_record(&mut t[2 * a..2 * e], s, 1, x, 0))
+    }
+}
+
+// Collect: (a) to (d); the reply is the session that is handed back, or 0.
+pub fn collect(t: &mut [u8], desk: u16) -> Reply
+    ensures { λ r. ⌜ Stepped (desk sends Collect) (now (t .entry)) r (now (t .exit)) ⌝ }
 {
     let admission = admit(t, desk);
     match admission {
-        Admission::No(reply) => reply,
-        Admission::At(location) => {
-            let s = location.all;
-            let a = location.start;
-            let e = location.end;
-            let k = word(t, a + SCANNED);
-            let at = HEADER + location.positions + k;
-            let x = t[at];
-            if k + 1 < s {
-                let y = t[at + 1];
-                Reply::Accepted(collect_record(&mut t[a..e], s, 2, x, y))
-            } else {
-                Reply::Accepted(collect_record(&mut t[a..e], s, 1, x, 0))
-            }
-        }
-    }
-}
-
-// A step with the numbers in its call.
-pub enum Call {
-    Take(u16, u16, u16),
-    Drop(u16, u16),
-    Swap(u16, u16, u16),
-    Retire(u16),
-    Collect(u16),
-}
-
-// The desk that a call names.
-pub fn desk_of(call: Call) -> u16
-    ensures { λ r. ⌜ r ≡ callOf call .desk ⌝ }
-{
-    match call {
-        Call::Take(desk, _, _) => desk,
-        Call::Drop(desk, _) => desk,
-        Call::Swap(desk, _, _) => desk,
-        Call::Retire(desk) => desk,
-        Call::Collect(desk) => desk,
-    }
-}
-
-// The step that a call asks for.
-pub fn step(t: &mut [u16], call: Call) -> Reply
-    ensures { λ r. ⌜ tableResult r (now (t .exit)) ≡ stepTable hallLimits (now (t .entry)) (callOf call) ⌝ }
-{
-    match call {
-        Call::Take(desk, screen, position) => take(t, desk, screen, position),
-        Call::Drop(desk, screen) => drop(t, desk, screen),
-        Call::Swap(desk, position, session) => swap(t, desk, position, session),
-        Call::Retire(desk) => retire(t, desk),
-        Call::Collect(desk) => collect(t, desk),
+        Admission::Unsound => Reply::Unsound,
+        Admission::NoDesk => Reply::NoDesk,
+        Admission::At(location) => collect_at(t, desk, location),
     }
 }

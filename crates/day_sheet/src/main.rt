@@ -11,7 +11,7 @@ const BYTES: usize = 65537;
 fn main() {
     let mut bytes = [0u8; BYTES];
     let n = io::read_full(INPUT, &mut bytes);
-    let mut table = [0u16; Board::MAX_WORDS];
+    let mut table = [0u8; Board::MAX_BYTES];
     let mut out = io::large_buffer();
     print(&bytes[..n], &mut table, &mut out);
 }

@@ -146,7 +146,6 @@ pub record Reached (sheet : List ℕ) (was : State) (before out : List ℕ) (is 
   pub noMore : turnsLeft sheet is ≤ turnsLeft sheet was
   -- but for the first time round, a record was read
   pub fewer : (at ≡ 0) ⊎ (turnsLeft sheet is ≤ turnsLeft sheet was - 1)
-  pub sameTable : length after ≡ length before
   pub sameOut : length outAfter ≡ length out
 
 pub reached-first : {sheet : List ℕ} {was : State} {before out : List ℕ} → was .index ≤ was .offset → Reached sheet was before out was before out 0
@@ -155,7 +154,6 @@ reached-first {out = out} numbered = record {
   numbered = numbered;
   noMore = omega arith;
   fewer = inl refl;
-  sameTable = refl;
   sameOut = refl;
 }
 
@@ -167,9 +165,9 @@ module _ {sheet : List ℕ} {was : State} {before out : List ℕ} {is : State} {
   -- one record more
   pub reached-next : {next : State} {tableNext outNext : List ℕ} {end : ℕ} → Filling sheet is after outAfter at next tableNext outNext end
       → Onward sheet is next
-      → length tableNext ≡ length after → length outNext ≡ length outAfter
+      → length outNext ≡ length outAfter
       → Reached sheet was before out next tableNext outNext end
-  reached-next filling onward sameTable sameOut = record {
+  reached-next filling onward sameOut = record {
     filling = record {
       bytes = reached .filling .bytes ++ filling .bytes;
       put = put-on (reached .filling .put) (filling .put);
@@ -178,7 +176,6 @@ module _ {sheet : List ℕ} {was : State} {before out : List ℕ} {is : State} {
     numbered = onward .numbered;
     noMore = omega (arith, onward .fewer, reached .noMore);
     fewer = inr (omega (arith, onward .fewer, reached .noMore));
-    sameTable = sameTable ∙ reached .sameTable;
     sameOut = sameOut ∙ reached .sameOut;
   }
 

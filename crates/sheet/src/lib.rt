@@ -22,11 +22,10 @@ ghost use mathlib.Core.Bool.{false};
 ghost use mathlib.Core.List.{_++_};
 ghost use Prim.Native.Nat.{_+_, _≤_};
 ghost use lib.ListN.{length};
-ghost use Rattle.rules.specs.Hall.{hallLimits};
-ghost use Rattle.rules.specs.Table.{stepTable};
+ghost use Rattle.rules.specs.Bytes.{wordsOfBytes};
 ghost use Rattle.lines.specs.Put.{Put};
 ghost use Rattle.reader.specs.Results.{recordOf};
-ghost use Rattle.reply.specs.Answer.{tableResult};
+ghost use Rattle.board.specs.Results.{Stepped};
 ghost use Rattle.sheet_rules.specs.Lines.{endLine, line};
 ghost use Rattle.sheet_rules.specs.Sheet.{callOf, lentTable};
 ghost use Rattle.tally.specs.Count.{tallyIs};
@@ -60,8 +59,8 @@ pub struct Filled {
 }
 
 // The step that a record asks for. (Its code is 1 to 5: the reader keeps the others out.)
-pub fn run_record(table: &mut [u16], entry: Record) -> Reply
-    ensures { λ r. ⌜ tableResult r (now (table .exit)) ≡ stepTable hallLimits (now (table .entry)) (callOf (recordOf entry)) ⌝ }
+pub fn run_record(table: &mut [u8], entry: Record) -> Reply
+    ensures { λ r. ⌜ Stepped (callOf (recordOf entry)) (now (table .entry)) r (now (table .exit)) ⌝ }
 {
     let code = entry.code;
     match code {
@@ -112,9 +111,9 @@ fn stop(out: &mut [u8], at: usize, state: State, code: u16, reason: u16) -> Fill
 
 // The next record: its step and its line, or what ends the reading. After the last record, the last line.
 // It requires room for a line and the last line, and a record number that is at most the offset.
-fn put_record(sheet: &[u8], state: State, table: &mut [u16], out: &mut [u8], at: usize) -> Filled
+fn put_record(sheet: &[u8], state: State, table: &mut [u8], out: &mut [u8], at: usize) -> Filled
     requires { ⌜ (state .finished ≡ false) × (state .index ≤ state .offset) × (at + recordRoom ≤ length (now out)) ⌝ }
-    ensures filling { λ r. ⌜ Filling (now (sheet .entry)) state (now (table .entry)) (now (out .entry)) at (r .state) (now (table .exit)) (now (out .exit)) (r .put) ⌝ }
+    ensures filling { λ r. ⌜ Filling (now (sheet .entry)) state (wordsOfBytes (now (table .entry))) (now (out .entry)) at (r .state) (wordsOfBytes (now (table .exit))) (now (out .exit)) (r .put) ⌝ }
     ensures onward { λ r. ⌜ Onward (now (sheet .entry)) state (r .state) ⌝ }
 {
     let offset = state.offset;
@@ -155,9 +154,9 @@ fn put_record(sheet: &[u8], state: State, table: &mut [u16], out: &mut [u8], at:
 // A turn: record after record, as long as the buffer has room for one more. What it puts and what is still to come are what was to come.
 // It requires room for a record, so that each turn gets on, and a record number that is at most the offset, as `start` and `fill` leave it,
 // so that it does not run over.
-pub fn fill(sheet: &[u8], state: State, table: &mut [u16], out: &mut [u8]) -> Filled
+pub fn fill(sheet: &[u8], state: State, table: &mut [u8], out: &mut [u8]) -> Filled
     requires { ⌜ (state .index ≤ state .offset) × (recordRoom ≤ length (now out)) ⌝ }
-    ensures { λ r. ⌜ Turn (now (sheet .entry)) state (now (table .entry)) (now (out .entry)) (r .state) (now (table .exit)) (now (out .exit)) (r .put) ⌝ }
+    ensures { λ r. ⌜ Turn (now (sheet .entry)) state (wordsOfBytes (now (table .entry))) (now (out .entry)) (r .state) (wordsOfBytes (now (table .exit))) (now (out .exit)) (r .put) ⌝ }
 {
     let mut reached = state;
     let mut at = 0;
@@ -180,9 +179,9 @@ pub fn fill(sheet: &[u8], state: State, table: &mut [u16], out: &mut [u8]) -> Fi
 
 // The start: the sheet's length, the header and the opening, and the header's line. The table is the one that the program lends.
 // It requires that table, all zeros, and room for a line and the last line.
-pub fn start(sheet: &[u8], table: &mut [u16], out: &mut [u8]) -> Filled
-    requires { ⌜ (now table ≡ lentTable) × (recordRoom ≤ length (now out)) ⌝ }
-    ensures { λ r. ⌜ Started (now (sheet .entry)) (now (out .entry)) (r .state) (now (table .exit)) (now (out .exit)) (r .put) ⌝ }
+pub fn start(sheet: &[u8], table: &mut [u8], out: &mut [u8]) -> Filled
+    requires { ⌜ (wordsOfBytes (now table) ≡ lentTable) × (recordRoom ≤ length (now out)) ⌝ }
+    ensures { λ r. ⌜ Started (now (sheet .entry)) (now (out .entry)) (r .state) (wordsOfBytes (now (table .exit))) (now (out .exit)) (r .put) ⌝ }
 {
     let none = Tally {
         accepted: 0,

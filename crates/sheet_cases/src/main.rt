@@ -41,7 +41,7 @@ fn print_next(case: u64, bytes: &mut [u8]) -> bool {
         return false;
     }
     print_title(case);
-    let mut table = [0u16; Board::MAX_WORDS];
+    let mut table = [0u8; Board::MAX_BYTES];
     let mut out = io::large_buffer();
     print(&bytes[..n], &mut table, &mut out)
 }

@@ -1,98 +1,95 @@
 -- `board::admit` meets its contract.
-use Prim.Native.Nat.{ℕ, _-_, _*_, _≤_}
+use Prim.Native.Nat.{ℕ, _-_}
 use native.Mathlib.Omega.{arith}
-use mathlib.Core.Bool.{true}
-use mathlib.Core.List.{List}
-use mathlib.Core.Path.{_≡_, ap₂, _∙_}
+use mathlib.Core.Path.{ap, ap₂, sym, _∙_}
 use borrow.Author.Needs.{needs}
-use Rattle.rules.specs.Hall.{allScreens, hallLimits}
+use Rattle.rules.specs.Bytes.{wordsOfBytes}
+use Rattle.rules.specs.Hall.{hallLimits}
 use Rattle.rules.specs.Steps.{inRange}
-use Rattle.rules.specs.Table.{hallIn, sound, startFor}
+use Rattle.rules.specs.Table.{hallIn, startFor}
 use Rattle.rules.specs.laws.history.StepEffects.{in-range}
 use Rattle.rules.specs.laws.table.TableSteps.{known}
 use Rattle.board.specs.Admission.{admissionOf}
-use Rattle.board.specs.declared.Admission.{Admission}
+use Rattle.board.specs.declared.Admission.the-variants.{At}
+use Rattle.board.specs.declared.Hall.{Hall}
+use Rattle.board.proofs.AdmissionLaws.{Found, found-sound, found-unsound}
 use Rattle.board.proofs.SoundLaws.{said-no, said-yes}
 use Rattle.board.proofs.admit.Statement.{statement}
 use Rattle.board.proofs.admit.Tie as tie
 
--- the call, and the table that it is lent
-abbrev start : tie.Else1 → tie.Start
-start a = a .before .before .before
+-- the table is sound, and this is its hall
+here : (c : tie.After-known-told) →
+    let after-sound-hall = c .before .before .before in let start = after-sound-hall .before .before in
+    Found (wordsOfBytes (start .args .t .now)) (c .before .found .given .0 .0)
+here c = found-sound (sym (c .before .found .given .1) ∙ c .before .before .before .sound-hall .ensures)
 
-abbrev T : tie.Else1 → List ℕ
-T a = start a .args .t .now
+sound-hall-requires : tie.Need-sound-hall-requires
+sound-hall-requires c κs = search needs
 
-is-sound : (a : tie.Else1) → sound hallLimits (T a) ≡ true
-is-sound a = said-yes (a .before .sound .ensures) (a .if1 .left)
+enum-told : tie.Need-enum-told
+enum-told c = search needs
 
--- the desk is one of the hall's
-is-desk : (b : tie.Else2) → let a = b .before .before .before in inRange (start a .args .desk) (hallIn (T a) .desks) ≡ true
-is-desk b = rw (b .before .before .word .ensures .0) at (said-yes (b .before .in-range .ensures) (b .if2 .left))
-
-desk-range : (b : tie.Else2) → let a = b .before .before .before in (1 ≤ start a .args .desk) × (start a .args .desk ≤ hallIn (T a) .desks)
-desk-range b = let a = b .before .before .before in in-range (start a .args .desk) (hallIn (T a) .desks) (is-desk b)
-
--- the hall's screens
-all-is : (w : tie.After-word3) → let v = w .before .before .before .before in v .word .result * w .before .word2 .result ≡ allScreens (hallIn (T (v .before)))
-all-is w = ap₂ _*_ (w .before .before .before .before .word .ensures .0) (w .before .word2 .ensures .0)
-
-sound-requires : tie.Need-sound-requires
-sound-requires c κs = search needs
-
-returns : tie.Need-returns
-unfolding admissionOf
-returns c = rw (said-no (c .before .sound .ensures) (c .if1 .taken))
-
-word-requires : tie.Need-word-requires
-word-requires c κs = let f = known hallLimits (T c) (is-sound c) in omega arith
+enum-known-found : tie.Need-enum-known-found
+enum-known-found c = search needs
 
 in-range-requires : tie.Need-in-range-requires
 in-range-requires c κs = search needs
 
-returns-2 : tie.Need-returns-2
+returns : tie.Need-returns
 unfolding admissionOf
-returns-2 c =
-    let w = c .before .before in
-    rw (is-sound (w .before), ← w .word .ensures .0, said-no (c .before .in-range .ensures) (c .if2 .taken))
-
-word-requires-2 : tie.Need-word-requires-2
-word-requires-2 c κs = let a = c .before .before .before in let f = known hallLimits (T a) (is-sound a) in omega arith
-
-word-requires-3 : tie.Need-word-requires-3
-word-requires-3 c κs = let a = c .before .before .before .before in let f = known hallLimits (T a) (is-sound a) in omega arith
-
-mul-s : tie.Need-mul-s
-mul-s c = let a = c .before .before .before .before .before in omega (arith, all-is c, known hallLimits (T a) (is-sound a) .bounded)
+returns c =
+    let after-found = c .before .before .before in let after-shared-slice-known = after-found .before .before .before in
+    let start = after-shared-slice-known .before in
+    let hall = here (c .before .before) in
+    rw (hall .yes-sound, said-no (c .before .in-range .ensures ∙ ap (λ (h : Hall). inRange (start .args .desk) (h .desks)) (hall .is)) (c .if1 .taken))
 
 sub-record-start : tie.Need-sub-record-start
-sub-record-start c = omega (arith, desk-range (c .before .before))
+sub-record-start c =
+    let after-found = c .before .before .before in let after-shared-slice-known = after-found .before .before .before in
+    let start = after-shared-slice-known .before in
+    let hall = here (c .before .before) in
+    let range = in-range (start .args .desk) (hallIn (wordsOfBytes (start .args .t .now)) .desks) (said-yes (c .before .in-range .ensures ∙ ap (λ (h : Hall). inRange (start .args .desk) (h .desks)) (hall .is)) (c .if1 .left)) in
+    omega (arith, range)
 
 record-start-requires : tie.Need-record-start-requires
 record-start-requires c κs =
-    let a = c .before .before .before .before .before in
-    let f = known hallLimits (T a) (is-sound a) in
-    omega (arith, all-is c, c .word3 .ensures .0, desk-range (c .before .before))
+    let after-found = c .before .before .before in let after-shared-slice-known = after-found .before .before .before in
+    let start = after-shared-slice-known .before in
+    let hall = here (c .before .before) in
+    let words = wordsOfBytes (start .args .t .now) in
+    let range = in-range (start .args .desk) (hallIn words .desks) (said-yes (c .before .in-range .ensures ∙ ap (λ (h : Hall). inRange (start .args .desk) (h .desks)) (hall .is)) (c .if1 .left)) in
+    let facts = known hallLimits words (hall .yes-sound) in
+    omega (arith, range, ap (λ (h : Hall). h .positions) (hall .is), ap (λ (h : Hall). h .all) (hall .is), facts .bounded, facts .fits .positions, facts .fits .desks)
 
 record-start-requires-2 : tie.Need-record-start-requires-2
 record-start-requires-2 c κs =
-    let w = c .before in
-    let a = w .before .before .before .before .before in
-    let f = known hallLimits (T a) (is-sound a) in
-    omega (arith, all-is w, w .word3 .ensures .0, desk-range (w .before .before))
+    let after-known-told = c .before .before .before in let after-sound-hall = after-known-told .before .before .before in
+    let start = after-sound-hall .before .before in
+    let hall = here after-known-told in
+    let words = wordsOfBytes (start .args .t .now) in
+    let range = in-range (start .args .desk) (hallIn words .desks) (said-yes (c .before .before .in-range .ensures ∙ ap (λ (h : Hall). inRange (start .args .desk) (h .desks)) (hall .is)) (c .before .if1 .left)) in
+    let facts = known hallLimits words (hall .yes-sound) in
+    omega (arith, range, ap (λ (h : Hall). h .positions) (hall .is), ap (λ (h : Hall). h .all) (hall .is), facts .bounded, facts .fits .positions, facts .fits .desks)
+
+returns-2 : tie.Need-returns-2
+unfolding admissionOf
+returns-2 c =
+    let after-shared-slice-known = c .before .before .before in let start = after-shared-slice-known .before in
+    rw (found-unsound (wordsOfBytes (start .args .t .now)) (sym (c .enum-told .given .1) ∙ c .before .before .sound-hall .ensures))
 
 returns-3 : tie.Need-returns-3
 unfolding admissionOf
 returns-3 c =
-    let w = c .before .before in
-    let b = w .before .before in
-    let a = b .before .before .before in
-    let l = w .word3 .ensures .0 in
-    let s = all-is w in
-    let at = c .before .record-start .ensures .0 ∙ ap₂ (λ (x y : ℕ). startFor x y (start a .args .desk - 1)) l s in
-    let to = c .record-start2 .ensures .0 ∙ ap₂ (λ (x y : ℕ). startFor x y (start a .args .desk)) l s in
-    rw (is-sound a, is-desk b) (λ i. Admission.At (record { positions = l i; screens = w .before .word2 .ensures .0 i; all = s i; start = at i; end = to i }))
+    let after-in-range = c .before .before .before in let after-known-told = after-in-range .before in
+    let after-sound-hall = after-known-told .before .before .before in let start = after-sound-hall .before .before in
+    let hall = here after-known-told in
+    let positions = ap (λ (h : Hall). h .positions) (hall .is) in
+    let screens = ap (λ (h : Hall). h .screens) (hall .is) in
+    let all = ap (λ (h : Hall). h .all) (hall .is) in
+    let from = c .before .record-start .ensures .0 ∙ ap₂ (λ (x y : ℕ). startFor x y (start .args .desk - 1)) positions all in
+    let to = c .record-start2 .ensures .0 ∙ ap₂ (λ (x y : ℕ). startFor x y (start .args .desk)) positions all in
+    let own = said-yes (after-in-range .in-range .ensures ∙ ap (λ (h : Hall). inRange (start .args .desk) (h .desks)) (hall .is)) (c .before .before .if1 .left) in
+    rw (hall .yes-sound, own) (λ i. At (record { positions = positions i; screens = screens i; all = all i; start = from i; end = to i }))
 
 pub admit-spec : {M : Type 1} → statement M
-admit-spec =
-    tie.close (tie.spec sound-requires returns word-requires in-range-requires returns-2 word-requires-2 word-requires-3 mul-s sub-record-start record-start-requires record-start-requires-2 returns-3)
+admit-spec = tie.close (tie.spec sound-hall-requires enum-told enum-known-found in-range-requires returns sub-record-start record-start-requires record-start-requires-2 returns-2 returns-3)

@@ -10,5 +10,4 @@ returns-2 : tie.Need-returns-2
 returns-2 c = rw (lt-leb 1 (c .before .args .n) (c .if1 .left))
 
 pub in-range-spec : {M : Type 1} → statement M
-in-range-spec =
-    tie.close (tie.spec returns returns-2)
+in-range-spec = tie.close (tie.spec returns returns-2)

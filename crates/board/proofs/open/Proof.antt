@@ -1,43 +1,35 @@
 -- `board::open` meets its contract.
-use Prim.Native.Nat.{ℕ, _-_, _≤_}
+use Prim.Native.Nat.{ℕ, _-_, _*_, _≤_}
 use native.Mathlib.Omega.{arith}
 use mathlib.Core.List.{List}
-use mathlib.Core.Path.{_≡_, refl, _∙_}
-use lib.ListN.{length, length-set}
+use mathlib.Core.Path.{_≡_, ap, _∙_}
+use lib.ListN.{length, set}
 use borrow.Author.Needs.{needs}
-use borrow.Rule.Slice.PartMut.{putMid, same-len-mid}
-use Rattle.rules.specs.Hall.{Hall, hallLimits, hallOf}
-use Rattle.rules.specs.Steps.{firstNo}
-use Rattle.rules.specs.Table.{headerWords, need, openQuestions}
-use Rattle.rules.specs.laws.table.EncodedStep.{hall-opens}
-use Rattle.board.proofs.OpenLaws.{is-opened, not-opened, opened}
+use borrow.Rule.Slice.PartMut.{same-len-mid}
+use Rattle.rules.specs.Bytes.{wordsOfBytes}
+use Rattle.rules.specs.Hall.{Hall, hallOf}
+use Rattle.rules.specs.Table.{headerWords, need}
+use Rattle.words.proofs.Laws.{length-words, written-then}
+use Rattle.board.proofs.OpenLaws.{cleared, is-opened, need-there, not-opened, opened-bytes}
+use Rattle.board.proofs.ResultLaws.{matches-unchanged}
+use Rattle.reply.specs.Answer.{tableResult}
+use Rattle.reply.specs.declared.Reply.the-variants.{Accepted}
 use Rattle.board.proofs.open.Statement.{statement}
 use Rattle.board.proofs.open.Tie as tie
 
--- the hall of the call, and the table as it found it
-abbrev H : tie.Start → Hall
-H o = hallOf (o .args .desks) (o .args .screens) (o .args .positions)
+-- the call, and its hall
+abbrev hall : tie.Start → Hall
+hall o = hallOf (o .args .desks) (o .args .screens) (o .args .positions)
 
-abbrev T : tie.Start → List ℕ
-T o = o .args .t .now
-
--- all questions were answered yes, so the table is long enough
-all-yes : (a : tie.Else1) → let o = a .before .before .before .before in firstNo (openQuestions hallLimits (H o) (T o)) ≡ 0
-all-yes a =
-    let o = a .before .before .before .before in
-    is-opened (H o) (T o) (a .before .before .opening .result) (a .before .before .opening .ensures (T o) refl) (omega (arith, a .before .number .ensures))
-
-room : (a : tie.Else1) → let o = a .before .before .before .before in need (H o) ≤ length (T o)
-room a = let o = a .before .before .before .before in hall-opens hallLimits (H o) (T o) (all-yes a) .1
-
--- the table after the clearing is as long as it was
-same : (b : tie.After-slice-known2) → let o = b .before .before .before .before .before .before .before .before .before in
-    length (putMid headerWords (b .before .before .before .before .need .result - headerWords) (T o) (b .before .before .clear .last .0)) ≡ length (T o)
-same b =
-    let n = b .before .before .before .before in
-    let o = n .before .before .before .before .before in
-    let w = b .before .before .clear in
-    same-len-mid {X = ℕ} headerWords (n .need .result - headerWords) (T o) (w .last .0) (w .kept .0)
+-- all questions were answered yes, so the need is there
+there : (c : tie.Else1) →
+    let after-slice-known = c .before .before .before in let start = after-slice-known .before in
+    2 * need (hall start) ≤ length (start .args .t .now)
+there c =
+    let after-slice-known = c .before .before .before in let start = after-slice-known .before in
+    let words = wordsOfBytes (start .args .t .now) in
+    let many = length-words (start .args .t .now) in
+    omega (arith, many, need-there (hall start) words (c .before .before .opening .result) (c .before .before .opening .ensures words many) (omega (arith, c .before .number .ensures, c .if1 .left)))
 
 opening-requires : tie.Need-opening-requires
 opening-requires c κs = search needs
@@ -47,43 +39,80 @@ number-requires c κs = search needs
 
 returns : tie.Need-returns
 returns c =
-    let o = c .before .before .before .before in
-    let r = c .before .before .opening in
-    not-opened (H o) (T o) (r .result) (r .ensures (T o) refl) (λ z. c .if1 .taken (c .before .number .ensures ∙ z))
+    let after-slice-known = c .before .before .before in let start = after-slice-known .before in
+    let words = wordsOfBytes (start .args .t .now) in
+    matches-unchanged (not-opened (hall start) words (c .before .before .opening .result) (c .before .before .opening .ensures words (length-words (start .args .t .now))) (λ z. c .if1 .taken (c .before .number .ensures ∙ z)))
 
 need-requires : tie.Need-need-requires
 need-requires c κs = search needs
+
+mul-clear : tie.Need-mul-clear
+mul-clear c = search needs
+
+mul-clear-2 : tie.Need-mul-clear-2
+mul-clear-2 c = omega (arith, c .need .ensures, there (c .before))
 
 sub-clear : tie.Need-sub-clear
 sub-clear c = omega (arith, c .need .ensures)
 
 part-clear-start : tie.Need-part-clear-start
-part-clear-start c = omega (arith, room (c .before))
+part-clear-start c = omega (arith, c .need .ensures)
 
 part-clear-end : tie.Need-part-clear-end
-part-clear-end c = omega (arith, c .need .ensures, room (c .before))
+part-clear-end c = omega (arith, c .need .ensures, there (c .before))
 
 clear-requires : tie.Need-clear-requires
 clear-requires c κs = search needs
 
-slice-write-t : tie.Need-slice-write-t
-slice-write-t c = omega (arith, same c, room (c .before .before .before .before .before))
+put-word-requires : tie.Need-put-word-requires
+put-word-requires c κs =
+    let after-clear = c .before .before .before in let after-need = after-clear .before .before in let else1 = after-need .before in
+    let after-slice-known = else1 .before .before .before in let start = after-slice-known .before in
+    let same = same-len-mid {X = ℕ} (2 * headerWords) (2 * after-need .need .result - 2 * headerWords) (start .args .t .now) (after-clear .clear .last .0) (after-clear .clear .kept .0) in
+    omega (arith, same, there else1)
 
-slice-write-t-2 : tie.Need-slice-write-t-2
-slice-write-t-2 c = simp length-set (omega (arith, same c, room (c .before .before .before .before .before)))
+put-word-requires-2 : tie.Need-put-word-requires-2
+put-word-requires-2 c κs =
+    let after-put-word = c .before .before .before in let after-t = after-put-word .before .before .before in let after-clear = after-t .before in
+    let after-need = after-clear .before .before in let else1 = after-need .before in let after-slice-known = else1 .before .before .before in
+    let start = after-slice-known .before in
+    let same = same-len-mid {X = ℕ} (2 * headerWords) (2 * after-need .need .result - 2 * headerWords) (start .args .t .now) (after-clear .clear .last .0) (after-clear .clear .kept .0) in
+    omega (arith, after-put-word .put-word .kept .0, same, there else1)
 
-slice-write-t-3 : tie.Need-slice-write-t-3
-slice-write-t-3 c = simp length-set (omega (arith, same c, room (c .before .before .before .before .before)))
+put-word-requires-3 : tie.Need-put-word-requires-3
+put-word-requires-3 c κs =
+    let after-put-word2 = c .before .before .before in let after-t2 = after-put-word2 .before .before .before in let after-put-word = after-t2 .before in
+    let after-t = after-put-word .before .before .before in let after-clear = after-t .before in let after-need = after-clear .before .before in
+    let else1 = after-need .before in let after-slice-known = else1 .before .before .before in let start = after-slice-known .before in
+    let same = same-len-mid {X = ℕ} (2 * headerWords) (2 * after-need .need .result - 2 * headerWords) (start .args .t .now) (after-clear .clear .last .0) (after-clear .clear .kept .0) in
+    omega (arith, after-put-word2 .put-word2 .kept .0, after-put-word .put-word .kept .0, same, there else1)
 
 same-length : tie.Need-same-length
 same-length c = search needs
 
 returns-2 : tie.Need-returns-2
 returns-2 c =
-    let a = c .before .before .before .before .before in
-    let o = a .before .before .before .before in
-    opened (H o) (T o) _ (c .before .before .clear .last .0) (all-yes a) (c .before .before .before .before .need .ensures) (c .before .before .clear .ensures)
+    let after-put-word-arg3 = c .before .before .before in let after-put-word2 = after-put-word-arg3 .before .before .before in
+    let after-t2 = after-put-word2 .before .before .before in let after-put-word = after-t2 .before in
+    let after-t = after-put-word .before .before .before in let after-clear = after-t .before in let after-need = after-clear .before .before in
+    let else1 = after-need .before in let after-number = else1 .before in let after-opening = after-number .before in
+    let start = after-opening .before .before in
+    let bytes = start .args .t .now in
+    let words = wordsOfBytes bytes in
+    let n = after-need .need .result in
+    let part = after-clear .clear .last .0 in
+    let asked = is-opened (hall start) words (after-opening .opening .result) (after-opening .opening .ensures words (length-words bytes)) (omega (arith, after-number .number .ensures, else1 .if1 .left)) in
+    let long : 2 * n ≤ length bytes = omega (arith, after-need .need .ensures, there else1) in
+    let same = same-len-mid {X = ℕ} (2 * headerWords) (2 * n - 2 * headerWords) bytes part (after-clear .clear .kept .0) in
+    let zeros = cleared (hall start) bytes part n (after-need .need .ensures) long (after-clear .clear .ensures) in
+    let one = written-then zeros same (after-put-word .put-word .ensures) in
+    let two = written-then one (after-put-word .put-word .kept .0 ∙ same) (after-put-word2 .put-word2 .ensures) in
+    let three = written-then two (after-put-word2 .put-word2 .kept .0 ∙ after-put-word .put-word .kept .0 ∙ same) (c .before .before .put-word3 .ensures) in
+    let stored = c .before .before .put-word3 .ensures .holds ∙ ap (λ (x : List ℕ). set x 2 (start .args .positions)) (after-put-word2 .put-word2 .ensures .holds ∙ ap (λ (x : List ℕ). set x 1 (start .args .screens)) (after-put-word .put-word .ensures .holds)) in
+    record {
+      words = (λ i. tableResult (Accepted 0) (stored i)) ∙ opened-bytes (hall start) bytes part n (after-need .need .ensures) long (after-clear .clear .ensures) asked;
+      last = three .last;
+    }
 
 pub open-spec : {M : Type 1} → statement M
-open-spec =
-    tie.close (tie.spec opening-requires number-requires returns need-requires sub-clear part-clear-start part-clear-end clear-requires slice-write-t slice-write-t-2 slice-write-t-3 same-length returns-2)
+open-spec = tie.close (tie.spec opening-requires number-requires returns need-requires mul-clear mul-clear-2 sub-clear part-clear-start part-clear-end clear-requires put-word-requires put-word-requires-2 put-word-requires-3 same-length returns-2)

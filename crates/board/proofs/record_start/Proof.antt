@@ -2,6 +2,7 @@
 use Prim.Native.Nat.{_*_, _≤_}
 use native.Mathlib.Nat.{mul-le-mul}
 use native.Mathlib.Omega.{arith}
+use mathlib.Core.Path.{ap}
 use borrow.Author.Needs.{needs}
 use Rattle.rules.specs.Hall.{maxAllScreens, maxDesks}
 use Rattle.rules.specs.Table.{widthFor}
@@ -18,22 +19,17 @@ add-result c = search needs
 add-result-2 : tie.Need-add-result-2
 add-result-2 c = search needs
 
+record-words-requires : tie.Need-record-words-requires
+record-words-requires c κs = search needs
+
 mul-result : tie.Need-mul-result
-mul-result c = search needs
+mul-result c = omega (arith, ap (λ w. c .before .args .d * w) (c .record-words .ensures), before (c .before))
 
 add-result-3 : tie.Need-add-result-3
-add-result-3 c = search needs
-
-mul-result-2 : tie.Need-mul-result-2
-mul-result-2 c = omega (arith, before c)
-
-add-result-4 : tie.Need-add-result-4
-add-result-4 c = omega (arith, before c)
+add-result-3 c = omega (arith, ap (λ w. c .before .args .d * w) (c .record-words .ensures), before (c .before))
 
 returns : tie.Need-returns
-returns c = omega (arith, before c)
+returns c = omega (arith, ap (λ w. c .before .args .d * w) (c .record-words .ensures), before (c .before))
 
 pub record-start-spec : {M : Type 1} → statement M
-record-start-spec =
-    tie.close
-    (tie.spec add-result add-result-2 mul-result add-result-3 mul-result-2 add-result-4 returns)
+record-start-spec = tie.close (tie.spec add-result add-result-2 record-words-requires mul-result add-result-3 returns)

@@ -5,52 +5,59 @@ use native.Mathlib.Numerals.{add-one}
 use native.Mathlib.Omega.{arith}
 use mathlib.Core.Bool.{true}
 use mathlib.Core.List.{List}
-use mathlib.Core.Path.{_≡_, sym, _∙_, ap}
-use lib.ListN.{take, drop}
+use mathlib.Core.Path.{_≡_, refl, sym, ap, _∙_}
+use lib.ListN.{length, take, drop}
 use borrow.Author.Needs.{needs}
+use borrow.Rule.Slice.PartMut.{mid-len}
+use Rattle.rules.specs.Bytes.{wordsOfBytes}
 use Rattle.rules.specs.Lists.{chunks, every}
-use Rattle.rules.specs.Table.{headerWords, recordSound, widthFor, listOffset}
+use Rattle.rules.specs.Table.{headerWords, recordSound, widthFor}
+use Rattle.words.proofs.Laws.{length-words, words-part}
 use Rattle.board.proofs.SoundLaws.{one-bad, one-more, record-at, said-no, said-yes}
 use Rattle.board.proofs.sound_records.Statement.{statement}
 use Rattle.board.proofs.sound_records.Tie as tie
 
 -- the records before d are sound
 abbrev Inv-loop : tie.InvT-loop
-Inv-loop t p l s size d₀ d = (d ≤ p) × (every (recordSound s) (chunks d (widthFor s) (drop (headerWords + l + s) t)) ≡ true)
+Inv-loop t p l s size d₀ d = (d ≤ p) × (every (recordSound s) (chunks d (widthFor s) (drop (headerWords + l + s) (wordsOfBytes t))) ≡ true)
 
 abbrev μ-loop : tie.MeasureT-loop
 μ-loop t p l s size d₀ d = p - d
 
--- a record was asked about: the call, the turn of the loop, and the words of all records
+-- a record was asked about: the call, and the turn of the loop
 abbrev Asked : Type 0
 Asked = tie.After-sound-record Inv-loop μ-loop
 
-abbrev S : Asked → ℕ
-S a = a .before .before .before .before .before .before .args .s
+abbrev start : Asked → tie.Start Inv-loop μ-loop
+start c =
+    let in-loop = c .before .before .before in let after-shared-slice-known = in-loop .before .before .before in
+    let start = after-shared-slice-known .before in
+    start
 
 abbrev D : Asked → ℕ
-D a = a .before .before .before .before .loop .d
+D c =
+    let in-loop = c .before .before .before in let at-loop = in-loop .before in
+    at-loop .loop .d
 
+-- the words of all records, and what was answered about this one
 abbrev records : Asked → List ℕ
-records a = let o = a .before .before .before .before .before .before .args in drop (headerWords + o .l + o .s) (o .t .now)
+records c = let o = start c .args in drop (headerWords + o .l + o .s) (wordsOfBytes (o .t .now))
 
-answer : (a : Asked) → a .sound-record .result ≡ recordSound (S a) (take (widthFor (S a)) (drop (D a * widthFor (S a)) (records a)))
-answer a =
-    let o = a .before .before .before .before .before .before .args in
-    let r = a .before .before .record-start in
-    let width : listOffset + 2 * S a ≡ widthFor (S a) = omega arith in
-    a .sound-record .ensures
-    ∙ ap (λ (w : ℕ). recordSound (S a) (take (r .result + w - r .result) (drop (r .result) (o .t .now)))) width
-    ∙ ap (recordSound (S a)) (record-at (o .t .now) (r .result) (headerWords + o .l + o .s) (D a) (widthFor (S a)) (r .ensures .0))
+answer : (c : Asked) → let s = start c .args .s in c .sound-record .result ≡ recordSound s (take (widthFor s) (drop (D c * widthFor s) (records c)))
+answer c =
+    let in-loop = c .before .before .before in let after-record-words = in-loop .before .before in
+    let o = start c .args in
+    let a = c .before .before .record-start .result in
+    let w = widthFor (o .s) in
+    c .sound-record .ensures
+    ∙ ap (λ (k : ℕ). recordSound (o .s) (wordsOfBytes (take (2 * (a + k) - 2 * a) (drop (2 * a) (o .t .now))))) (after-record-words .record-words .ensures)
+    ∙ ap (recordSound (o .s)) (words-part a (a + w) (o .t .now) ∙ record-at (wordsOfBytes (o .t .now)) a (headerWords + o .l + o .s) (D c) w (c .before .before .record-start .ensures .0))
 
-mul-size : tie.Need-mul-size Inv-loop μ-loop
-mul-size c = search needs
-
-add-size : tie.Need-add-size Inv-loop μ-loop
-add-size c = search needs
+record-words-requires : tie.Need-record-words-requires Inv-loop μ-loop
+record-words-requires c κs = search needs
 
 loop-holds : tie.Need-loop-holds Inv-loop μ-loop
-loop-holds c = search needs
+loop-holds c = (omega arith, refl)
 
 record-start-requires : tie.Need-record-start-requires Inv-loop μ-loop
 record-start-requires c κs = search needs
@@ -61,6 +68,9 @@ add-e c = search needs
 mul-sound-record : tie.Need-mul-sound-record Inv-loop μ-loop
 mul-sound-record c = search needs
 
+mul-sound-record-2 : tie.Need-mul-sound-record-2 Inv-loop μ-loop
+mul-sound-record-2 c = search needs
+
 sub-sound-record : tie.Need-sub-sound-record Inv-loop μ-loop
 sub-sound-record c = search needs
 
@@ -69,19 +79,25 @@ part-sound-record-start c = search needs
 
 part-sound-record-end : tie.Need-part-sound-record-end Inv-loop μ-loop
 part-sound-record-end c =
-    let l = c .before .before in
-    let w = widthFor (l .before .before .args .s) in
-    let h : (l .loop .d + 1) * w ≤ l .before .before .args .p * w = mul-le-mul-right w (omega arith) in
-    omega (arith, c .record-start .ensures .0)
+    let after-record-words = c .before .before .before in let start = after-record-words .before .before in
+    let w = widthFor (start .args .s) in
+    let h : (c .before .before .loop .d + 1) * w ≤ start .args .p * w = mul-le-mul-right w (omega arith) in
+    omega (arith, c .record-start .ensures .0, after-record-words .record-words .ensures)
 
 sound-record-requires : tie.Need-sound-record-requires Inv-loop μ-loop
-sound-record-requires c κs = search needs
+sound-record-requires c κs =
+    let at-loop = c .before .before .before in let after-record-words = at-loop .before in let start = after-record-words .before .before in
+    let a = c .before .record-start .result in
+    let w = widthFor (start .args .s) in
+    let h : (at-loop .loop .d + 1) * w ≤ start .args .p * w = mul-le-mul-right w (omega arith) in
+    let long = mid-len (2 * a) (2 * (a + after-record-words .record-words .result)) (start .args .t .now) (omega (arith, c .before .record-start .ensures .0, after-record-words .record-words .ensures)) in
+    (omega (arith, start .pre), omega (arith, long, after-record-words .record-words .ensures))
 
 returns : tie.Need-returns Inv-loop μ-loop
 returns c =
-    let a = c .before in
-    let p = a .before .before .before .before .before .before .args .p in
-    sym (one-bad (recordSound (S a)) (widthFor (S a)) p (D a) (records a) (omega arith) (said-no (answer a) (c .if1 .taken)))
+    let after-record-start = c .before .before .before in let at-loop = after-record-start .before .before in
+    let start = at-loop .before .before .before in
+    sym (one-bad (recordSound (start .args .s)) (widthFor (start .args .s)) (start .args .p) (at-loop .loop .d) (records (c .before)) (omega arith) (said-no (answer (c .before)) (c .if1 .taken)))
 
 add-d : tie.Need-add-d Inv-loop μ-loop
 add-d c = search needs
@@ -91,33 +107,15 @@ loop-less c = search needs
 
 loop-again : tie.Need-loop-again Inv-loop μ-loop
 loop-again c =
-    let a = c .before in
-    let v = a .before .before .before .before .loop .inv in
-    (omega arith, rw add-one (one-more (recordSound (S a)) (widthFor (S a)) (D a) (records a) (v .1) (said-yes (answer a) (c .if1 .left))))
+    let after-record-start = c .before .before .before in let at-loop = after-record-start .before .before in
+    let start = at-loop .before .before .before in
+    (omega arith, rw add-one (one-more (recordSound (start .args .s)) (widthFor (start .args .s)) (at-loop .loop .d) (records (c .before)) (at-loop .loop .inv .1) (said-yes (answer (c .before)) (c .if1 .left))))
 
 returns-2 : tie.Need-returns-2 Inv-loop μ-loop
 returns-2 c =
-    let e : c .before .loop .d ≡ c .before .before .before .args .p = omega arith in
-    sym (rw (← e) (c .before .loop .inv .1))
+    let after-shared-slice-known = c .before .before .before in let start = after-shared-slice-known .before in
+    let end : c .before .loop .d ≡ start .args .p = omega arith in
+    sym (rw (← end) (c .before .loop .inv .1))
 
 pub sound-records-spec : {M : Type 1} → statement M
-sound-records-spec =
-    tie.close
-    (tie.spec
-    Inv-loop
-    μ-loop
-    mul-size
-    add-size
-    loop-holds
-    record-start-requires
-    add-e
-    mul-sound-record
-    sub-sound-record
-    part-sound-record-start
-    part-sound-record-end
-    sound-record-requires
-    returns
-    add-d
-    loop-less
-    loop-again
-    returns-2)
+sound-records-spec = tie.close (tie.spec Inv-loop μ-loop record-words-requires loop-holds record-start-requires add-e mul-sound-record mul-sound-record-2 sub-sound-record part-sound-record-start part-sound-record-end sound-record-requires returns add-d loop-less loop-again returns-2)

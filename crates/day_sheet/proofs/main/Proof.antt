@@ -1,6 +1,6 @@
 -- `day_sheet::main` meets its contract: it is safe, and it ends. The table that it lends is the rules' own.
 use borrow.Author.Needs.{needs}
-use Rattle.sheet_rules.specs.Sheet.{lentTable}
+use Rattle.sheet_rules.specs.laws.Sheet.{lent-bytes}
 use Rattle.day_sheet.proofs.main.Statement.{statement}
 use Rattle.day_sheet.proofs.main.Tie as tie
 
@@ -26,8 +26,7 @@ slice-aggregate-print-3 : tie.Need-slice-aggregate-print-3
 slice-aggregate-print-3 c = search needs
 
 print-requires : tie.Need-print-requires
-unfolding lentTable
-print-requires c κs = search needs
+print-requires c κs = (lent-bytes, search needs)
 
 returns : tie.Need-returns
 returns c = search needs

@@ -6,6 +6,7 @@ use mathlib.Core.Bool.{true, false}
 use lib.ListN.{length}
 use lib.Seq.{length-take-le}
 use borrow.Author.Needs.{needs}
+use Rattle.rules.specs.Bytes.{wordsOfBytes}
 use Rattle.sheet.specs.Turn.{recordRoom, sheetTable, turnsLeft}
 use Rattle.sheet.specs.laws.Turns.{table-at-end, table-at-start, table-kept, tableToCome, turns-fall}
 use Rattle.printing.proofs.print.Statement.{statement}
@@ -14,7 +15,7 @@ use Rattle.printing.proofs.print.Tie as tie
 abbrev Inv-loop : tie.InvT-loop
 Inv-loop sheet table₀ out₀ put₀ state₀ printed₀ table out state printed =
     (state .index ≤ state .offset) × (recordRoom ≤ length out) × (length table ≡ length table₀) × (length out ≡ length out₀)
-    × (tableToCome sheet state table ≡ sheetTable sheet)
+    × (tableToCome sheet state (wordsOfBytes table) ≡ sheetTable sheet)
 
 abbrev μ-loop : tie.MeasureT-loop
 μ-loop sheet table₀ out₀ put₀ state₀ printed₀ table out state printed = turnsLeft sheet state
@@ -45,7 +46,7 @@ same-length-2 c = omega (arith, c .before .before .loop .inv .3)
 returns : tie.Need-returns Inv-loop μ-loop
 returns c =
     let loop = c .before .before .loop in
-    λ all. sym (table-at-end (c .before .before .before .before .before .before .before .before .before .before .before .before .before .before .before .before .args .sheet .now) (loop .state) (loop .table) (c .if1 .taken)) ∙ loop .inv .4
+    λ all. sym (table-at-end (c .before .before .before .before .before .before .before .before .before .before .before .before .before .before .before .before .args .sheet .now) (loop .state) (wordsOfBytes (loop .table)) (c .if1 .taken)) ∙ loop .inv .4
 
 fill-requires : tie.Need-fill-requires Inv-loop μ-loop
 fill-requires c κs = let inv = c .before .before .before .before .loop .inv in (inv .0, inv .1)

@@ -2,4 +2,3 @@
 pub mod Bytes
 pub mod ByteHistories
 pub mod FirstBoard
-pub mod Front

@@ -6,4 +6,3 @@ pub mod TableHistories
 pub mod WordBounds
 pub mod Demand1
 pub mod NeedSuffices
-pub mod Window

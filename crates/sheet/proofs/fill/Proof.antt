@@ -1,5 +1,8 @@
 -- `sheet::fill` meets its contract.
 use native.Mathlib.Omega.{arith}
+use mathlib.Core.Path.{_≡_, refl, _∙_}
+use lib.ListN.{length}
+use Rattle.rules.specs.Bytes.{wordsOfBytes}
 use Rattle.sheet.specs.Turn.{turnsLeft}
 use Rattle.sheet.specs.laws.Turns.{turns-fall}
 use Rattle.sheet.proofs.TurnLaws.{Reached, reached-first, reached-next, reached-within, turn-finished, turn-full}
@@ -7,29 +10,29 @@ use Rattle.sheet.proofs.fill.Statement.{statement}
 use Rattle.sheet.proofs.fill.Tie as tie
 
 abbrev Inv-loop : tie.InvT-loop
-Inv-loop sheet table₀ out₀ reached₀ at₀ table out reached at = Reached sheet reached₀ table₀ out₀ reached table out at
+Inv-loop sheet table₀ out₀ reached₀ at₀ table out reached at = (length table ≡ length table₀) × Reached sheet reached₀ (wordsOfBytes table₀) out₀ reached (wordsOfBytes table) out at
 
 abbrev μ-loop : tie.MeasureT-loop
 μ-loop sheet table₀ out₀ reached₀ at₀ table out reached at = turnsLeft sheet reached
 
 loop-holds : tie.Need-loop-holds Inv-loop μ-loop
-loop-holds c = reached-first (c .before .before .before .pre .0)
+loop-holds c = (refl, reached-first (c .before .before .before .pre .0))
 
 sub-loop : tie.Need-sub-loop Inv-loop μ-loop
-sub-loop c = omega (arith, reached-within (c .loop .inv))
+sub-loop c = omega (arith, reached-within (c .loop .inv .1))
 
 same-length : tie.Need-same-length Inv-loop μ-loop
-same-length c = omega (arith, c .before .before .loop .inv .sameTable)
+same-length c = omega (arith, c .before .before .loop .inv .0)
 
 same-length-2 : tie.Need-same-length-2 Inv-loop μ-loop
-same-length-2 c = omega (arith, c .before .before .loop .inv .sameOut)
+same-length-2 c = omega (arith, c .before .before .loop .inv .1 .sameOut)
 
 returns : tie.Need-returns Inv-loop μ-loop
-returns c = turn-finished (c .before .before .loop .inv) (c .if1 .taken)
+returns c = turn-finished (c .before .before .loop .inv .1) (c .if1 .taken)
 
 put-record-requires : tie.Need-put-record-requires Inv-loop μ-loop
 put-record-requires c κs =
-    let inv = c .before .before .before .before .loop .inv in
+    let inv = c .before .before .before .before .loop .inv .1 in
     (c .before .before .if1 .left, inv .numbered, omega (arith, reached-within inv, c .before .before .before .loop-test .taken))
 
 loop-less : tie.Need-loop-less Inv-loop μ-loop
@@ -38,16 +41,17 @@ loop-less c = turns-fall (c .before .before .before .before .before .before .bef
 loop-again : tie.Need-loop-again Inv-loop μ-loop
 loop-again c =
     let put = c .before .before .before .before .before .put-record in
-    reached-next (c .before .before .before .before .before .before .before .before .before .before .loop .inv) (put .ensures .0) (put .ensures .1) (put .kept .1 .1 .0) (put .kept .1 .1 .1 .0)
+    let inv = c .before .before .before .before .before .before .before .before .before .before .loop .inv in
+    (put .kept .1 .1 .0 ∙ inv .0, reached-next (inv .1) (put .ensures .0) (put .ensures .1) (put .kept .1 .1 .1 .0))
 
 same-length-3 : tie.Need-same-length-3 Inv-loop μ-loop
-same-length-3 c = omega (arith, c .before .loop .inv .sameTable)
+same-length-3 c = omega (arith, c .before .loop .inv .0)
 
 same-length-4 : tie.Need-same-length-4 Inv-loop μ-loop
-same-length-4 c = omega (arith, c .before .loop .inv .sameOut)
+same-length-4 c = omega (arith, c .before .loop .inv .1 .sameOut)
 
 returns-2 : tie.Need-returns-2 Inv-loop μ-loop
-returns-2 c = turn-full (c .before .loop .inv) (c .before .before .before .before .before .pre .1) (c .loop-test .left)
+returns-2 c = turn-full (c .before .loop .inv .1) (c .before .before .before .before .before .pre .1) (c .loop-test .left)
 
 pub fill-spec : {M : Type 1} → statement M
 fill-spec =

@@ -114,7 +114,7 @@ returns-4 c =
     let inside = c .before .before .before .before .before .before .before .before .before .before .before .before .before .before .before .before .before .before .if1 .left in
     let read = record-read (c .before .before .before .before .before .before .before .before .before .before .before .before .before .before) in
     let ran-step = c .before .before .before .before .before .before .before .before .before .before .before .before .run-record in
-    (ran (start .pre .0) inside read (ran-step .result) (ran-step .ensures) (c .before .before .before .before .before .before .before .before .before .number .ensures) (c .before .before .before .before .before .before .before .before .session .ensures) (c .before .tallied .ensures) (c .before .before .before .before .before .put-line .ensures), ran-onward (start .pre .0) inside read (start .pre .1))
+    (ran (start .pre .0) inside read (ran-step .result) (ran-step .ensures .words) (c .before .before .before .before .before .before .before .before .before .number .ensures) (c .before .before .before .before .before .before .before .before .session .ensures) (c .before .tallied .ensures) (c .before .before .before .before .before .put-line .ensures), ran-onward (start .pre .0) inside read (start .pre .1))
 
 pub put-record-spec : {M : Type 1} → statement M
 put-record-spec =

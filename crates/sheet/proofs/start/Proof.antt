@@ -3,6 +3,7 @@ use native.Mathlib.Omega.{arith}
 use mathlib.Core.Path.{_≡_, sym, ap, _∙_}
 use Prim.Native.Nat.{ℕ}
 use borrow.Author.Needs.{needs}
+use Rattle.rules.specs.Bytes.{wordsOfBytes}
 use Rattle.rules.specs.Hall.{hallLimits}
 use Rattle.rules.specs.Numbers.{got, refusalOf, refused}
 use Rattle.rules.specs.Table.{openTable}
@@ -22,8 +23,8 @@ header-read c = sym (c .before .before .before .read-header .ensures) ∙ ap hea
 -- what the board replied to the opening
 opening : (c : tie.After-number) →
     let replied = c .before .before .before .«open» in
-    tableResult (replied .result) (replied .last .0) ≡ openTable hallLimits (headerOf (c .before .before .before .before .before .before .header .given .0 .0)) lentTable
-opening c = c .before .before .before .«open» .ensures ∙ ap (openTable hallLimits _) (c .before .before .before .before .before .before .before .before .before .before .before .before .before .pre .0)
+    tableResult (replied .result) (wordsOfBytes (replied .last .0)) ≡ openTable hallLimits (headerOf (c .before .before .before .before .before .before .header .given .0 .0)) lentTable
+opening c = c .before .before .before .«open» .ensures .words ∙ ap (openTable hallLimits _) (c .before .before .before .before .before .before .before .before .before .before .before .before .before .pre .0)
 
 stop-requires : tie.Need-stop-requires
 stop-requires c κs = search needs

@@ -4,7 +4,7 @@ use mathlib.Core.List.{_++_}
 use lib.ListN.{drop}
 use lib.Seq.{length-take-le}
 use borrow.Author.Needs.{needs}
-use Rattle.sheet_rules.specs.Sheet.{lentTable}
+use Rattle.sheet_rules.specs.laws.Sheet.{lent-bytes}
 use Rattle.sheet_cases.proofs.print_next.Statement.{statement}
 use Rattle.sheet_cases.proofs.print_next.Tie as tie
 
@@ -66,8 +66,7 @@ slice-aggregate-print-3 : tie.Need-slice-aggregate-print-3
 slice-aggregate-print-3 c = search needs
 
 print-requires : tie.Need-print-requires
-unfolding lentTable
-print-requires c κs = search needs
+print-requires c κs = (lent-bytes, search needs)
 
 same-length-2 : tie.Need-same-length-2
 same-length-2 c = search needs

@@ -42,11 +42,9 @@ add-result-4 : tie.Need-add-result-4
 add-result-4 c = omega (arith, screens c, records c)
 
 returns : tie.Need-returns
-returns c =
-    let s = c .args .desks * c .args .screens in
+returns c = let s = c .args .desks * c .args .screens in
     let width : listOffset + 2 * s ≡ widthFor s = omega arith in
     ap (λ (w : ℕ). headerWords + (c .args .positions + (s + c .args .desks * w))) width
 
 pub need-spec : {M : Type 1} → statement M
-need-spec =
-    tie.close (tie.spec mul-s mul-result add-result mul-result-2 add-result-2 add-result-3 add-result-4 returns)
+need-spec = tie.close (tie.spec mul-s mul-result add-result mul-result-2 add-result-2 add-result-3 add-result-4 returns)

@@ -4,7 +4,7 @@ use native.Mathlib.Omega.{arith}
 use mathlib.Core.Path.{_≡_, refl, sym, ap, subst, _∙_}
 use mathlib.Core.Bool.{Bool, true, false, _&&_}
 use mathlib.Core.List.{List, [], _∷_, _++_, append-nil}
-use lib.ListN.{length, getD, drop, length-append, length-drop}
+use lib.ListN.{length, getD, drop, replicate, length-append, length-drop}
 use lib.Seq.{drop-at, getD-drop}
 use lib.Dec.{ltb}
 use borrow.Author.Tests.{ltb-false}
@@ -20,6 +20,11 @@ pub words-length : (bytes : List ℕ) → (2 * length (wordsOfBytes bytes) ≤ l
 words-length [] = (omega arith, omega arith)
 words-length (low ∷ []) = (omega arith, omega arith)
 words-length (low ∷ high ∷ bytes) = (omega (arith, words-length bytes), omega (arith, words-length bytes))
+
+-- bytes that are 0
+pub zero-words : (n : ℕ) → wordsOfBytes (replicate (2 * n) 0) ≡ replicate n 0
+zero-words zero = refl
+zero-words (suc n) = let e : 2 * suc n ≡ suc (suc (2 * n)) = omega arith in rw (e, zero-words n)
 
 pub bytes-length : (words : List ℕ) → length (bytesOfWords words) ≡ 2 * length words
 bytes-length [] = omega arith

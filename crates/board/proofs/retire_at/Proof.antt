@@ -1,0 +1,51 @@
+-- `board::retire_at` meets its contract.
+use native.Mathlib.Omega.{arith}
+use mathlib.Core.Path.{subst, sym}
+use borrow.Author.Needs.{needs}
+use Rattle.rules.specs.Bytes.{wordsOfBytes}
+use Rattle.rules.specs.laws.bytes.Bytes.{words-are-16}
+use Rattle.words.proofs.Laws.{length-words}
+use Rattle.reply.specs.Answer.{answerOf}
+use Rattle.desk.specs.Record.{Encoded, Retired}
+use Rattle.board.proofs.AdmissionLaws.{admitted}
+use Rattle.board.proofs.LocationLaws.{lent, lent-back, lent-length, lent-words}
+use Rattle.board.proofs.ResultLaws.{matches}
+use Rattle.board.proofs.StepLaws.{retire-result}
+use Rattle.board.proofs.retire_at.Statement.{statement}
+use Rattle.board.proofs.retire_at.Tie as tie
+
+mul-retire-record : tie.Need-mul-retire-record
+mul-retire-record c = let e = admitted (c .before .pre) in omega (arith, e .room, e .end-is, length-words (c .before .args .t .now))
+
+mul-retire-record-2 : tie.Need-mul-retire-record-2
+mul-retire-record-2 c = let e = admitted (c .before .pre) in omega (arith, e .room, e .end-is, length-words (c .before .args .t .now))
+
+sub-retire-record : tie.Need-sub-retire-record
+sub-retire-record c = let e = admitted (c .before .pre) in omega (arith, e .room, e .end-is, length-words (c .before .args .t .now))
+
+part-retire-record-start : tie.Need-part-retire-record-start
+part-retire-record-start c = let e = admitted (c .before .pre) in omega (arith, e .room, e .end-is, length-words (c .before .args .t .now))
+
+part-retire-record-end : tie.Need-part-retire-record-end
+part-retire-record-end c = let e = admitted (c .before .pre) in omega (arith, e .room, e .end-is, length-words (c .before .args .t .now))
+
+retire-record-requires : tie.Need-retire-record-requires
+retire-record-requires c κs = let e = admitted (c .before .before .pre) in
+    let record-lent = lent e (words-are-16 (c .before .before .args .t .now) (λ i. c .before .slice-known .given i .fits)) in
+    (subst (Encoded (c .before .before .args .location .all)) (sym (lent-words (c .before .before .args .t .now) e)) (record-lent .encoded), lent-length (c .before .before .args .t .now) e)
+
+same-length : tie.Need-same-length
+same-length c = search needs
+
+returns : tie.Need-returns
+returns c =
+    let after-retire-record-arg = c .before .before .before in let after-slice-known = after-retire-record-arg .before in
+    let start = after-slice-known .before in
+    let e = admitted (start .pre) in
+    let record-lent = lent e (words-are-16 (start .args .t .now) (λ i. after-slice-known .slice-known .given i .fits)) in
+    let r = c .before .before .retire-record in
+    let retired = subst (λ words. Retired (start .args .location .all) words (answerOf (r .result)) (wordsOfBytes (r .last .0))) (lent-words (start .args .t .now) e) (r .ensures) in
+    matches (retire-result e record-lent (r .result) (wordsOfBytes (r .last .0)) retired) (lent-back (start .args .t .now) e (r .last .0) (r .kept .0))
+
+pub retire-at-spec : {M : Type 1} → statement M
+retire-at-spec = tie.close (tie.spec mul-retire-record mul-retire-record-2 sub-retire-record part-retire-record-start part-retire-record-end retire-record-requires same-length returns)

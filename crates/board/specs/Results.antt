@@ -1,0 +1,23 @@
+-- What a call on a table sent as bytes did, against the rules on its words.
+use Prim.Native.Nat.{ℕ, _*_}
+use mathlib.Core.List.{List}
+use mathlib.Core.Path.{_≡_}
+use lib.ListN.{length, drop}
+use Rattle.rules.specs.Bytes.{wordsOfBytes}
+use Rattle.rules.specs.Hall.{Hall, hallLimits}
+use Rattle.rules.specs.Steps.{Call, Result}
+use Rattle.rules.specs.Table.{openTable, stepTable}
+use Rattle.reply.specs.Answer.{tableResult}
+use Rattle.reply.specs.declared.Reply.{Reply}
+
+-- the reply and the words that it left are a result of the rules, and an odd last byte stayed
+pub record Matches (result : Result (List ℕ)) (before : List ℕ) (r : Reply) (after : List ℕ) : Type 0 where
+  pub words : tableResult r (wordsOfBytes after) ≡ result
+  pub last : drop (2 * length (wordsOfBytes before)) after ≡ drop (2 * length (wordsOfBytes before)) before
+
+-- a step, and an opening
+abbrev pub Stepped : Call → List ℕ → Reply → List ℕ → Type 0
+Stepped call before = Matches (stepTable hallLimits (wordsOfBytes before) call) before
+
+abbrev pub Opened : Hall → List ℕ → Reply → List ℕ → Type 0
+Opened hall before = Matches (openTable hallLimits hall (wordsOfBytes before)) before

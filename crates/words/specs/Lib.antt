@@ -1,0 +1,3 @@
+-- The definitions that the contracts of this crate cite.
+pub mod Words
+pub mod Written

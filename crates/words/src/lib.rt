@@ -1,0 +1,107 @@
+ghost use mathlib.Core.Path.{_≡_};
+ghost use mathlib.Core.List.{[], _∷_, _++_};
+ghost use Prim.Native.Nat.{_+_, _*_, _≤_, _<_};
+ghost use lib.ListN.{length, getD, set, take, drop, replicate};
+ghost use Rattle.rules.specs.Bytes.{wordsOfBytes};
+ghost use Rattle.words.specs.Words.{allZero, lacks as lacksWord};
+ghost use Rattle.words.specs.Written.{Written};
+
+// Word i of a table sent as bytes, low byte first.
+// It requires that both its bytes are there.
+pub fn word(t: &[u8], i: usize) -> u16
+    requires { ⌜ 2 * i + 1 < length (now t) ⌝ }
+    ensures { λ r. ⌜ r ≡ getD (wordsOfBytes (now (t .entry))) i 0 ⌝ }
+{
+    let low = t[2 * i] as u16;
+    let high = t[2 * i + 1] as u16;
+    low + 256 * high
+}
+
+// The same, as an index or a count.
+pub fn count(t: &[u8], i: usize) -> usize
+    requires { ⌜ 2 * i + 1 < length (now t) ⌝ }
+    ensures { λ r. ⌜ (r ≡ getD (wordsOfBytes (now (t .entry))) i 0) × (r < 65536) ⌝ }
+{
+    word(t, i) as usize
+}
+
+// Word i becomes w; no other byte is written.
+// It requires that both its bytes are there.
+pub fn put_word(t: &mut [u8], i: usize, w: u16)
+    requires { ⌜ 2 * i + 1 < length (now t) ⌝ }
+    ensures { λ _. ⌜ Written (now (t .entry)) (set (wordsOfBytes (now (t .entry))) i w) (now (t .exit)) ⌝ }
+{
+    t[2 * i] = (w % 256) as u8;
+    t[2 * i + 1] = (w / 256 % 256) as u8;
+}
+
+// Whether every word of a part is 0. The loop has no exit in its middle, so that it takes many words at a time.
+pub fn all_zero(l: &[u8]) -> bool
+    ensures { λ r. ⌜ r ≡ allZero (wordsOfBytes (now (l .entry))) ⌝ }
+{
+    let n = l.len() / 2;
+    let mut bits: u16 = 0;
+    let mut i = 0;
+    while i < n {
+        bits = bits | word(l, i);
+        i += 1;
+    }
+    bits == 0
+}
+
+// Whether no word of a part is x. The loop has no exit in its middle either.
+pub fn lacks(l: &[u8], x: u16) -> bool
+    ensures { λ r. ⌜ r ≡ lacksWord x (wordsOfBytes (now (l .entry))) ⌝ }
+{
+    let n = l.len() / 2;
+    let mut ok = true;
+    let mut i = 0;
+    while i < n {
+        if word(l, i) == x {
+            ok = false;
+        }
+        i += 1;
+    }
+    ok
+}
+
+// Each byte becomes 0.
+pub fn clear(l: &mut [u8])
+    ensures { λ _. ⌜ now (l .exit) ≡ replicate (length (now (l .entry))) 0 ⌝ }
+{
+    let mut i = 0;
+    while i < l.len() {
+        l[i] = 0;
+        i += 1;
+    }
+}
+
+// The first word leaves, the rest move up one, and 0 comes last.
+// It requires that there is a word.
+pub fn shift_left(l: &mut [u8])
+    requires { ⌜ 2 ≤ length (now l) ⌝ }
+    ensures { λ _. ⌜ Written (now (l .entry)) (drop 1 (wordsOfBytes (now (l .entry))) ++ (0 ∷ [])) (now (l .exit)) ⌝ }
+{
+    let last = l.len() / 2 - 1;
+    let mut i = 0;
+    while i < last {
+        let x = word(l, i + 1);
+        put_word(l, i, x);
+        i += 1;
+    }
+    put_word(l, last, 0);
+}
+
+// The words at the front of src, in place of those of dst.
+// It requires that there are as many.
+pub fn copy_in(dst: &mut [u8], src: &[u16])
+    requires { ⌜ length (now dst) ≤ 2 * length (now src) + 1 ⌝ }
+    ensures { λ _. ⌜ Written (now (dst .entry)) (take (length (wordsOfBytes (now (dst .entry)))) (now (src .entry))) (now (dst .exit)) ⌝ }
+{
+    let n = dst.len() / 2;
+    let mut i = 0;
+    while i < n {
+        put_word(dst, i, src[i]);
+        i += 1;
+    }
+}
