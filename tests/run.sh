@@ -18,7 +18,6 @@ export CARGO_TARGET_DIR
 mkdir -p "$CARGO_TARGET_DIR"
 log=$CARGO_TARGET_DIR/run.log
 warnings="-std=c11 -Wall -Wextra -Wpedantic -Werror -O2"
-in_place=no # does the archive store to nothing but the words that a call names? Then its stores are traced (ten seconds, and valgrind).
 
 # step NAME LINES COMMAND...: shows the last lines, or all of them on failure.
 step() {
@@ -53,7 +52,7 @@ step "reference" 1 reference_tests
 step "building compare" 0 build compare
 step "compare" 1 "$CARGO_TARGET_DIR/release/compare"
 step "building host_test" 0 link "$root/tests/host/host_test.c" host_test
-step "host_test" 1 "$CARGO_TARGET_DIR/host_test" "in_place=$in_place"
+step "host_test" 1 "$CARGO_TARGET_DIR/host_test"
 step "building sheets" 0 build sheets
 step "building the sheet program in Rust" 0 build reference
 step "sheets" 1 "$CARGO_TARGET_DIR/release/sheets" "$program" \
@@ -64,5 +63,5 @@ step "tool" 1 "$root/tests/tool.sh" "$program"
 step "building the example" 0 link "$root/examples/host.c" host_example
 step "the example" 0 "$CARGO_TARGET_DIR/host_example"
 step "documents" 1 "$root/tests/documents.py"
-[ "$in_place" = no ] || step "stores" 1 "$root/tests/stores/run.sh" "$SESSION_BOARD_LIB"
+step "stores" 1 "$root/tests/stores/run.sh" "$SESSION_BOARD_LIB"
 echo "run: all passed"

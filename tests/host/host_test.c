@@ -802,7 +802,7 @@ static void every_answer(uint16_t desks, uint16_t screens, uint16_t positions, u
 /* ---- the stack ------------------------------------------------------- */
 
 /* What the header says that a call takes at most. */
-enum { STACK_SAID = 6 * 1024, STACK = 64 * 1024, UNTOUCHED = 0xA5 };
+enum { STACK_SAID = 1024, STACK = 64 * 1024, UNTOUCHED = 0xA5 };
 
 static uint16_t busy_desks, busy_screens, busy_positions;
 
@@ -854,8 +854,7 @@ static void stack_use(uint16_t desks, uint16_t screens, uint16_t positions)
 
 /* ---- all of it ------------------------------------------------------- */
 
-/* host_test [in_place=yes|no]: with yes, each call is made again on read-only pages. */
-int main(int count, char **words)
+int main(void)
 {
     make_ground();
     make_strip();
@@ -895,22 +894,20 @@ int main(int count, char **words)
     far_corner(ALIGNED_0 + 3);
     end();
 
-    if (count > 1 && strcmp(words[1], "in_place=yes") == 0) {
-        begin("every answer, all words but the named ones read-only");
-        read_only = true;
-        hall_book(ALIGNED_0, SPARE);
-        far_corner(ALIGNED_0);
-        every_answer(1, 1, 1, 1);
-        every_answer(2, 1, 3, 2);
-        for (uint16_t desk = 1; desk <= 6; desk++)
-            every_answer(6, 1, 12, desk);
-        every_answer(3, 3, 1, 2);
-        every_answer(16, 4, 64, 1);
-        every_answer(16, 4, 64, 8);
-        every_answer(16, 4, 64, 16);
-        read_only = false;
-        end();
-    }
+    begin("every answer, all words but the named ones read-only");
+    read_only = true;
+    hall_book(ALIGNED_0, SPARE);
+    far_corner(ALIGNED_0);
+    every_answer(1, 1, 1, 1);
+    every_answer(2, 1, 3, 2);
+    for (uint16_t desk = 1; desk <= 6; desk++)
+        every_answer(6, 1, 12, desk);
+    every_answer(3, 3, 1, 2);
+    every_answer(16, 4, 64, 1);
+    every_answer(16, 4, 64, 8);
+    every_answer(16, 4, 64, 16);
+    read_only = false;
+    end();
 
     begin("stack");
     stack_use(1, 1, 1);

@@ -36,7 +36,7 @@ unseen_by_pages=RETIRE_REWRITES_K
 on_pages() {
     gcc -O2 -I"$root/include" -D"$1" "-Wl,--wrap=board_$2" "$stores/stray.c" "$tests/host/host_test.c" "$right" \
         -o "$work/host_test" 2>"$work/err" || fail "$1: $(cat "$work/err")"
-    if "$work/host_test" in_place=yes >"$work/out"; then
+    if "$work/host_test" >"$work/out"; then
         [ "$1" = "$unseen_by_pages" ] || fail "$1: not caught by host_test"
     else
         grep -q "^FAILED in .*: $2 .* a store to byte" "$work/out" || [ "$2" = open ] ||
