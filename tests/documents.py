@@ -1,19 +1,32 @@
 #!/usr/bin/env python3
-"""Asks that every name in the documents' code marks can be found in the repository: names change, and documents are read.
+"""Asks that every name in the documents' code marks is one that the repository declares: names change, and documents are read.
 
 usage: tests/documents.py [DOCUMENT ...]        README.md and those of docs/, if none is named
 
-The last part of a name (`Table.need`, `board::open`, `laws/Front`) must be a word of some file, or the name of one; a path from
-the repository's root (`docs/SHEETS.md`) must be there, unless it is of what is built. CRATE and NAME in a path stand for any.
+- `Table.need`: the file Table.antt declares `need`, or a record or a struct `Table` has the field.
+- `board::open`, `board::Board::need`: the crate's source declares it. What is no crate's (`u64::count_ones`) must stand so in a source.
+- `laws/table/EncodedStep`, `tests/host`: a file or a folder has this path or its end; CRATE and NAME in it stand for any.
+- `need`: a definition, a field, a constructor, a function, a constant, a type, an edit, a file or a folder, or a word of a test, a
+  tool, the header or the Makefile.
+A mark that holds a phrase and no name is passed over.
 """
+import collections
+import fnmatch
 import pathlib
 import re
 import sys
 
 ROOT = pathlib.Path(__file__).resolve().parent.parent
-PLACES = ['crates', 'edits', 'tests', 'tools', 'include', 'examples', 'bench', 'docs/gallery', 'Makefile']
+PLACES = ['crates', 'edits', 'tests', 'tools', 'include', 'examples', 'bench', 'docs', 'Makefile', '.ci']
 BUILT = ('build', 'target')
-WORD = re.compile(r"[\w'′-]+")
+KIT = ('io', 'libc')  # crates of the toolchain
+CLAUSES = {'requires', 'ensures'}
+NAME = r"[\w'′-]+"
+WORD = re.compile(NAME)
+# A declaration of a definition, a record, a field or a constructor; of an item or a field of the code.
+ANTT = re.compile(rf"^\s*(?:abbrev |unfoldable |pub |data |record |infix\w* \d+ )*({NAME}|_\S+_)(?=[ ]*[:({{]| [a-zA-Z({{])", re.M)
+RATTLE = re.compile(r'\b(?:fn|const|struct|enum|let|impl) (?:mut )?(\w+)|^\s*(?:pub )?(\w+)\s*[:(,]', re.M)
+RECORD = re.compile(rf'^( *)(?:pub )?(?:record|data) ({NAME})', re.M)
 
 
 def files():
@@ -22,31 +35,74 @@ def files():
         yield from [path] if path.is_file() else (file for file in path.rglob('*') if file.is_file())
 
 
-def known_words():
-    """All words of all files, and the names of files and folders, with and without their endings."""
-    words = set()
-    for file in files():
-        for part in file.relative_to(ROOT).parts:
-            words.update((part, part.split('.')[0]))
-        words.update(WORD.findall(file.read_text(errors='ignore')))
-    return words
+def fields_of(text):
+    """Each record or data type of a file of definitions, with the names declared in its block."""
+    for found in RECORD.finditer(text):
+        indent = len(found.group(1))
+        block = []
+        for line in text[found.end():].split('\n')[1:]:
+            if line.strip() and len(line) - len(line.lstrip()) <= indent:
+                break
+            block.append(line)
+        yield found.group(2), set(ANTT.findall('\n'.join(block)))
+
+
+class Names:
+    def __init__(self):
+        self.paths = set()                              # every file and folder, with and without its ending
+        self.modules = collections.defaultdict(set)     # Table -> what Table.antt, or a record Table, declares
+        self.crates = collections.defaultdict(set)      # board -> what its source declares
+        self.words = set(CLAUSES)                       # what a plain name may be
+        self.sources = []                               # the texts of the code, in Rattle and in Rust, and of the Makefile
+        for file in files():
+            self.add(file, file.relative_to(ROOT), file.read_text(errors='ignore'))
+
+    def add(self, file, path, text):
+        for end in range(1, len(path.parts) + 1):
+            part = '/'.join(path.parts[:end])
+            self.paths.update((part, re.sub(r'\.\w+$', '', part)))
+            self.words.update((path.parts[end - 1], path.parts[end - 1].split('.')[0]))
+        if file.suffix == '.antt':
+            declared = set(ANTT.findall(text))
+            self.modules[file.stem] |= declared
+            self.words |= declared
+            for record, fields in fields_of(text):
+                self.modules[record] |= fields
+        elif file.suffix == '.rt':
+            declared = {name for pair in RATTLE.findall(text) for name in pair if name}
+            self.crates[path.parts[1]] |= declared
+            self.words |= declared
+            self.sources.append(text)
+        elif path.parts[0] != 'docs':
+            self.words.update(WORD.findall(text))
+            if file.suffix == '.rs' or file.name == 'Makefile':
+                self.sources.append(text)
+
+    def has(self, mark):
+        if '/' in mark:
+            return self.has_path(mark.rstrip('/'))
+        if '::' in mark:
+            first, *_, last = mark.split('::')
+            return last in self.crates[first] if first in self.crates else first in KIT or self.in_source(mark)
+        if mark in self.words or re.fullmatch(r'[a-z_]+\.[a-z]+', mark) and self.in_source(mark):
+            return True
+        module, dot, name = mark.rpartition('.')
+        return bool(dot) and name in self.modules[module.split('.')[-1]]
+
+    def in_source(self, mark):
+        return any(mark in text for text in self.sources)
+
+    def has_path(self, mark):
+        if mark.split('/')[0] in BUILT:
+            return True
+        pattern = re.sub('CRATE|NAME', '*', mark)
+        return any(fnmatch.fnmatchcase(path, pattern) or fnmatch.fnmatchcase(path, '*/' + pattern) for path in self.paths)
 
 
 def names_in(text):
-    """The last part of each name in a code mark; marks that hold a phrase and not a name are passed over."""
     for mark in re.findall(r'`([^`\n]+)`', text):
-        if re.fullmatch(r"[\w'′:./*-]+", mark):
-            last = re.split(r'::|[./]', mark.rstrip('/'))[-1]
-            if last and not last.isdigit():
-                yield mark, last
-
-
-def is_there(mark, last, words):
-    """Whether a name, with its last part, can be found."""
-    first = mark.split('/')[0]
-    if '/' in mark and first not in BUILT and (ROOT / first).is_dir():
-        return any(ROOT.glob(re.sub('CRATE|NAME', '*', mark.rstrip('/'))))
-    return last in words or mark.split('/')[-1] in words
+        if re.fullmatch(r"[\w'′:./*-]+", mark) and re.search(r'[A-Za-z]', mark) and mark.strip('.') == mark:
+            yield mark
 
 
 def main():
@@ -54,17 +110,15 @@ def main():
     for document in documents:
         if not document.is_file():
             sys.exit(f'documents: no file {document}')
-    words = known_words()
-    missing = []
-    count = 0
+    names = Names()
+    missing, count = [], 0
     for document in documents:
-        for mark, last in names_in(document.read_text()):
+        for mark in names_in(document.read_text()):
             count += 1
-            if not is_there(mark, last, words):
-                missing.append(f'{document.name}: `{mark}` is not found')
-    for line in missing:
-        print(line)
-    print(f'documents: {count} names, {len(missing)} not found')
+            if not names.has(mark):
+                missing.append(f'{document.name}: `{mark}` is not declared')
+    print(*missing, sep='\n', end='\n' if missing else '')
+    print(f'documents: {count} names, {len(missing)} not declared')
     sys.exit(1 if missing else 0)
 
 
