@@ -5,7 +5,9 @@
  *
  * It shows what the board is for. A session that is replaced at its crane is
  * not closed at once: an operator may still be steering by it. The board hands
- * it back for closing only once no screen that could hold on to it shows it.
+ * its retirement back once the screens that took it there have dropped it. This
+ * host never uses a number again before it was handed back, so that a session
+ * that is handed back stands nowhere in the table, and it may be closed at once.
  */
 #include "session_board.h"
 
@@ -89,7 +91,8 @@ static void replace(uint16_t desk, uint16_t position, uint16_t session)
 
 /* A desk that collects at least once between two retires never runs out of
  * room. Each collect looks at two more screens and hands back at most one
- * session; only a session that is handed back may be closed. */
+ * retirement. By this host's own rule, no number twice, its session may then be
+ * closed. */
 static uint16_t collect(uint16_t desk)
 {
     printf("desk %u collects: ", (unsigned)desk);
@@ -98,9 +101,9 @@ static uint16_t collect(uint16_t desk)
         return 0;
     uint16_t session = board_session(answer);
     if (session == 0)
-        printf("nothing may be closed yet\n");
+        printf("nothing is handed back yet\n");
     else
-        printf("session %u may be closed\n", (unsigned)session);
+        printf("session %u is handed back and may be closed\n", (unsigned)session);
     return session;
 }
 

@@ -88,7 +88,7 @@ cat >d.meaning <<'END'
 4 4 0 300   desk 1 retires: 300 now waits on its list
 5 5 0 0     desk 1 collects: nothing is handed back
 6 2 0 300   desk 1 drops screen 1: it showed 300
-7 5 0 300   desk 1 collects: 300 is handed back for closing
+7 5 0 300   desk 1 collects: one retirement of 300 is handed back; it stands nowhere now and may be closed
 8 4 13 0    desk 1 retires: refused, the desk owes no session
 end 7 1 1   7 steps accepted, 1 refused by the board, 1 session handed back
 END
@@ -97,6 +97,24 @@ same "explain: case D" d.meaning d.explained
 "$program" <d.sheet >d.lines
 sheet explain d.sheet --lines d.lines >d.explained
 same "explain: case D by its lines" d.meaning d.explained
+
+# A session that is on the list twice: one retirement is handed back while a screen shows it.
+cat >twice.txt <<'END'
+hall 2 1 2
+swap 1 1 5
+swap 1 2 5
+take 2 1 1
+swap 1 2 7
+retire 1
+collect 1
+swap 1 1 8
+retire 1
+collect 1
+END
+sheet encode twice.txt >twice.sheet
+echo "9 5 0 5     desk 1 collects: one retirement of 5 is handed back; it stands on desk 1's list and must stay open" >twice.meaning
+sheet explain twice.sheet --program "$program" | sed -n 's/ *$//; /^9 /p' >twice.explained
+same "explain: a session that must stay open" twice.meaning twice.explained
 
 # Comments, blank lines, spaces and other line ends leave the bytes alone.
 printf '\357\273\277# a comment\r\n\r\n\thall  1 1 1 # the hall\r\nswap 1 01 300\r\n' >loose.txt

@@ -1,26 +1,31 @@
 """What each line means, in words."""
 
 from .complaint import plural
+from .standing import Standing
 from .steps import REASONS, STEPS
 from .text import where_and_why
 
+
 def explained(sheet, lines, end):
     """Each line as it was printed, and beside it what it means."""
-    rows = [(" ".join(map(str, line)), meaning(sheet, line)) for line in lines]
+    standing = Standing()
+    rows = [(" ".join(map(str, line)), meaning(sheet, line, standing)) for line in lines]
     rows.append((" ".join(["end", *map(str, end)]), end_in_words(end)))
     width = max(len(printed) for printed, _ in rows)
     return "".join(f"{printed:<{width}}   {words}\n" for printed, words in rows)
 
 
-def meaning(sheet, line):
+def meaning(sheet, line, standing):
     if sheet.fault and line.record == sheet.fault.record:
         ends = where_and_why(sheet.fault)
         return ends if line.reply == sheet.fault.number else f"reply {line.reply}, though {ends}"
     if line.record == 0:
         return opening_in_words(sheet.hall, line.reply)
     record = sheet.records[line.record - 1]
-    result = result_in_words(record, line.session) if line.reply == 0 else f"refused, {reason(line.reply)}"
-    return f"{doing_in_words(record)}: {result}"
+    if line.reply != 0:
+        return f"{doing_in_words(record)}: refused, {reason(line.reply)}"
+    standing.accept(record, line.session)
+    return f"{doing_in_words(record)}: {result_in_words(record, line.session, standing)}"
 
 
 def reason(reply):
@@ -51,7 +56,7 @@ def doing_in_words(record):
     return f"desk {desk} {name}s"
 
 
-def result_in_words(record, session):
+def result_in_words(record, session, standing):
     name = STEPS[record.code].name
     if name == "take":
         return f"it shows {session}"
@@ -61,7 +66,14 @@ def result_in_words(record, session):
         return f"was {session}, now owed" if session else "was empty, nothing is owed"
     if name == "retire":
         return f"{session} now waits on its list"
-    return f"{session} is handed back for closing" if session else "nothing is handed back"
+    return handed_back_in_words(session, standing) if session else "nothing is handed back"
+
+
+def handed_back_in_words(session, standing):
+    """A hand-back gives back one retirement. A session may be closed once it stands nowhere."""
+    where = standing.where(session)
+    rest = f"it stands {where} and must stay open" if where else "it stands nowhere now and may be closed"
+    return f"one retirement of {session} is handed back; {rest}"
 
 
 def end_in_words(end):

@@ -25,5 +25,10 @@ def legend(drawing, top):
     boxed(drawing, x, y + ROW, "refused 13", **REFUSED)
     drawing.words(x + COLUMN + 4, y + ROW + 11, "the board refused the step, with this number")
     boxed(drawing, x, y + 2 * ROW, "back 300", **HANDED_BACK)
-    drawing.words(x + COLUMN + 4, y + 2 * ROW + 11, "a collect handed 300 back for closing")
+    drawing.words(x + COLUMN + 4, y + 2 * ROW + 11, "a collect handed back one retirement of 300")
     drawing.words(x + 3, y + 3 * ROW + 11, "p1, s1: position 1, screen 1. Grey: the desk whose step it is.")
+    drawing.words(
+        LEFT,
+        y + 4 * ROW + 11,
+        "A session may be closed once it stands at no position, is owed by no desk and is on no list: then no screen shows it.",
+    )
