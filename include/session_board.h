@@ -3,12 +3,12 @@
  *
  * The table is bytes, two to a 16-bit word, low byte first; its length is
  * given in bytes. It may stand at any address. A call reads the words up to the
- * need of the hall that the table's first three words tell. An accepted step
- * writes the positions, the screens and the record of its desk, the words that
- * it does not change as they were; so the table is the call's alone while it
- * runs. The opening writes up to the need of the hall that it is given. Words
- * past the need and an odd last byte are never touched. The table may be NULL
- * only if its length is 0.
+ * need of the hall that the table's first three words tell, and works in place:
+ * an accepted step stores to the words that are named at its call below and to
+ * no other byte, and the opening to the words up to the need of the hall that it
+ * is given. Words past the need and an odd last byte are never touched. The
+ * table is the call's alone while it runs. It may be NULL only if its length is
+ * 0.
  *
  * Desk, screen and position numbers start at 1. Sessions are 1 to 65535; 0
  * means "none". Every call, whatever its numbers and bytes, gives an answer:
@@ -18,12 +18,19 @@
  *
  * A session's way: a swap puts it at a position, takes show it on screens; a
  * later swap replaces it there, and the desk of that swap owes it and retires
- * it; collects of that desk hand it back for closing, once the screens that took
- * it there have dropped it. If no screen shows it from the retire on, it is back
- * within 3 of these collects for each screen of the hall.
+ * it; a collect of that desk hands this retirement back, once the screens that
+ * took it there have dropped it. If no screen shows the session from the retire
+ * on, it is back within 3 of these collects for each screen of the hall.
+ *
+ * When a session may be closed: a hand-back gives back one retirement, and the
+ * session may stand at another position too, or may have been put back. Close it
+ * once it stands at no position, is owed by no desk and is on no desk's list:
+ * then no screen shows it. A host whose swaps put only sessions that stand
+ * nowhere in the table, so that no number is used again before it was handed
+ * back, may close a session as soon as it is handed back.
  *
  * The board keeps nothing between calls: the table is the whole state of the
- * hall. It uses no memory but the table and about 6 KB of stack, and of the C
+ * hall. It uses no memory but the table and less than 1 KB of stack, and of the C
  * library memcpy, memmove and memset. Send one call at a time to a table. Link
  * with libhost.a, which is for x86-64.
  */
@@ -108,8 +115,8 @@ uint32_t board_swap(uint16_t desk, uint16_t position, uint16_t session,
 uint32_t board_retire(uint16_t desk, uint8_t *table, size_t bytes);
 
 /* Reads the next two screens of the hall, or the last one alone, for the
- * desk's list; the reply is a session that may now be closed, or 0 where there
- * is none yet. Asks 5, 6. Writes the desk's screens read, counts, marks and
+ * desk's list; the reply is the session of a retirement that is handed back, or
+ * 0 where there is none yet ("When a session may be closed", above). Asks 5, 6. Writes the desk's screens read, counts, marks and
  * list. */
 uint32_t board_collect(uint16_t desk, uint8_t *table, size_t bytes);
 
