@@ -8,19 +8,19 @@ use lib.ListN.{length, getD, take, drop, length-drop, length-map, take-append-dr
 use lib.Seq.{drop-cons, drop-drop, length-take-le}
 use lib.Dec.{leb, ltb, eqb, T}
 use borrow.Author.Tests.{leb-true, eqb-true, eqb-false, ltb-true}
-use Rattle.rules.specs.Hall.{Hall, TestedSlot, allScreens, maxAllScreens}
+use Rattle.rules.specs.Hall.{Hall, Limits, TestedSlot, allScreens, maxAllScreens}
 use Rattle.rules.specs.Lists.{chunks, every, occurrences}
-use Rattle.rules.specs.Steps.{Call, perform}
+use Rattle.rules.specs.Steps.{Call, perform, step}
 use Rattle.rules.specs.Table.{decode, decodeDesk, encode, hallIn, headerWords, marksIn, need, ones, recordSound, recordWidth, recordsIn, scanSound}
-use Rattle.rules.specs.Table.{slotsIn, tableAfter, usedIn, widthFor}
+use Rattle.rules.specs.Table.{slotsIn, sound, stepTable, tableAfter, usedIn, widthFor}
 use Rattle.rules.specs.laws.desk.Decoding.{list-parts, marks-read, passed, ready-length, records-back, small-drop, tested-length, waiting-length}
 use Rattle.rules.specs.laws.desk.Encoding.{ones-marks}
 use Rattle.rules.specs.laws.desk.Marks.{markCount}
 use Rattle.rules.specs.laws.desk.Sound.{ScanFits, Sound, occurrences-list, ones-append}
 use Rattle.rules.specs.laws.lists.Bools.{and-left, and-right}
 use Rattle.rules.specs.laws.lists.Lists.{indicator, indicator-other}
-use Rattle.rules.specs.laws.table.EncodedStep.{All, Valid, after-encoded}
-use Rattle.rules.specs.laws.table.TableSteps.{Known, asked}
+use Rattle.rules.specs.laws.table.EncodedStep.{All, Valid, after-encoded, table-step}
+use Rattle.rules.specs.laws.table.TableSteps.{Known, asked, known, known-inside}
 
 real-cnt : (l : List ℕ) → every (λ x. not (eqb x 0)) l ≡ true → occurrences 0 l ≡ 0
 real-cnt [] h = refl
@@ -117,3 +117,14 @@ pub encoded : (t : List ℕ) (c : Call) → ((i : ℕ) → getD t i 0 < 65536) �
 encoded t c small k q =
     ap (λ (x : List ℕ). tableAfter x c) (sym (same-table t small k))
     ∙ after-encoded (hallIn t) (k .fits) (decode (hallIn t) t) (valid t k) (drop (need (hallIn t)) t) c q
+
+-- Any call, accepted or refused: its answer is that of the step of the rules, and the table after it is that of the state after it.
+pub step-encoded : (limits : Limits) (t : List ℕ) (c : Call) → ((i : ℕ) → getD t i 0 < 65536) → sound limits t ≡ true
+    → let H = hallIn t in
+    let result = step H (decode H t) c in
+    stepTable limits t c ≡ record { answer = result .answer; after = encode H (result .after) ++ drop (need H) t }
+step-encoded limits t c small ok =
+    let H : Hall = hallIn t in
+    let k = known limits t ok in
+    ap (λ (x : List ℕ). stepTable limits x c) (sym (same-table t small k))
+    ∙ table-step limits H (known-inside limits t ok) (decode H t) (valid t k) (drop (need H) t) c
