@@ -8,5 +8,6 @@ pub mod ScreenIndex
 pub mod Locality
 pub mod Screens
 pub mod InitialState
+pub mod References
 pub mod Demand3
 pub mod Checks

@@ -3,6 +3,7 @@ pub mod EncodedStep
 pub mod TableSteps
 pub mod DecodeStepEncode
 pub mod TableHistories
+pub mod ClosingHistories
 pub mod WordBounds
 pub mod Demand1
 pub mod NeedSuffices

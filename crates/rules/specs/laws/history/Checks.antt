@@ -1,17 +1,24 @@
 -- Computed tests from which a history is seen to meet the premises of a theorem.
-use Prim.Native.Nat.{ℕ, zero, suc, _+_, _≤_}
+use Prim.Native.Nat.{ℕ, zero, suc, _+_, _-_, _≤_}
 use native.Mathlib.Omega.{arith}
-use native.Mathlib.Decide.{decLe}
+use native.Mathlib.Decide.{ℕ-discrete, decLe}
 use mathlib.Core.Path.{_≡_, refl, ap, _∙_, sym, subst}
 use mathlib.Core.Bool.{cond, Bool, true, false, not, _&&_, true≢false}
 use mathlib.Core.List.{List, [], _∷_}
-use lib.Dec.{eqb}
-use borrow.Author.Tests.{eq-eqb, eqb-true}
+use lib.ListN.{getD}
+use lib.Dec.{eqb, ltb}
+use borrow.Author.Tests.{eq-eqb, eqb-false, eqb-true, ltb-true, not-true}
+use Rattle.rules.specs.Bytes.{Words16}
+use Rattle.rules.specs.Closing.{PutFresh, Unreferenced, putAt}
+use Rattle.rules.specs.Demands.{listOfDesk}
+use Rattle.rules.specs.Hall.{Hall}
 use Rattle.rules.specs.History.{Action, CollectsBetweenRetires, Effect, Unshown, _by_, actionsBy, byDesk, collects, drops, effectAt, effectOf, handsBack}
 use Rattle.rules.specs.History.{isCollect, isRetireAttempt, noAction, outOfRoom, retires, swaps, takes}
-use Rattle.rules.specs.Lists.{occurrences, toNat}
+use Rattle.rules.specs.Lists.{every, occurrences, toNat}
 use Rattle.rules.specs.Steps.{Event}
+use Rattle.rules.specs.Table.{owedOffset, positionWord, recordOf}
 use Rattle.rules.specs.laws.history.DeskInvariants.{CollectBefore, Spaced}
+use Rattle.rules.specs.laws.lists.Bools.{and-left, and-right}
 use Rattle.rules.specs.laws.lists.Lists.{indicator, indicator-same}
 
 -- ---- A collect between any two retires.
@@ -151,3 +158,64 @@ isTakeOf s noAction = false
 -- a session that is never taken is never shown
 pub never-shown : (s : ℕ) (es : List Event) → indicesWhere (isTakeOf s) 0 es ≡ [] → (from upTo : ℕ) → Unshown (effectAt es) s from upTo
 never-shown s es q from upTo n d c a b shows = nowhere (isTakeOf s) refl es q (shows .takenAt) (ap (λ (e : Effect). isTakeOf s (e .action)) (shows .take) ∙ eq-eqb s s refl)
+
+-- ---- Sessions that are unreferenced, and put only then.
+-- Do all of 1 to n pass a test?
+abbrev everyUpTo : ℕ → (ℕ → Bool) → Bool
+everyUpTo zero test = true
+everyUpTo (suc n) test = test (suc n) && everyUpTo n test
+
+up-to : (n : ℕ) (test : ℕ → Bool) → everyUpTo n test ≡ true → (p : ℕ) → 1 ≤ p → p ≤ n → test p ≡ true
+up-to zero test q p l m = absurd (omega arith)
+up-to (suc n) test q p l m = by-last (ℕ-discrete p (suc n)) (up-to n test (and-right (test (suc n)) (everyUpTo n test) q) p l)
+  where
+    by-last : Dec (p ≡ suc n) → (p ≤ n → test p ≡ true) → test p ≡ true
+    by-last (yes t) earlier = ap test t ∙ and-left (test (suc n)) (everyUpTo n test) q
+    by-last (no t) earlier = earlier (omega arith)
+
+abbrev isOther : ℕ → ℕ → Bool
+isOther s x = not (eqb x s)
+
+abbrev pub isUnreferenced : Hall → List ℕ → ℕ → Bool
+isUnreferenced hall table s =
+    everyUpTo (hall .positions) (λ p. isOther s (getD table (positionWord p) 0))
+    && (everyUpTo (hall .desks) (λ d. isOther s (getD (recordOf hall table d) owedOffset 0))
+    && everyUpTo (hall .desks) (λ d. eqb (occurrences s (listOfDesk hall table d)) 0))
+
+pub unreferenced-by-test : (hall : Hall) (table : List ℕ) (s : ℕ) → isUnreferenced hall table s ≡ true → Unreferenced hall table s
+unreferenced-by-test hall table s q =
+    let desks = and-right atPositions (owed && lists) q in
+    record {
+      positions = λ p l m. eqb-false _ s (not-true _ (up-to (hall .positions) (λ p. isOther s (getD table (positionWord p) 0)) (and-left atPositions (owed && lists) q) p l (omega arith)));
+      owed = λ d l m. eqb-false _ s (not-true _ (up-to (hall .desks) (λ d. isOther s (getD (recordOf hall table d) owedOffset 0)) (and-left owed lists desks) d l (omega arith)));
+      lists = λ d l m. omega (arith, eqb-true (occurrences s (listOfDesk hall table d)) 0 (up-to (hall .desks) (λ d. eqb (occurrences s (listOfDesk hall table d)) 0) (and-right owed lists desks) d l (omega arith)));
+    }
+  where
+    atPositions : Bool
+    atPositions = everyUpTo (hall .positions) (λ p. isOther s (getD table (positionWord p) 0))
+
+    owed : Bool
+    owed = everyUpTo (hall .desks) (λ d. isOther s (getD (recordOf hall table d) owedOffset 0))
+
+    lists : Bool
+    lists = everyUpTo (hall .desks) (λ d. eqb (occurrences s (listOfDesk hall table d)) 0)
+
+-- (index i is number i + 1)
+abbrev pub isPutFresh : Hall → List Event → (ℕ → List ℕ) → ℕ → ℕ → Bool
+isPutFresh hall history tables s h = everyUpTo h (λ n. cond (eqb (putAt history (n - 1)) s) (isUnreferenced hall (tables (n - 1)) s) true)
+
+pub put-fresh-by-test : (hall : Hall) (history : List Event) (tables : ℕ → List ℕ) (s h : ℕ) → isPutFresh hall history tables s h ≡ true
+    → PutFresh hall history tables s h
+put-fresh-by-test hall history tables s h q i l put =
+    let back : suc i - 1 ≡ i = omega arith in
+    let passed = up-to h (λ n. cond (eqb (putAt history (n - 1)) s) (isUnreferenced hall (tables (n - 1)) s) true) q (suc i) (omega arith) (omega arith) in
+    unreferenced-by-test hall (tables i) s
+    (ap (λ (b : Bool). cond b (isUnreferenced hall (tables i) s) true) (sym (eq-eqb (putAt history i) s put))
+    ∙ ap (λ (n : ℕ). cond (eqb (putAt history n) s) (isUnreferenced hall (tables n) s) true) (sym back)
+    ∙ passed)
+
+-- ---- Words of 16 bits.
+pub words16-by-test : (table : List ℕ) → every (λ word. ltb word 65536) table ≡ true → Words16 table
+words16-by-test [] q i = omega arith
+words16-by-test (word ∷ words) q zero = ltb-true word 65536 (and-left (ltb word 65536) (every (λ word. ltb word 65536) words) q)
+words16-by-test (word ∷ words) q (suc i) = words16-by-test words (and-right (ltb word 65536) (every (λ word. ltb word 65536) words) q) i

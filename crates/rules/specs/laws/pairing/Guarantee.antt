@@ -26,10 +26,10 @@ module _ (H : Hall) (some : 1 ≤ allScreens H) (cs : List Call) where
   abbrev f : ℕ → Effect
   f = effectAt (run (step H) (fresh H) cs)
 
-  fresh-agree : ScreensAgree H f 0 (fresh H)
+  pub fresh-agree : ScreensAgree H f 0 (fresh H)
   fresh-agree x h = getD-replicate (allScreens H) x 0 0 h
 
-  in-hall : (m : ℕ) → InHall H (f m)
+  pub in-hall : (m : ℕ) → InHall H (f m)
   in-hall = range-run H cs (fresh H)
 
   finds-free : (i x c p v : ℕ) → f i ≡ takes c p v by x → link H f (screenIndex H x c) i ≡ unlinked
@@ -38,7 +38,8 @@ module _ (H : Hall) (some : 1 ≤ allScreens H) (cs : List Call) where
       subst (λ (k : ℕ). link H f (screenIndex H x c) k ≡ unlinked) e
       (takes-find-unlinked H f cs (fresh H) 0 (gives-itself (run (step H) (fresh H) cs)) (fresh-formed H) fresh-agree i x c p v (ap f e ∙ t))
 
-  guard : (d s : ℕ) → 1 ≤ d → (s ≡ 0 → ⊥) → Guard H f d s (0 + length cs) (deskOf (end (step H) (fresh H) cs) d)
+  -- the pairing of one desk and one session
+  pub guard : (d s : ℕ) → 1 ≤ d → (s ≡ 0 → ⊥) → Guard H f d s (0 + length cs) (deskOf (end (step H) (fresh H) cs) d)
   guard d s h hs =
       guard-along H f in-hall finds-free some d s h hs cs (fresh H) 0 (gives-itself (run (step H) (fresh H) cs)) (fresh-formed H) (fresh-sound H d)
       fresh-agree
@@ -56,6 +57,7 @@ module _ (H : Hall) (some : 1 ≤ allScreens H) (cs : List Call) where
         good = λ a q. absurd (omega arith);
         once = λ a b q. absurd (omega arith);
         unused = λ a r q. absurd (omega arith);
+        covers = λ r q. absurd (omega arith);
       })
 
   within-end : (a d s : ℕ) → f a ≡ handsBack s by d → a < 0 + length cs

@@ -10,7 +10,7 @@ use borrow.Author.Tests.{eqb-true, eqb-false}
 use Rattle.rules.specs.Hall.{Formed, Hall, State, allScreens, deskOf, screenIndex}
 use Rattle.rules.specs.History.{Action, Effect, _by_, collects, drops, handsBack, isRetirement, noAction, outOfRoom, retires, swaps, takes}
 use Rattle.rules.specs.Steps.{Call, step}
-use Rattle.rules.specs.laws.history.Actions.{isSwap, same-action}
+use Rattle.rules.specs.laws.history.Actions.{isSwap}
 use Rattle.rules.specs.laws.history.OwedSession.{held-kept, owed-kept, swap-owes}
 use Rattle.rules.specs.laws.history.ScreenIndex.{screen-in, screen-stored}
 use Rattle.rules.specs.laws.history.StepEffects.{Dropped, StateChange, Swapped, Took, effectIn, state-change-as}
@@ -66,7 +66,7 @@ abbrev pub Agree : (ℕ → Effect) → State → ℕ → Link → Type 0
 Agree f st v unlinked = v ≡ 0
 Agree f st v (beforeSwap p) = (v ≡ 0 → ⊥) × (1 ≤ p) × (v ≡ getD (st .held) (p - 1) 0)
 Agree f st v (beforeRetire e) = (v ≡ 0 → ⊥) × (1 ≤ e) × (v ≡ deskOf st e .owed)
-Agree f st v (linkedTo r) = (v ≡ 0 → ⊥) × ((d s : ℕ) → f r ≡ retires s by d → v ≡ s)
+Agree f st v (linkedTo r) = (v ≡ 0 → ⊥) × (d : ℕ) × (f r ≡ retires v by d)
 
 -- and of each of the hall's screens, before index n
 abbrev pub ScreensAgree : Hall → (ℕ → Effect) → ℕ → State → Type 0
@@ -139,7 +139,7 @@ module _ (H : Hall) (st : State) (formed : Formed H st) (f : ℕ → Effect) (n 
       retired t = a .2 ∙ ap (λ (m : ℕ). deskOf st m .owed) (sym t) ∙ k .done .owed
 
       by-cases : (b : Bool) → eqb d e ≡ b → Agree f after v (cond b (linkedTo n) (beforeRetire e))
-      by-cases true t = (a .0, λ x w u. let vs : v ≡ s = retired (eqb-true d e t) in let same = same-action q u in cc)
+      by-cases true t = (a .0, d, q ∙ (λ i. retires (sym (retired (eqb-true d e t)) i) by d))
       by-cases false t = before-retire-kept d (retires s) after k v e (λ w u same. eqb-false d e t same) a
   retire-agree d s after k q v (linkedTo r) a = a
 

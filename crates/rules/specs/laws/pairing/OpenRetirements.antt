@@ -16,6 +16,7 @@ use Rattle.rules.specs.Steps.{begin, beginAt, handBack, mark, markEach, 
 use Rattle.rules.specs.laws.desk.Collect.{Scanning, by-scan, copiesOn, readOn, scanned-within}
 use Rattle.rules.specs.laws.desk.Marks.{length-next-screens, mark-finds-a-copy, tested-copies-begin, tested-copies-mark, tested-copies-mark-each}
 use Rattle.rules.specs.laws.desk.Marks.{testedCopies}
+use Rattle.rules.specs.laws.history.Actions.{same-action}
 use Rattle.rules.specs.laws.lists.Lists.{indicator, indicator-at-most-one, indicator-other, indicator-same, occurrences-append}
 use Rattle.rules.specs.laws.pairing.Links.{Agree, Link, ScreensAgree, beforeRetire, beforeSwap, link, linkedTo, next, unlinked}
 
@@ -60,7 +61,7 @@ ties-if : (r most : ℕ) (b : Bool) (x y : Link) → ties r x ≤ most → ties 
 ties-if r most true x y h g = h
 ties-if r most false x y h g = g
 
-ties-next : (H : Hall) (x n d : ℕ) (a : Action) (l : Link) (r : ℕ) → r < n → ties r (next H x n d a l) ≤ ties r l
+ties-next : (H : Hall) (x n d : ℕ) (a : Action) (l : Link) (r : ℕ) → (n ≡ r → ⊥) → ties r (next H x n d a l) ≤ ties r l
 ties-next H x n d (takes c p v) unlinked r h = ties-if r 0 (eqb (screenIndex H d c) x) (beforeSwap p) unlinked (omega arith) (omega arith)
 ties-next H x n d (takes c p v) (beforeSwap q) r h = omega arith
 ties-next H x n d (takes c p v) (beforeRetire q) r h = omega arith
@@ -73,17 +74,27 @@ ties-next H x n d (swaps p) (linkedTo q) r h = omega arith
 ties-next H x n d (retires s) unlinked r h = omega arith
 ties-next H x n d (retires s) (beforeSwap q) r h = omega arith
 ties-next H x n d (retires s) (beforeRetire q) r h =
-    ties-if r 0 (eqb d q) (linkedTo n) (beforeRetire q) (omega (arith, indicator-other n r (λ t. omega arith))) (omega arith)
+    ties-if r 0 (eqb d q) (linkedTo n) (beforeRetire q) (omega (arith, indicator-other n r h)) (omega arith)
 ties-next H x n d (retires s) (linkedTo q) r h = omega arith
 ties-next H x n d outOfRoom l r h = omega arith
 ties-next H x n d collects l r h = omega arith
 ties-next H x n d (handsBack s) l r h = omega arith
 ties-next H x n d noAction l r h = omega arith
 
+-- A screen is linked only to a retirement before index n.
+pub ties-earlier : (H : Hall) (f : ℕ → Effect) (x n r : ℕ) → n ≤ r → ties r (link H f x n) ≡ 0
+ties-earlier H f x zero r h = refl
+ties-earlier H f x (suc n) r h =
+    omega (
+      arith,
+      ties-next H x n (f n .desk) (f n .action) (link H f x n) r (λ t. omega arith),
+      ties-earlier H f x n r (omega arith),
+    )
+
 module _ (H : Hall) (f : ℕ → Effect) (n : ℕ) where
-  live-next : (k r : ℕ) → r < n → live H f (suc n) k r ≤ live H f n k r
+  pub live-next : (k r : ℕ) → r < n → live H f (suc n) k r ≤ live H f n k r
   live-next zero r h = omega arith
-  live-next (suc k) r h = omega (arith, live-next k r h, ties-next H k n (f n .desk) (f n .action) (link H f k n) r h)
+  live-next (suc k) r h = omega (arith, live-next k r h, ties-next H k n (f n .desk) (f n .action) (link H f k n) r (λ t. omega arith))
 
   live-up : (S k r : ℕ) → k ≤ S → live H f n k r ≤ live H f n S r
   live-up zero zero r h = omega arith
@@ -128,7 +139,10 @@ module _ (H : Hall) (f : ℕ → Effect) (n : ℕ) where
       by-cases (linkedTo q) a = at (decLe 1 (occurrences q us))
         where
           at : Dec (1 ≤ occurrences q us) → sumOver (λ r. indicator q r) us ≤ indicator s (getD (st .shown) k 0)
-          at (yes t) = let v : getD (st .shown) k 0 ≡ s = a .1 d s (mine q t) in rw v (omega (arith, sum-linked q us, one q, indicator-same s))
+          at (yes t) =
+              let same = same-action (a .2) (mine q t) in
+              let v : getD (st .shown) k 0 ≡ s = cc in
+              rw v (omega (arith, sum-linked q us, one q, indicator-same s))
           at (no t) = omega (arith, sum-linked q us)
 
 -- The marks keep up with a count g that grows by at most one for a session read that is s, and stays within the copies.

@@ -10,8 +10,8 @@ use lib.ListN.{length}
 use lib.Dec.{eqb}
 use borrow.Author.Tests.{eq-eqb, ne-eqb}
 use Rattle.rules.specs.Hall.{Desk, Formed, Hall, State, allScreens, deskOf, screenIndex}
-use Rattle.rules.specs.History.{Action, DroppedBefore, Effect, Linked, _by_, byDesk, collects, drops, handsBack, isHandBack, noAction, outOfRoom, retires}
-use Rattle.rules.specs.History.{swaps, takes}
+use Rattle.rules.specs.History.{Action, DroppedBefore, Effect, Linked, _by_, byDesk, collects, drops, handsBack, isHandBack}
+use Rattle.rules.specs.History.{isRetirement, noAction, outOfRoom, retires, swaps, takes}
 use Rattle.rules.specs.Lists.{occurrences}
 use Rattle.rules.specs.Steps.{Call, begin, collect, end, owe, retire, run, step}
 use Rattle.rules.specs.laws.desk.Collect.{Orderly, beforeHandBack, begin-keeps}
@@ -24,8 +24,8 @@ use Rattle.rules.specs.laws.history.StepEffects.{DeskChangeIn, InHall, d
 use Rattle.rules.specs.laws.lists.Lists.{indicator, indicator-at-most-one, indicator-other, indicator-same, occurrences-append}
 use Rattle.rules.specs.laws.pairing.LinkedTakes.{linked-dropped}
 use Rattle.rules.specs.laws.pairing.Links.{ScreensAgree, agree-step, link, linkedTo, take-finds-unlinked, unlinked}
-use Rattle.rules.specs.laws.pairing.OpenRetirements.{Leaves, Tokens, begin-tokens, hand-back-other, hand-back-same, live-at, live-at-most-one}
-use Rattle.rules.specs.laws.pairing.OpenRetirements.{scan-tokens, ties, tokens-later, tokens-with}
+use Rattle.rules.specs.laws.pairing.OpenRetirements.{Leaves, Tokens, begin-tokens, hand-back-other, hand-back-same, live, live-at, live-at-most-one}
+use Rattle.rules.specs.laws.pairing.OpenRetirements.{live-next, scan-tokens, ties, tokens-later, tokens-with}
 
 -- A hand-back at index a, of session s to desk d, may be paired with the retirement at index r.
 pub record MayPair (f : ℕ → Effect) (d s a r : ℕ) : Type 0 where
@@ -43,6 +43,8 @@ pub record Guard (H : Hall) (f : ℕ → Effect) (d s n : ℕ) (D : Desk) : Type
   pub good : (a : ℕ) → a < n → f a ≡ handsBack s by d → MayPair f d s a (pair a)
   pub once : (a b : ℕ) → a < n → b < n → f a ≡ handsBack s by d → f b ≡ handsBack s by d → pair a ≡ pair b → a ≡ b
   pub unused : (a r : ℕ) → a < n → f a ≡ handsBack s by d → 1 ≤ count r → pair a ≡ r → ⊥
+  -- a retirement that a screen is linked to is not paired yet
+  pub covers : (r : ℕ) → r < n → f r ≡ retires s by d → live H f n (allScreens H) r ≤ count r
 
 -- the indices before n + 1 with such a hand-back, where it is not at n
 before-last : (f : ℕ → Effect) (d s n : ℕ) → (f n ≡ handsBack s by d → ⊥) → (a : ℕ) → a < suc n → f a ≡ handsBack s by d → a < n
@@ -53,9 +55,18 @@ before-last f d s n not-here a h q = by-cases (ℕ-discrete a n)
     by-cases (no t) = omega arith
 
 module _ (H : Hall) (f : ℕ → Effect) (d s n : ℕ) where
-  -- no hand-back of s to d is at index n
-  guard-kept : (D E : Desk) → (f n ≡ handsBack s by d → ⊥) → (g : Guard H f d s n D) → Tokens H f s (suc n) E (g .count) → Guard H f d s (suc n) E
-  guard-kept D E ne g t = record {
+  -- one index later, where no retirement of s by d is at index n
+  covers-later : (count : ℕ → ℕ) → (f n ≡ retires s by d → ⊥) → ((r : ℕ) → r < n → f r ≡ retires s by d → live H f n (allScreens H) r ≤ count r)
+      → (r : ℕ) → r < suc n → f r ≡ retires s by d → live H f (suc n) (allScreens H) r ≤ count r
+  covers-later count not-here covers r h q = by-cases (ℕ-discrete r n)
+    where
+      by-cases : Dec (r ≡ n) → live H f (suc n) (allScreens H) r ≤ count r
+      by-cases (yes t) = absurd (not-here (ap f (sym t) ∙ q))
+      by-cases (no t) = omega (arith, live-next H f n (allScreens H) r (omega arith), covers r (omega arith) q)
+
+  -- no hand-back and no retirement of s by d is at index n
+  guard-kept : (D E : Desk) → (f n ≡ handsBack s by d → ⊥) → (f n ≡ retires s by d → ⊥) → (g : Guard H f d s n D) → Tokens H f s (suc n) E (g .count) → Guard H f d s (suc n) E
+  guard-kept D E ne nr g t = record {
     count = g .count;
     tokens = t;
     single = g .single;
@@ -64,6 +75,7 @@ module _ (H : Hall) (f : ℕ → Effect) (d s n : ℕ) where
     good = λ a h q. g .good a (under a h q) q;
     once = λ a b h h′ q q′ e. g .once a b (under a h q) (under b h′ q′) q q′ e;
     unused = λ a r h q c e. g .unused a r (under a h q) q c e;
+    covers = covers-later (g .count) nr (g .covers);
   }
     where
       under : (a : ℕ) → a < suc n → f a ≡ handsBack s by d → a < n
@@ -90,6 +102,7 @@ module _ (H : Hall) (f : ℕ → Effect) (d s n : ℕ) where
     good = λ a h q. g .good a (under a h q) q;
     once = λ a b h h′ q q′ z. g .once a b (under a h q) (under b h′ q′) q q′ z;
     unused = λ a r h q c z. apart a r (under a h q) q c z (ℕ-discrete r n);
+    covers = λ r h q. linked-unpaired r h q (ℕ-discrete r n);
   }
     where
       t : Tokens H f s (suc n) D (g .count)
@@ -120,6 +133,10 @@ module _ (H : Hall) (f : ℕ → Effect) (d s n : ℕ) where
       apart a r h q c z (yes w) = omega (arith, g .good a h q .earlier)
       apart a r h q c z (no w) = g .unused a r h q (omega (arith, indicator-other r n w)) z
 
+      linked-unpaired : (r : ℕ) → r < suc n → f r ≡ retires s by d → Dec (r ≡ n) → live H f (suc n) (allScreens H) r ≤ indicator r n + g .count r
+      linked-unpaired r h q (yes w) = omega (arith, live-at-most-one H f (suc n) (allScreens H) r, ap (indicator r) (sym w), indicator-same r)
+      linked-unpaired r h q (no w) = omega (arith, live-next H f n (allScreens H) r (omega arith), g .covers r (omega arith) q)
+
   -- s is handed back to the desk at index n
   guard-hand-back : (D E : Desk) → ((m : ℕ) → InHall H (f m)) → ((i x c p v : ℕ) → f i ≡ takes c p v by x → link H f (screenIndex H x c) i ≡ unlinked)
       → f n ≡ handsBack s by d → (g : Guard H f d s n D) → Leaves H f s n E (g .count) → Guard H f d s (suc n) E
@@ -134,6 +151,7 @@ module _ (H : Hall) (f : ℕ → Effect) (d s n : ℕ) where
     good = λ a h q. is-good a h q (ℕ-discrete a n);
     once = λ a b h h′ q q′ z. is-once a b h h′ q q′ z (ℕ-discrete a n) (ℕ-discrete b n);
     unused = λ a r h q c z. is-unused a r h q c z (ℕ-discrete a n);
+    covers = covers-later left (λ q. let differ = same-action e q in true≢false (cc)) (λ r h q. linked-unpaired r h q (ℕ-discrete r (l .it)));
   }
     where
       left : ℕ → ℕ
@@ -177,6 +195,10 @@ module _ (H : Hall) (f : ℕ → Effect) (d s n : ℕ) where
       is-unused a r h q c z (yes t) = let e = sym (now a t) ∙ z in omega (arith, l .same r, g .single r, ap (indicator r) e, indicator-same r)
       is-unused a r h q c z (no t) = g .unused a r (omega arith) q (omega (arith, l .same r)) (sym (past a t) ∙ z)
 
+      linked-unpaired : (r : ℕ) → r < n → f r ≡ retires s by d → Dec (r ≡ l .it) → live H f n (allScreens H) r ≤ left r
+      linked-unpaired r h q (yes t) = omega (arith, l .loose, ap (live H f n (allScreens H)) t)
+      linked-unpaired r h q (no t) = omega (arith, g .covers r h q, l .same r, indicator-other r (l .it) t)
+
 -- One call.
 module _ (H : Hall) (f : ℕ → Effect) (in-hall : (m : ℕ) → InHall H (f m))
     (finds-free : (i x c p v : ℕ) → f i ≡ takes c p v by x → link H f (screenIndex H x c) i ≡ unlinked) (hS : 1 ≤ allScreens H) (d s : ℕ) (hd : 1 ≤ d)
@@ -196,11 +218,15 @@ module _ (H : Hall) (f : ℕ → Effect) (in-hall : (m : ℕ) → InHall H (f m)
       no-hand-back a own other t =
           true≢false (ap isHandBack (sym (by-own-desk d (handsBack s)) ∙ ap (byDesk d) (sym t) ∙ own) ∙ other)
 
+      no-retirement : (a : Action) → byDesk d (f n) ≡ a → isRetirement a ≡ false → f n ≡ retires s by d → ⊥
+      no-retirement a own other t =
+          true≢false (ap isRetirement (sym (by-own-desk d (retires s)) ∙ ap (byDesk d) (sym t) ∙ own) ∙ other)
+
       -- the list stays as it is
-      same-list : (a : Action) → byDesk d (f n) ≡ a → isHandBack a ≡ false → (o : ℕ) → deskOf (step H st c .after) d ≡ owe (deskOf st d) o
+      same-list : (a : Action) → byDesk d (f n) ≡ a → isHandBack a ≡ false → isRetirement a ≡ false → (o : ℕ) → deskOf (step H st c .after) d ≡ owe (deskOf st d) o
           → Guard H f d s (suc n) (deskOf (step H st c .after) d)
-      same-list a own other o e =
-          rw e (guard-kept H f d s n (deskOf st d) (owe (deskOf st d) o) (no-hand-back a own other) g
+      same-list a own no-back no-retire o e =
+          rw e (guard-kept H f d s n (deskOf st d) (owe (deskOf st d) o) (no-hand-back a own no-back) (no-retirement a own no-retire) g
           (tokens-later H f s n (g .count) (deskOf st d) o below (g .tokens)))
 
       -- another session is retired
@@ -221,14 +247,14 @@ module _ (H : Hall) (f : ℕ → Effect) (in-hall : (m : ℕ) → InHall H (f m)
       retiring v o y (yes t) = guard-retire H f d s n (deskOf st d) (o ∙ sym t) (y ∙ (λ i. retires (sym t i) by d)) g
       retiring v o y (no t) =
           guard-kept H f d s n (deskOf st d) (retire (deskOf st d))
-          (λ u. let differ = same-action y u in true≢false (cc)) g (retired-other v o t)
+          (λ u. let differ = same-action y u in true≢false (cc)) (λ u. let same = same-action y u in t (cc)) g (retired-other v o t)
 
       -- a collect that replies another session, or 0
-      collecting : (v : ℕ) → collect (allScreens H) (st .shown) (deskOf st d) .session ≡ v → (s ≡ v → ⊥) → (f n ≡ handsBack s by d → ⊥)
+      collecting : (v : ℕ) → collect (allScreens H) (st .shown) (deskOf st d) .session ≡ v → (s ≡ v → ⊥) → (f n ≡ handsBack s by d → ⊥) → (f n ≡ retires s by d → ⊥)
           → Guard H f d s (suc n) (collect (allScreens H) (st .shown) (deskOf st d) .after)
-      collecting v e ne other =
+      collecting v e ne no-back no-retire =
           let E = collect (allScreens H) (st .shown) (deskOf st d) .after in
-          guard-kept H f d s n (deskOf st d) E other g
+          guard-kept H f d s n (deskOf st d) E no-back no-retire g
           (tokens-later H f s n (g .count) E (E .owed) below
           (hand-back-other H f s n (g .count) (beforeHandBack (allScreens H) (st .shown) (deskOf st d)) (λ u. ne (u ∙ e)) before-back))
 
@@ -238,18 +264,19 @@ module _ (H : Hall) (f : ℕ → Effect) (in-hall : (m : ℕ) → InHall H (f m)
           guard-hand-back H f d s n (deskOf st d) (collect (allScreens H) (st .shown) (deskOf st d) .after) in-hall finds-free
           (y ∙ (λ i. handsBack (sym t i) by d)) g
           (hand-back-same H f s n (g .count) (beforeHandBack (allScreens H) (st .shown) (deskOf st d)) hs (t ∙ sym e) before-back)
-      handing v e y (no t) = collecting v e t (λ u. let same = same-action y u in t (cc))
+      handing v e y (no t) =
+          collecting v e t (λ u. let same = same-action y u in t (cc)) (λ u. let differ = same-action y u in true≢false (cc))
 
       by-action : (a : Action) → byDesk d (f n) ≡ a → DeskChangeIn H st d (deskOf (step H st c .after) d) a
           → Guard H f d s (suc n) (deskOf (step H st c .after) d)
-      by-action (takes x p v) o e = same-list (takes x p v) o refl (e .owed) (e .after)
-      by-action (drops x) o e = same-list (drops x) o refl (e .owed) (e .after)
-      by-action (swaps p) o e = same-list (swaps p) o refl (e .owed) (e .after)
+      by-action (takes x p v) o e = same-list (takes x p v) o refl refl (e .owed) (e .after)
+      by-action (drops x) o e = same-list (drops x) o refl refl (e .owed) (e .after)
+      by-action (swaps p) o e = same-list (swaps p) o refl refl (e .owed) (e .after)
       by-action (retires v) o e = rw (e .after) (retiring v (e .owed) (own-action d (f n) (retires v) (λ z. true≢false (cc)) o) (ℕ-discrete s v))
-      by-action outOfRoom o e = same-list outOfRoom o refl (deskOf st d .owed) (e .after)
-      by-action collects o e = rw (e .after) (collecting 0 (e .session) hs (no-hand-back collects o refl))
+      by-action outOfRoom o e = same-list outOfRoom o refl refl (deskOf st d .owed) (e .after)
+      by-action collects o e = rw (e .after) (collecting 0 (e .session) hs (no-hand-back collects o refl) (no-retirement collects o refl))
       by-action (handsBack v) o e = rw (e .1 .after) (handing v (e .1 .session) (own-action d (f n) (handsBack v) (λ z. true≢false (cc)) o) (ℕ-discrete s v))
-      by-action noAction o e = same-list noAction o refl (e .owed) (e .after)
+      by-action noAction o e = same-list noAction o refl refl (e .owed) (e .after)
 
   -- A list of calls, whose effects f gives from index n on.
   pub guard-along : (cs : List Call) (st : State) (n : ℕ) → Gives f n (run (step H) st cs) → Formed H st → Sound (allScreens H) (deskOf st d)

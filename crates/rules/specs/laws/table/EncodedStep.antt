@@ -264,12 +264,21 @@ module _ (H : Hall) (fits : Fits H) where
     pub desk-record : (d : ℕ) → IsDesk H d → recordOf H (encode H st ++ rest) d ≡ encodeDesk (allScreens H) (deskOf st d)
     desk-record d r = record-of-encode d (at-desk d r)
 
-    -- a position read, and written; a screen written
-    position-word-is : (p : ℕ) → 1 ≤ p → p ≤ H .positions → getD (encode H st ++ rest) (positionWord p) 0 ≡ getD (st .held) (p - 1) 0
+    -- a position and a screen read, and written
+    pub position-word-is : (p : ℕ) → 1 ≤ p → p ≤ H .positions → getD (encode H st ++ rest) (positionWord p) 0 ≡ getD (st .held) (p - 1) 0
     position-word-is p l m =
         ap (λ (t : List ℕ). getD t (headerWords + (p - 1)) 0) (as-held (st .held) (st .shown) (concat (map (encodeDesk (allScreens H)) (st .desks))))
         ∙ get-mid (H .desks ∷ H .screens ∷ H .positions ∷ []) (st .held)
         ((st .shown ++ concat (map (encodeDesk (allScreens H)) (st .desks))) ++ rest) headerWords refl (p - 1) (omega (arith, v .formed .positions))
+
+    pub screen-word-is : (d c : ℕ) → (1 ≤ d) × (d ≤ H .desks) → (1 ≤ c) × (c ≤ H .screens)
+        → getD (encode H st ++ rest) (screenWord H d c) 0 ≡ getD (st .shown) (screenIndex H d c) 0
+    screen-word-is d c i j =
+        let f = concat (map (encodeDesk (allScreens H)) (st .desks)) in
+        let n : length (H .desks ∷ H .screens ∷ H .positions ∷ st .held) ≡ headerWords + H .positions = omega (arith, v .formed .positions) in
+        ap (λ (t : List ℕ). getD t (screenWord H d c) 0) (as-shown (st .held) (st .shown) f)
+        ∙ get-mid (H .desks ∷ H .screens ∷ H .positions ∷ st .held) (st .shown) (f ++ rest) (headerWords + H .positions) n (screenIndex H d c)
+        (omega (arith, v .formed .screens, screen-in H d c (i .0) (i .1) (j .0) (j .1)))
 
     position-written : (p w : ℕ) → 1 ≤ p → p ≤ H .positions → set (encode H st ++ rest) (positionWord p) w ≡ encode H (withHeld st (p - 1) w) ++ rest
     position-written p w l m =

@@ -47,23 +47,23 @@ list-encoded S D room =
     (λ i. take (counts-encoded S D i) (slots-read-back S D room i)) ∙ take-at (listOf D) (replicate (2 * S - length (listOf D)) 0) (usedSlots D) (length-list D)
 
 module _ (limits : Limits) (H : Hall) (inside : inLimits limits H ≡ true) (t : List ℕ) (cs : List Call) where
-  abbrev fits : Fits H
+  abbrev pub fits : Fits H
   fits = limits-fit limits H inside
 
-  some : 1 ≤ allScreens H
+  pub some : 1 ≤ allScreens H
   some = some-screens H fits
 
-  run-is : run (stepTable limits) (openedTable H t) cs ≡ run (step H) (fresh H) cs
+  pub run-is : run (stepTable limits) (openedTable H t) cs ≡ run (step H) (fresh H) cs
   run-is = rw (opened-is-fresh H fits t) (table-run limits H inside cs (fresh H) (fresh-valid H fits) (drop (need H) t))
 
-  end-is : (i : ℕ) → end (stepTable limits) (openedTable H t) (take i cs) ≡ encode H (end (step H) (fresh H) (take i cs)) ++ drop (need H) t
+  pub end-is : (i : ℕ) → end (stepTable limits) (openedTable H t) (take i cs) ≡ encode H (end (step H) (fresh H) (take i cs)) ++ drop (need H) t
   end-is i = rw (opened-is-fresh H fits t) (table-end limits H inside (take i cs) (fresh H) (fresh-valid H fits) (drop (need H) t))
 
-  valid : (i : ℕ) → Valid H (end (step H) (fresh H) (take i cs))
+  pub valid : (i : ℕ) → Valid H (end (step H) (fresh H) (take i cs))
   valid i = valid-end H fits (take i cs) (fresh H) (fresh-valid H fits)
 
   -- the record of desk d after the first i calls
-  record-after : (i d : ℕ) → (1 ≤ d) × (d ≤ H .desks)
+  pub record-after : (i d : ℕ) → (1 ≤ d) × (d ≤ H .desks)
       → recordOf H (end (stepTable limits) (openedTable H t) (take i cs)) d ≡ encodeDesk (allScreens H) (deskOf (end (step H) (fresh H) (take i cs)) d)
   record-after i d r =
       ap (λ (l : List ℕ). recordOf H l d) (end-is i) ∙ desk-record H fits (end (step H) (fresh H) (take i cs)) (valid i) (drop (need H) t) d r
@@ -91,31 +91,32 @@ module _ (limits : Limits) (H : Hall) (inside : inLimits limits H ≡ true) (t :
       by-cases true q = list-bound H some (take i cs) d (in-range d (H .desks) q .0)
       by-cases false q = omega (arith, outsider-counts H d (out-of-range d (H .desks) q) isRetirement refl (take i cs) (fresh H))
 
+  -- the copies of s on its list
+  pub list-copies : (s i d : ℕ) → (1 ≤ d) × (d ≤ H .desks)
+      → occurrences s (let words = recordOf H (end (stepTable limits) (openedTable H t) (take i cs)) d in take (usedIn words) (slotsIn (allScreens H) words)) ≡ copiesOn s (deskOf (end (step H) (fresh H) (take i cs)) d)
+  list-copies s i d r =
+      ap (λ (words : List ℕ). occurrences s (take (usedIn words) (slotsIn (allScreens H) words))) (record-after i d r)
+      ∙ ap (occurrences s)
+      (list-encoded (allScreens H) (deskOf (end (step H) (fresh H) (take i cs)) d)
+      (sound-run H d some (r .0) (take i cs) (fresh H) (fresh-formed H) (fresh-sound H d) .total))
+      ∙ occurrences-list s (deskOf (end (step H) (fresh H) (take i cs)) d)
+
   copies-after : (d s i : ℕ)
       → retirementsOf d s (take i (run (step H) (fresh H) cs)) ≡ handBacksOf d s (take i (run (step H) (fresh H) cs)) + occurrences s (listOfDesk H (end (stepTable limits) (openedTable H t) (take i cs)) d)
   copies-after d s i = rw (run-take (step H) i cs (fresh H)) (by-cases (inRange d (H .desks)) refl (ℕ-discrete s 0))
     where
-      listed : (1 ≤ d) × (d ≤ H .desks)
-          → occurrences s (let words = recordOf H (end (stepTable limits) (openedTable H t) (take i cs)) d in take (usedIn words) (slotsIn (allScreens H) words)) ≡ copiesOn s (deskOf (end (step H) (fresh H) (take i cs)) d)
-      listed r =
-          ap (λ (words : List ℕ). occurrences s (take (usedIn words) (slotsIn (allScreens H) words))) (record-after i d r)
-          ∙ ap (occurrences s)
-          (list-encoded (allScreens H) (deskOf (end (step H) (fresh H) (take i cs)) d)
-          (sound-run H d some (r .0) (take i cs) (fresh H) (fresh-formed H) (fresh-sound H d) .total))
-          ∙ occurrences-list s (deskOf (end (step H) (fresh H) (take i cs)) d)
-
       by-cases : (b : Bool) → inRange d (H .desks) ≡ b → Dec (s ≡ 0)
           → retirementsOf d s (run (step H) (fresh H) (take i cs)) ≡ handBacksOf d s (run (step H) (fresh H) (take i cs)) + occurrences s (cond b (let words = recordOf H (end (stepTable limits) (openedTable H t) (take i cs)) d in take (usedIn words) (slotsIn (allScreens H) words)) [])
       by-cases true q (yes z) =
           let r = in-range d (H .desks) q in
           let real = sound-run H d some (r .0) (take i cs) (fresh H) (fresh-formed H) (fresh-sound H d) .real in
           let none = no-session-zero H (take i cs) (fresh H) d in
-          let l = listed r in
+          let l = list-copies s i d r in
           rw z (omega (arith, none .0, none .1, rw z at l, real))
       by-cases true q (no z) =
           let r = in-range d (H .desks) q in
           let c = copies-run H d some (r .0) s z (take i cs) (fresh H) (fresh-formed H) (fresh-sound H d) in
-          omega (arith, listed r, fresh-copies H d s)
+          omega (arith, list-copies s i d r, fresh-copies H d s)
       by-cases false q z =
           omega
           (arith, outsider-counts H d (out-of-range d (H .desks) q) (isRetirementOf s) refl (take i cs) (fresh H), outsider-counts H d (out-of-range d (H .desks) q) (isHandBackOf s) refl (take i cs) (fresh H))
