@@ -3,7 +3,7 @@ use Prim.Native.Nat.{ℕ}
 use mathlib.Core.List.{List}
 use mathlib.Core.Path.{_≡_, refl, ap, _∙_}
 use lib.ListN.{length}
-use Rattle.rules.specs.Bytes.{IsBytes, onBytes, openBytes, stepBytes, unpack, wordsOfBytes}
+use Rattle.rules.specs.Bytes.{IsBytes, onBytes, openBytes, stepBytes, unpack}
 use Rattle.rules.specs.Hall.{Hall, hallLimits}
 use Rattle.rules.specs.Steps.{Call, Result}
 use Rattle.reply.specs.Answer.{answerOf}

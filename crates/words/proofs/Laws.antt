@@ -2,10 +2,10 @@
 use Prim.Native.Nat.{ℕ, zero, suc, _+_, _-_, _*_, _/_, _%_, _≤_, _<_}
 use native.Mathlib.Nat.{not-suc-le-zero}
 use native.Mathlib.Omega.{arith}
-use mathlib.Core.List.{List, [], _∷_, _++_, append-nil}
+use mathlib.Core.List.{List, [], _∷_, _++_}
 use mathlib.Core.Path.{_≡_, refl, sym, ap, ap₂, _∙_}
 use lib.ListN.{length, getD, set, take, drop}
-use lib.Seq.{length-take-le, drop-at, drop-drop}
+use lib.Seq.{length-take-le, drop-drop}
 use borrow.Rule.Slice.PartMut.{drop-put, midOf, putMid}
 use Rattle.rules.specs.Bytes.{IsBytes, bytesOfWords, overwriteWords, wordsOfBytes}
 use Rattle.rules.specs.laws.bytes.Bytes.{overwrite-back, words-length}

@@ -4,7 +4,7 @@ use mathlib.Core.Path.{refl, sym, ap, _∙_}
 use lib.ListN.{set}
 use borrow.Author.Needs.{needs}
 use Rattle.rules.specs.Bytes.{wordsOfBytes}
-use Rattle.words.proofs.Laws.{length-words, written-as}
+use Rattle.words.proofs.Laws.{length-words}
 use Rattle.reply.specs.Answer.{tableResult}
 use Rattle.reply.specs.declared.Reply.the-variants.{Accepted}
 use Rattle.board.proofs.AdmissionLaws.{admitted}

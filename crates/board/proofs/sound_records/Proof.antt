@@ -6,13 +6,13 @@ use native.Mathlib.Omega.{arith}
 use mathlib.Core.Bool.{true}
 use mathlib.Core.List.{List}
 use mathlib.Core.Path.{_≡_, refl, sym, ap, _∙_}
-use lib.ListN.{length, take, drop}
+use lib.ListN.{take, drop}
 use borrow.Author.Needs.{needs}
 use borrow.Rule.Slice.PartMut.{mid-len}
 use Rattle.rules.specs.Bytes.{wordsOfBytes}
 use Rattle.rules.specs.Lists.{chunks, every}
 use Rattle.rules.specs.Table.{headerWords, recordSound, widthFor}
-use Rattle.words.proofs.Laws.{length-words, words-part}
+use Rattle.words.proofs.Laws.{words-part}
 use Rattle.board.proofs.SoundLaws.{one-bad, one-more, record-at, said-no, said-yes}
 use Rattle.board.proofs.sound_records.Statement.{statement}
 use Rattle.board.proofs.sound_records.Tie as tie

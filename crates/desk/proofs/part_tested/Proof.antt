@@ -2,16 +2,16 @@
 use Prim.Native.Nat.{ℕ, _+_, _-_, _*_, _≤_}
 use native.Mathlib.Omega.{arith}
 use mathlib.Core.List.{List, _++_}
-use mathlib.Core.Path.{_≡_, ap, ap₂, sym, _∙_}
+use mathlib.Core.Path.{_≡_, ap, sym, _∙_}
 use lib.ListN.{length, replicate}
 use borrow.Author.Needs.{needs}
-use borrow.Rule.Slice.PartMut.{mid-len, midOf, putMid, same-len-mid}
+use borrow.Rule.Slice.PartMut.{mid-len, putMid, same-len-mid}
 use Rattle.rules.specs.Bytes.{wordsOfBytes}
 use Rattle.rules.specs.Table.{decodeDesk, encodeDesk, listOffset, markWords, marksOffset}
 use Rattle.rules.specs.laws.bytes.Bytes.{words-are-16, zero-words}
 use Rattle.marks.specs.Marks.{marks, pick}
 use Rattle.words.proofs.Laws.{words-part, words-put}
-use Rattle.desk.proofs.DeskLaws.{Counted, counted, facts, part-stores}
+use Rattle.desk.proofs.DeskLaws.{counted, part-stores}
 use Rattle.desk.proofs.DeskTie.{desk-counts, formed-of, marked-is, parted-encoded, parted-none}
 use Rattle.desk.proofs.part_tested.Statement.{statement}
 use Rattle.desk.proofs.part_tested.Tie as tie
