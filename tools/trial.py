@@ -31,13 +31,23 @@ def judged(run):
     return 'stopped'
 
 
+REFUSAL = re.compile(r'(?:note: )?(\S+?):\d+:\d+: (error|it is not proved)')
+
+
 def first_refusal(run, folder):
     """The file of the crate in which the first refusal falls, and what the prover says there."""
-    for line in (run.stdout + run.stderr).splitlines():
-        found = re.match(r'(?:note: )?(\S+?):\d+:\d+: (error|it is not proved)', line)
-        if found:
-            return found[1].removeprefix(f'{folder}/'), line
+    for file, said in refusals(run, folder).items():
+        return file, said[0]
     return None, ''
+
+
+def refusals(run, folder):
+    """For each file of the crate with a refusal what the prover says there, in its order."""
+    found = {}
+    for line in (run.stdout + run.stderr).splitlines():
+        if refusal := REFUSAL.match(line):
+            found.setdefault(refusal[1].removeprefix(f'{folder}/'), []).append(line)
+    return found
 
 
 @contextlib.contextmanager
