@@ -1,7 +1,5 @@
 //! The three boards: the archive, the one in Rust and the one in C.
 
-use reference::answer;
-
 #[derive(Clone, Copy)]
 pub enum Call {
     Open(u16, u16, u16),
@@ -29,16 +27,53 @@ fn to_archive(call: Call, table: &mut [u8]) -> u32 {
     }
 }
 
+/// The board in Rust behind C functions that are not inlined, as the other two are: so that the
+/// three differ by their code and not by how they are called.
+mod rust {
+    use reference::answer;
+    use std::slice::from_raw_parts_mut;
+
+    macro_rules! calls {
+        ($($name:ident($($number:ident),*);)*) => {
+            $(
+                /// # Safety
+                /// The table points to as many bytes as are said.
+                #[inline(never)]
+                pub unsafe extern "C" fn $name($($number: u16,)* table: *mut u8, bytes: usize) -> u32 {
+                    answer(reference::$name($($number,)* from_raw_parts_mut(table, bytes)))
+                }
+            )*
+        };
+    }
+
+    calls! {
+        open(desks, screens, positions);
+        take(desk, screen, position);
+        drop(desk, screen);
+        swap(desk, position, session);
+        retire(desk);
+        collect(desk);
+    }
+}
+
 #[inline(never)]
 pub fn to_reference(call: Call, table: &mut [u8]) -> u32 {
-    answer(match call {
-        Call::Open(desks, screens, positions) => reference::open(desks, screens, positions, table),
-        Call::Take(desk, screen, position) => reference::take(desk, screen, position, table),
-        Call::Drop(desk, screen) => reference::drop(desk, screen, table),
-        Call::Swap(desk, position, session) => reference::swap(desk, position, session, table),
-        Call::Retire(desk) => reference::retire(desk, table),
-        Call::Collect(desk) => reference::collect(desk, table),
-    })
+    let (bytes, table) = (table.len(), table.as_mut_ptr());
+    // A slice points to as many bytes as it says.
+    unsafe {
+        match call {
+            Call::Open(desks, screens, positions) => {
+                rust::open(desks, screens, positions, table, bytes)
+            }
+            Call::Take(desk, screen, position) => rust::take(desk, screen, position, table, bytes),
+            Call::Drop(desk, screen) => rust::drop(desk, screen, table, bytes),
+            Call::Swap(desk, position, session) => {
+                rust::swap(desk, position, session, table, bytes)
+            }
+            Call::Retire(desk) => rust::retire(desk, table, bytes),
+            Call::Collect(desk) => rust::collect(desk, table, bytes),
+        }
+    }
 }
 
 mod c {
