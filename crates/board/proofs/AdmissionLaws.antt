@@ -4,17 +4,21 @@ use native.Mathlib.Omega.{arith}
 use mathlib.Core.Bool.{Bool, true, false}
 use mathlib.Core.List.{List}
 use mathlib.Core.Path.{_≡_, refl, sym, ap, _∙_}
-use lib.ListN.{length}
+use lib.Dec.{leb}
+use lib.ListN.{drop, length}
+use lib.Seq.{drop-drop}
+use borrow.Author.Tests.{le-leb, leb-true}
 use Rattle.rules.specs.Hall.{Hall, allScreens, hallLimits, maxAllScreens}
+use Rattle.rules.specs.Lists.{chunks, every}
 use Rattle.rules.specs.Steps.{Call, inRange}
-use Rattle.rules.specs.Table.{hallIn, recordStart, recordWidth, sound, startFor, stepTable, widthFor}
+use Rattle.rules.specs.Table.{hallIn, headerWords, inLimits, need, recordSound, recordStart, recordWidth, sound, startFor, stepTable, widthFor}
 use Rattle.rules.specs.laws.history.StepEffects.{in-range}
 use Rattle.rules.specs.laws.table.TableSteps.{Known, asked, known, record-within, refused-step, unsound-step}
 use Rattle.reply.specs.Answer.{tableResult}
-use Rattle.board.specs.Admission.{Admits, admissionOf, locationOf, numbersIn, soundnessOf}
+use Rattle.board.specs.Admission.{Admits, admissionOf, headerOf, locationOf, numbersIn}
 use Rattle.reply.specs.declared.Reply.the-variants.{NoDesk as NoDeskReply, Unsound as NotSoundReply}
 use Rattle.board.specs.declared.Hall.{Hall as Numbers}
-use Rattle.board.specs.declared.Soundness.the-variants.{Sound, Unsound as NotSound}
+use Rattle.board.specs.declared.Header.the-variants.{Broken, Of}
 use Rattle.board.specs.declared.Location.{Location}
 use Rattle.board.specs.declared.Admission.the-variants.{At, NoDesk, Unsound}
 
@@ -22,26 +26,39 @@ use Rattle.board.specs.declared.Admission.the-variants.{At, NoDesk, Unso
 pub next-start : (H : Hall) (d : ℕ) → 1 ≤ d → startFor (H .positions) (allScreens H) d ≡ recordStart H d + recordWidth H
 next-start H d h = let e : d ≡ 1 + (d - 1) = omega arith in ap (startFor (H .positions) (allScreens H)) e ∙ omega arith
 
--- ---- the hall of a sound table
-pub record Found (t : List ℕ) (h : Numbers) : Type 0 where
-  pub yes-sound : sound hallLimits t ≡ true
+-- ---- the hall that a header names, and no hall
+pub record Named (t : List ℕ) (h : Numbers) : Type 0 where
+  pub inside : inLimits hallLimits (hallIn t) ≡ true
+  pub long : need (hallIn t) ≤ length t
   pub is : h ≡ numbersIn t
 
-pub found-sound : {t : List ℕ} {h : Numbers} → Sound h ≡ soundnessOf t → Found t h
-unfolding soundnessOf
-found-sound {t} {h} q = go (sound hallLimits t) refl
+pub named : {t : List ℕ} {h : Numbers} → Of h ≡ headerOf t → Named t h
+unfolding headerOf
+named {t} {h} q = go (inLimits hallLimits (hallIn t)) (leb (need (hallIn t)) (length t)) refl refl
   where
-    go : (b : Bool) → sound hallLimits t ≡ b → Found t h
-    go true e = let z : Sound h ≡ Sound (numbersIn t) = rw e at q in record { yes-sound = e; is = cc }
-    go false e = let z : Sound h ≡ NotSound = rw e at q in let never : _≡_ {A = ℕ} 0 1 = cc in absurd (omega arith)
+    go : (a b : Bool) → inLimits hallLimits (hallIn t) ≡ a → leb (need (hallIn t)) (length t) ≡ b → Named t h
+    go true true e g = let z : Of h ≡ Of (numbersIn t) = rw (e, g) at q in record { inside = e; long = leb-true (need (hallIn t)) (length t) g; is = cc }
+    go true false e g = let z : Of h ≡ Broken = rw (e, g) at q in let never : _≡_ {A = ℕ} 0 1 = cc in absurd (omega arith)
+    go false b e g = let z : Of h ≡ Broken = rw e at q in let never : _≡_ {A = ℕ} 0 1 = cc in absurd (omega arith)
 
-pub found-unsound : (t : List ℕ) → NotSound ≡ soundnessOf t → sound hallLimits t ≡ false
-unfolding soundnessOf
-found-unsound t q = go (sound hallLimits t) refl
+header-broken : (t : List ℕ) → Broken ≡ headerOf t → sound hallLimits t ≡ false
+unfolding headerOf sound
+header-broken t q = go (inLimits hallLimits (hallIn t)) (leb (need (hallIn t)) (length t)) refl refl
   where
-    go : (b : Bool) → sound hallLimits t ≡ b → sound hallLimits t ≡ false
-    go true e = let z : NotSound ≡ Sound (numbersIn t) = rw e at q in let never : _≡_ {A = ℕ} 0 1 = cc in absurd (omega arith)
-    go false e = e
+    go : (a b : Bool) → inLimits hallLimits (hallIn t) ≡ a → leb (need (hallIn t)) (length t) ≡ b → sound hallLimits t ≡ false
+    go true true e g = let z : Broken ≡ Of (numbersIn t) = rw (e, g) at q in let never : _≡_ {A = ℕ} 0 1 = cc in absurd (omega arith)
+    go true false e g = rw (e, g)
+    go false b e g = rw e
+
+-- then the table is sound where the records are
+pub by-records : {t : List ℕ} {h : Numbers} → Named t h
+    → sound hallLimits t ≡ every (recordSound (h .all)) (chunks (h .desks) (widthFor (h .all)) (drop (headerWords + h .positions + h .all) t))
+unfolding sound
+by-records {t} {h} n =
+    let H = hallIn t in
+    let e : headerWords + (H .positions + allScreens H) ≡ headerWords + H .positions + allScreens H = omega arith in
+    rw (n .inside, le-leb (need H) (length t) (n .long), drop-drop (allScreens H) (H .positions), drop-drop, e)
+    (ap (λ (x : Numbers). every (recordSound (x .all)) (chunks (x .desks) (widthFor (x .all)) (drop (headerWords + x .positions + x .all) t))) (sym (n .is)))
 
 -- ---- accepted
 pub record Admitted (t : List ℕ) (desk : ℕ) (p : Location) : Type 0 where
@@ -90,6 +107,9 @@ admits {t} {desk} {p} q = go (sound hallLimits t) (inRange desk (hallIn t .desks
 -- ---- refused: every call asks for its desk first
 no-desk : (t : List ℕ) (c : Call) → inRange (c .desk) (hallIn t .desks) ≡ false → asked t c ≡ 6
 no-desk t c out = rw out
+
+pub refused-header : (t : List ℕ) (c : Call) → Broken ≡ headerOf t → tableResult NotSoundReply t ≡ stepTable hallLimits t c
+refused-header t c q = sym (unsound-step hallLimits t c (header-broken t q))
 
 pub refused-table : (t : List ℕ) (c : Call) → Unsound ≡ admissionOf t (c .desk) → tableResult NotSoundReply t ≡ stepTable hallLimits t c
 unfolding admissionOf

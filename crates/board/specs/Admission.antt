@@ -1,14 +1,16 @@
 -- What every step asks first: is the table sound, is the desk one of the hall; and where the desk's things stand.
 use Prim.Native.Nat.{ℕ, _+_, _-_, _*_}
-use mathlib.Core.Bool.{cond, true}
+use mathlib.Core.Bool.{_&&_, cond, true}
 use mathlib.Core.List.{List}
 use mathlib.Core.Path.{_≡_}
+use lib.Dec.{leb}
+use lib.ListN.{length}
 use Rattle.rules.specs.Hall.{allScreens, hallLimits}
 use Rattle.rules.specs.Steps.{inRange}
-use Rattle.rules.specs.Table.{hallIn, headerWords, recordStart, sound, startFor}
+use Rattle.rules.specs.Table.{hallIn, headerWords, inLimits, need, recordStart, sound, startFor}
 use Rattle.board.specs.declared.Hall.{Hall}
-use Rattle.board.specs.declared.Soundness.{Soundness}
-use Rattle.board.specs.declared.Soundness.the-variants.{Sound, Unsound as NotSound}
+use Rattle.board.specs.declared.Header.{Header}
+use Rattle.board.specs.declared.Header.the-variants.{Broken, Of}
 use Rattle.board.specs.declared.Location.{Location}
 use Rattle.board.specs.declared.Admission.{Admission}
 use Rattle.board.specs.declared.Admission.the-variants.{At, NoDesk, Unsound}
@@ -16,8 +18,9 @@ use Rattle.board.specs.declared.Admission.the-variants.{At, NoDesk, Unso
 abbrev pub numbersIn : List ℕ → Hall
 numbersIn t = let H = hallIn t in record { desks = H .desks; screens = H .screens; positions = H .positions; all = allScreens H }
 
-unfoldable pub soundnessOf : List ℕ → Soundness
-soundnessOf t = cond (sound hallLimits t) (Sound (numbersIn t)) NotSound
+-- "it is long enough, P, c and L are in range": the hall that the header names, or none
+unfoldable pub headerOf : List ℕ → Header
+headerOf t = cond (inLimits hallLimits (hallIn t) && leb (need (hallIn t)) (length t)) (Of (numbersIn t)) Broken
 
 abbrev pub locationOf : List ℕ → ℕ → Location
 locationOf t desk =

@@ -20,7 +20,8 @@ ghost use Rattle.rules.specs.Lists.{chunks, every};
 ghost use Rattle.rules.specs.Steps.{Collect, Drop, Retire, Swap, Take, _sends_, inRange};
 ghost use Rattle.rules.specs.Table.{headerWords, inLimits, maxWords, need as hallNeed, recordSound, startFor, widthFor};
 ghost use Rattle.reply.specs.Answer.{answerOf};
-ghost use Rattle.board.specs.Admission.{Admits, admissionOf, screenFor, soundnessOf};
+ghost use Rattle.board.specs.Admission.{Admits, admissionOf, headerOf, screenFor};
+ghost use Rattle.board.specs.declared.Header.the-variants.{Of};
 ghost use Rattle.board.specs.Opening.{OpeningAnswer};
 ghost use Rattle.board.specs.Results.{Opened, Stepped};
 
@@ -127,41 +128,36 @@ struct Hall {
     pub all: usize,
 }
 
-// Whether a table is sound, and then its hall.
-enum Soundness {
-    Unsound,
-    Sound(Hall),
+// The header of a table: its hall, or none where a number is out of range or the table is too short for the hall.
+enum Header {
+    Broken,
+    Of(Hall),
 }
 
-// Whether a table is sound. Its header is read here, once for a call.
-fn sound_hall(t: &[u8]) -> Soundness
-    ensures { λ r. ⌜ r ≡ soundnessOf (wordsOfBytes (now (t .entry))) ⌝ }
+// Reads the header of a table, once for a call.
+fn read_header(t: &[u8]) -> Header
+    ensures { λ r. ⌜ r ≡ headerOf (wordsOfBytes (now (t .entry))) ⌝ }
 {
     let n = t.len() / 2;
     if n < HEADER {
-        return Soundness::Unsound;
+        return Header::Broken;
     }
     let desks = word(t, DESKS);
     let screens = word(t, SCREENS);
     let positions = word(t, POSITIONS);
     if !in_limits(desks, screens, positions) {
-        return Soundness::Unsound;
+        return Header::Broken;
     }
     if n < Board::need(desks, screens, positions) {
-        return Soundness::Unsound;
+        return Header::Broken;
     }
     let p = desks as usize;
     let c = screens as usize;
-    let l = positions as usize;
-    let s = p * c;
-    if !sound_records(t, p, l, s) {
-        return Soundness::Unsound;
-    }
-    Soundness::Sound(Hall {
+    Header::Of(Hall {
         desks: p,
         screens: c,
-        positions: l,
-        all: s,
+        positions: positions as usize,
+        all: p * c,
     })
 }
 
@@ -182,31 +178,30 @@ enum Admission {
     At(Location),
 }
 
-// What every step asks first: is the table sound, is the desk 1 to P.
-fn admit(t: &[u8], desk: u16) -> Admission
+// What every step asks first: is the table sound, is the desk 1 to P. It requires the hall that the header names.
+fn admit(t: &[u8], hall: Hall, desk: u16) -> Admission
+    requires { ⌜ Of hall ≡ headerOf (wordsOfBytes (now t)) ⌝ }
     ensures { λ r. ⌜ r ≡ admissionOf (wordsOfBytes (now (t .entry))) desk ⌝ }
 {
-    let found = sound_hall(t);
-    match found {
-        Soundness::Unsound => Admission::Unsound,
-        Soundness::Sound(hall) => {
-            if !in_range(desk, hall.desks) {
-                return Admission::NoDesk;
-            }
-            let l = hall.positions;
-            let s = hall.all;
-            let d = desk as usize;
-            let a = record_start(l, s, d - 1);
-            let e = record_start(l, s, d);
-            Admission::At(Location {
-                positions: l,
-                screens: hall.screens,
-                all: s,
-                start: a,
-                end: e,
-            })
-        }
+    let p = hall.desks;
+    let l = hall.positions;
+    let s = hall.all;
+    if !sound_records(t, p, l, s) {
+        return Admission::Unsound;
     }
+    if !in_range(desk, p) {
+        return Admission::NoDesk;
+    }
+    let d = desk as usize;
+    let a = record_start(l, s, d - 1);
+    let e = record_start(l, s, d);
+    Admission::At(Location {
+        positions: l,
+        screens: hall.screens,
+        all: s,
+        start: a,
+        end: e,
+    })
 }
 
 // What the opening of a hall asks, in order, of its three numbers and of the words that the table has.
@@ -273,11 +268,17 @@ fn take_at(t: &mut [u8], desk: u16, location: Location, screen: u16, position: u
 pub fn take(t: &mut [u8], desk: u16, screen: u16, position: u16) -> Reply
     ensures { λ r. ⌜ Stepped (desk sends Take screen position) (now (t .entry)) r (now (t .exit)) ⌝ }
 {
-    let admission = admit(t, desk);
-    match admission {
-        Admission::Unsound => Reply::Unsound,
-        Admission::NoDesk => Reply::NoDesk,
-        Admission::At(location) => take_at(t, desk, location, screen, position),
+    let header = read_header(t);
+    match header {
+        Header::Broken => Reply::Unsound,
+        Header::Of(hall) => {
+            let admission = admit(t, hall, desk);
+            match admission {
+                Admission::Unsound => Reply::Unsound,
+                Admission::NoDesk => Reply::NoDesk,
+                Admission::At(location) => take_at(t, desk, location, screen, position),
+            }
+        }
     }
 }
 
@@ -304,11 +305,17 @@ fn drop_at(t: &mut [u8], desk: u16, location: Location, screen: u16) -> Reply
 pub fn drop(t: &mut [u8], desk: u16, screen: u16) -> Reply
     ensures { λ r. ⌜ Stepped (desk sends Drop screen) (now (t .entry)) r (now (t .exit)) ⌝ }
 {
-    let admission = admit(t, desk);
-    match admission {
-        Admission::Unsound => Reply::Unsound,
-        Admission::NoDesk => Reply::NoDesk,
-        Admission::At(location) => drop_at(t, desk, location, screen),
+    let header = read_header(t);
+    match header {
+        Header::Broken => Reply::Unsound,
+        Header::Of(hall) => {
+            let admission = admit(t, hall, desk);
+            match admission {
+                Admission::Unsound => Reply::Unsound,
+                Admission::NoDesk => Reply::NoDesk,
+                Admission::At(location) => drop_at(t, desk, location, screen),
+            }
+        }
     }
 }
 
@@ -338,11 +345,17 @@ fn swap_at(t: &mut [u8], desk: u16, location: Location, position: u16, session: 
 pub fn swap(t: &mut [u8], desk: u16, position: u16, session: u16) -> Reply
     ensures { λ r. ⌜ Stepped (desk sends Swap position session) (now (t .entry)) r (now (t .exit)) ⌝ }
 {
-    let admission = admit(t, desk);
-    match admission {
-        Admission::Unsound => Reply::Unsound,
-        Admission::NoDesk => Reply::NoDesk,
-        Admission::At(location) => swap_at(t, desk, location, position, session),
+    let header = read_header(t);
+    match header {
+        Header::Broken => Reply::Unsound,
+        Header::Of(hall) => {
+            let admission = admit(t, hall, desk);
+            match admission {
+                Admission::Unsound => Reply::Unsound,
+                Admission::NoDesk => Reply::NoDesk,
+                Admission::At(location) => swap_at(t, desk, location, position, session),
+            }
+        }
     }
 }
 
@@ -360,11 +373,17 @@ fn retire_at(t: &mut [u8], desk: u16, location: Location) -> Reply
 pub fn retire(t: &mut [u8], desk: u16) -> Reply
     ensures { λ r. ⌜ Stepped (desk sends Retire) (now (t .entry)) r (now (t .exit)) ⌝ }
 {
-    let admission = admit(t, desk);
-    match admission {
-        Admission::Unsound => Reply::Unsound,
-        Admission::NoDesk => Reply::NoDesk,
-        Admission::At(location) => retire_at(t, desk, location),
+    let header = read_header(t);
+    match header {
+        Header::Broken => Reply::Unsound,
+        Header::Of(hall) => {
+            let admission = admit(t, hall, desk);
+            match admission {
+                Admission::Unsound => Reply::Unsound,
+                Admission::NoDesk => Reply::NoDesk,
+                Admission::At(location) => retire_at(t, desk, location),
+            }
+        }
     }
 }
 
@@ -391,10 +410,16 @@ fn collect_at(t: &mut [u8], desk: u16, location: Location) -> Reply
 pub fn collect(t: &mut [u8], desk: u16) -> Reply
     ensures { λ r. ⌜ Stepped (desk sends Collect) (now (t .entry)) r (now (t .exit)) ⌝ }
 {
-    let admission = admit(t, desk);
-    match admission {
-        Admission::Unsound => Reply::Unsound,
-        Admission::NoDesk => Reply::NoDesk,
-        Admission::At(location) => collect_at(t, desk, location),
+    let header = read_header(t);
+    match header {
+        Header::Broken => Reply::Unsound,
+        Header::Of(hall) => {
+            let admission = admit(t, hall, desk);
+            match admission {
+                Admission::Unsound => Reply::Unsound,
+                Admission::NoDesk => Reply::NoDesk,
+                Admission::At(location) => collect_at(t, desk, location),
+            }
+        }
     }
 }
