@@ -51,7 +51,7 @@ impl Board {
     // The words that the largest hall needs, and their bytes.
     pub const MAX_WORDS: usize = 2387;
 
-    pub const MAX_BYTES: usize = 4774;
+    pub const MAX_BYTES: usize = 2 * Board::MAX_WORDS;
 
     // The words that a hall needs: 3 + L + S + P times (13 + 2S).
     pub fn need(desks: u16, screens: u16, positions: u16) -> usize

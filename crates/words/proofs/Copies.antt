@@ -1,11 +1,13 @@
 -- Words copied, and words moved up one, word by word.
 use Prim.Native.Nat.{ℕ, _+_, _<_}
+use native.Mathlib.Nat.{not-suc-le-zero}
 use native.Mathlib.Numerals.{add-one}
 use native.Mathlib.Omega.{arith}
 use mathlib.Core.List.{List, [], _∷_, _++_, append-assoc}
-use mathlib.Core.Path.{_≡_, sym, ap, ap₂, _∙_}
+use mathlib.Core.Path.{_≡_, refl, sym, ap, ap₂, _∙_}
 use lib.ListN.{length, getD, take, drop, set, length-drop}
 use lib.Seq.{take-suc-set, take-suc, getD-drop, getD-append-add, take-all, length-take-le, set-at}
+use Rattle.words.specs.Words.{shiftLeft}
 use Rattle.words.proofs.Scan.{ended, rest}
 
 -- one element more at the front of a list that is filled from the front
@@ -44,3 +46,12 @@ move-end l₀ l i h p =
     let r : l ≡ a ++ (getD l₀ i 0 ∷ []) = p ∙ ap (λ (t : List ℕ). a ++ t) (rest l₀ i (omega arith) ∙ ap (λ (t : List ℕ). getD l₀ i 0 ∷ t) e) in
     ap (λ (x : List ℕ). set x i 0) r ∙ set-at a (getD l₀ i 0) [] 0 i la
     ∙ ap (λ (x : List ℕ). x ++ (0 ∷ [])) (take-all i (drop 1 l₀) (omega (arith, length-drop 1 l₀)))
+
+-- a list that has words, moved up
+pub shift-some : (l : List ℕ) → 0 < length l → shiftLeft l ≡ drop 1 l ++ (0 ∷ [])
+shift-some [] h = absurd (not-suc-le-zero h)
+shift-some (x ∷ l) h = refl
+
+pub shift-none : (l : List ℕ) → length l ≡ 0 → l ≡ shiftLeft l
+shift-none [] e = refl
+shift-none (x ∷ l) e = absurd (omega (arith, e))

@@ -1,9 +1,8 @@
 ghost use mathlib.Core.Path.{_≡_};
-ghost use mathlib.Core.List.{[], _∷_, _++_};
 ghost use Prim.Native.Nat.{_+_, _*_, _≤_, _<_};
-ghost use lib.ListN.{length, getD, set, take, drop, replicate};
+ghost use lib.ListN.{length, getD, set, take, replicate};
 ghost use Rattle.rules.specs.Bytes.{wordsOfBytes};
-ghost use Rattle.words.specs.Words.{allZero, lacks as lacksWord};
+ghost use Rattle.words.specs.Words.{allZero, lacks as lacksWord, shiftLeft};
 ghost use Rattle.words.specs.Written.{Written};
 
 // Word i of a table sent as bytes, low byte first.
@@ -76,13 +75,15 @@ pub fn clear(l: &mut [u8])
     }
 }
 
-// The first word leaves, the rest move up one, and 0 comes last.
-// It requires that there is a word.
+// The first word leaves, the rest move up one, and 0 comes last; a part without words stays as it is.
 pub fn shift_left(l: &mut [u8])
-    requires { ⌜ 2 ≤ length (now l) ⌝ }
-    ensures { λ _. ⌜ Written (now (l .entry)) (drop 1 (wordsOfBytes (now (l .entry))) ++ (0 ∷ [])) (now (l .exit)) ⌝ }
+    ensures { λ _. ⌜ Written (now (l .entry)) (shiftLeft (wordsOfBytes (now (l .entry)))) (now (l .exit)) ⌝ }
 {
-    let last = l.len() / 2 - 1;
+    let n = l.len() / 2;
+    if n == 0 {
+        return;
+    }
+    let last = n - 1;
     let mut i = 0;
     while i < last {
         let x = word(l, i + 1);
