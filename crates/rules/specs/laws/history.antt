@@ -2,6 +2,7 @@
 pub mod Actions
 pub mod StepEffects
 pub mod OwedSession
+pub mod Spacing
 pub mod DeskInvariants
 pub mod RunSplitting
 pub mod ScreenIndex

@@ -1,5 +1,5 @@
--- Computed tests from which a history is seen to meet the premises of a theorem.
-use Prim.Native.Nat.{ℕ, zero, suc, _+_, _-_, _≤_}
+-- Computed tests from which a history or a table is seen to meet a statement, or to break it. They use the definitions alone.
+use Prim.Native.Nat.{ℕ, zero, suc, _+_, _-_, _≤_, _<_}
 use native.Mathlib.Omega.{arith}
 use native.Mathlib.Decide.{ℕ-discrete, decLe}
 use mathlib.Core.Path.{_≡_, refl, ap, _∙_, sym, subst}
@@ -7,90 +7,17 @@ use mathlib.Core.Bool.{cond, Bool, true, false, not, _&&_, true≢false}
 use mathlib.Core.List.{List, [], _∷_}
 use lib.ListN.{getD}
 use lib.Dec.{eqb, ltb}
-use borrow.Author.Tests.{eq-eqb, eqb-false, eqb-true, ltb-true, not-true}
-use Rattle.rules.specs.Bytes.{Words16}
+use borrow.Author.Tests.{eq-eqb, eqb-false, eqb-true, lt-ltb, ltb-true, not-true}
 use Rattle.rules.specs.Closing.{PutFresh, Unreferenced, putAt}
 use Rattle.rules.specs.Demands.{listOfDesk}
 use Rattle.rules.specs.Hall.{Hall}
-use Rattle.rules.specs.History.{Action, CollectsBetweenRetires, Effect, Unshown, _by_, actionsBy, byDesk, collects, drops, effectAt, effectOf, handsBack}
-use Rattle.rules.specs.History.{isCollect, isRetireAttempt, noAction, outOfRoom, retires, swaps, takes}
+use Rattle.rules.specs.History.{Action, DroppedBefore, Effect, Linked, NextRetire, NextSwap, Unshown, _by_, collects, drops, effectAt, effectOf, handsBack}
+use Rattle.rules.specs.History.{noAction, outOfRoom, retires, swaps, takes}
 use Rattle.rules.specs.Lists.{every, occurrences, toNat}
 use Rattle.rules.specs.Steps.{Event}
 use Rattle.rules.specs.Table.{owedOffset, positionWord, recordOf}
-use Rattle.rules.specs.laws.history.DeskInvariants.{CollectBefore, Spaced}
-use Rattle.rules.specs.laws.lists.Bools.{and-left, and-right}
+use Rattle.rules.specs.laws.lists.Bools.{and-left, and-right, and-true}
 use Rattle.rules.specs.laws.lists.Lists.{indicator, indicator-same}
-
--- ---- A collect between any two retires.
-abbrev pub collectsBetween : Bool → List Action → Bool
-collectsBetween pending [] = true
-collectsBetween pending (action ∷ actions) =
-    cond (isRetireAttempt action) (not pending && collectsBetween true actions)
-    (cond (isCollect action) (collectsBetween false actions) (collectsBetween pending actions))
-
-module _ (d : ℕ) where
-  -- what holds of the later events, with one more before them
-  later-collect : (e : Event) (es : List Event) (j : ℕ) → CollectBefore d es j → CollectBefore d (e ∷ es) (suc j)
-  later-collect e es j c = record { index = suc (c .index); before = omega (arith, c .before); here = c .here }
-
-  later-between : (e : Event) (es : List Event) → CollectsBetweenRetires (effectAt es) d
-      → ((j : ℕ) → isRetireAttempt (byDesk d (effectAt (e ∷ es) 0)) ≡ true → isRetireAttempt (byDesk d (effectAt es j)) ≡ true → CollectBefore d es j)
-      → CollectsBetweenRetires (effectAt (e ∷ es)) d
-  later-between e es between first zero zero l a b = absurd (omega arith)
-  later-between e es between first (suc i) zero l a b = absurd (omega arith)
-  later-between e es between first zero (suc j) l a b =
-      let c = first j a b in record { index = suc (c .index); after = omega arith; before = omega (arith, c .before); here = c .here }
-  later-between e es between first (suc i) (suc j) l a b =
-      let c = between i j (omega arith) a b in
-      record { index = suc (c .index); after = omega (arith, c .after); before = omega (arith, c .before); here = c .here }
-
-  -- an empty history has no retire
-  none-in-empty : isRetireAttempt (byDesk d (noAction by 0)) ≡ true → ⊥
-  none-in-empty q = by-desk (eqb 0 d) q
-    where
-      by-desk : (b : Bool) → isRetireAttempt (cond b noAction noAction) ≡ true → ⊥
-      by-desk true q = true≢false (sym q)
-      by-desk false q = true≢false (sym q)
-
-  spaced-by-test : (es : List Event) (f : Bool) → collectsBetween f (actionsBy d es) ≡ true → Spaced d f es
-  spaced-by-test [] f q = record {
-    between = λ i j l a b. absurd (none-in-empty a);
-    since = λ q j a. absurd (none-in-empty a);
-  }
-  spaced-by-test (e ∷ es) f q =
-      by-cases (isRetireAttempt (byDesk d (effectAt (e ∷ es) 0))) (isCollect (byDesk d (effectAt (e ∷ es) 0))) refl refl f q (spaced-by-test es)
-    where
-      by-cases : (a c : Bool) → isRetireAttempt (byDesk d (effectAt (e ∷ es) 0)) ≡ a → isCollect (byDesk d (effectAt (e ∷ es) 0)) ≡ c → (f : Bool)
-          → cond a (not f && collectsBetween true (actionsBy d es)) (cond c (collectsBetween false (actionsBy d es)) (collectsBetween f (actionsBy d es))) ≡ true
-          → ((f : Bool) → collectsBetween f (actionsBy d es) ≡ true → Spaced d f es) → Spaced d f (e ∷ es)
-      by-cases true c at ct true q ih = absurd (true≢false (cc))
-      by-cases true c at ct false q ih =
-          let s = ih true q in
-          record {
-            between = later-between e es (s .between) (λ j x y. s .since refl j y);
-            since = λ z. absurd (true≢false (cc));
-          }
-      by-cases false true at ct f q ih =
-          let s = ih false q in
-          record { between = later-between e es (s .between) (λ j x y. absurd (true≢false (cc))); since = since }
-        where
-          since : f ≡ true → (j : ℕ) → isRetireAttempt (byDesk d (effectAt (e ∷ es) j)) ≡ true → CollectBefore d (e ∷ es) j
-          since z zero x = absurd (true≢false (cc))
-          since z (suc j) x = record { index = 0; before = omega arith; here = ct }
-      by-cases false false at ct f q ih =
-          let s = ih f q in
-          record {
-            between = later-between e es (s .between) (λ j x y. absurd (true≢false (cc)));
-            since = since (s .since);
-          }
-        where
-          since : (f ≡ true → (j : ℕ) → isRetireAttempt (byDesk d (effectAt es j)) ≡ true → CollectBefore d es j) → f ≡ true → (j : ℕ)
-              → isRetireAttempt (byDesk d (effectAt (e ∷ es) j)) ≡ true → CollectBefore d (e ∷ es) j
-          since s z zero x = absurd (true≢false (cc))
-          since s z (suc j) x = later-collect e es j (s z j x)
-
-  pub collects-between-retires : (es : List Event) → collectsBetween false (actionsBy d es) ≡ true → CollectsBetweenRetires (effectAt es) d
-  collects-between-retires es q = spaced-by-test es false q .between
 
 -- ---- The indices of the actions that pass a test, from index n on.
 abbrev pub indicesWhere : (Action → Bool) → ℕ → List Event → List ℕ
@@ -145,21 +72,39 @@ one-of-two P test none es r r′ q p p′ m t = by-cases (decLe 1 (indicator m r
     by-cases (yes h) = subst P (sym (listed-is m r h)) p
     by-cases (no h) = subst P (sym (listed-is m r′ (omega (arith, index-among test none es (r ∷ r′ ∷ []) q m t)))) p′
 
+-- ---- An effect as numbers, so that two effects are told apart by computing: its kind, its desk, and what its action names.
+abbrev actionParts : ℕ → Action → List ℕ
+actionParts d (takes c p session) = 1 ∷ d ∷ c ∷ p ∷ session ∷ []
+actionParts d (drops c) = 2 ∷ d ∷ c ∷ []
+actionParts d (swaps p) = 3 ∷ d ∷ p ∷ []
+actionParts d (retires session) = 4 ∷ d ∷ session ∷ []
+actionParts d outOfRoom = 5 ∷ d ∷ []
+actionParts d collects = 6 ∷ d ∷ []
+actionParts d (handsBack session) = 7 ∷ d ∷ session ∷ []
+actionParts d noAction = 8 ∷ d ∷ []
+
+abbrev pub part : ℕ → Effect → ℕ
+part i effect = getD (actionParts (effect .desk) (effect .action)) i 0
+
+-- an accepted take of session s onto desk d's screen c, and an accepted drop of that screen
+abbrev pub isTakeOn : ℕ → ℕ → ℕ → Effect → Bool
+isTakeOn d c s effect = eqb (part 0 effect) 1 && (eqb (part 1 effect) d && (eqb (part 2 effect) c && eqb (part 4 effect) s))
+
+abbrev pub isDropOf : ℕ → ℕ → Effect → Bool
+isDropOf d c effect = eqb (part 0 effect) 2 && (eqb (part 1 effect) d && eqb (part 2 effect) c)
+
+-- an accepted swap at position p, and an accepted retire by desk d
+abbrev pub isSwapAt : ℕ → Effect → Bool
+isSwapAt p effect = eqb (part 0 effect) 3 && eqb (part 2 effect) p
+
+abbrev pub isRetireBy : ℕ → Effect → Bool
+isRetireBy d effect = eqb (part 0 effect) 4 && eqb (part 1 effect) d
+
+-- an accepted take of session s onto any screen
 abbrev pub isTakeOf : ℕ → Action → Bool
-isTakeOf s (takes c p session) = eqb s session
-isTakeOf s (drops c) = false
-isTakeOf s (swaps p) = false
-isTakeOf s (retires session) = false
-isTakeOf s outOfRoom = false
-isTakeOf s collects = false
-isTakeOf s (handsBack session) = false
-isTakeOf s noAction = false
+isTakeOf s action = eqb (part 0 (action by 0)) 1 && eqb (part 4 (action by 0)) s
 
--- a session that is never taken is never shown
-pub never-shown : (s : ℕ) (es : List Event) → indicesWhere (isTakeOf s) 0 es ≡ [] → (from upTo : ℕ) → Unshown (effectAt es) s from upTo
-never-shown s es q from upTo n d c a b shows = nowhere (isTakeOf s) refl es q (shows .takenAt) (ap (λ (e : Effect). isTakeOf s (e .action)) (shows .take) ∙ eq-eqb s s refl)
-
--- ---- Sessions that are unreferenced, and put only then.
+-- ---- Indices up to one, and between two.
 -- Do all of 1 to n pass a test?
 abbrev everyUpTo : ℕ → (ℕ → Bool) → Bool
 everyUpTo zero test = true
@@ -173,6 +118,63 @@ up-to (suc n) test q p l m = by-last (ℕ-discrete p (suc n)) (up-to n test (and
     by-last (yes t) earlier = ap test t ∙ and-left (test (suc n)) (everyUpTo n test) q
     by-last (no t) earlier = earlier (omega arith)
 
+-- Does no index between i and j pass a test?
+abbrev pub noneBetween : (ℕ → Bool) → ℕ → ℕ → Bool
+noneBetween test i j = everyUpTo j (λ m. not (ltb i m && (ltb m j && test m)))
+
+pub none-between : (test : ℕ → Bool) (i j : ℕ) → noneBetween test i j ≡ true → (m : ℕ) → i < m → m < j → test m ≡ true → ⊥
+none-between test i j none m after before passes =
+    let here = up-to j (λ m. not (ltb i m && (ltb m j && test m))) none m (omega arith) (omega arith) in
+    let all = and-true (ltb i m) (ltb m j && test m) (lt-ltb i m after) (and-true (ltb m j) (test m) (lt-ltb m j before) passes) in
+    true≢false (sym all ∙ not-true _ here)
+
+-- ---- Links and drops.
+
+-- Two indices, neither before the other.
+unordered : (j k : ℕ) → (j < k → ⊥) → (k < j → ⊥) → j ≡ k
+unordered j k not-before not-after = by-order (decLe (suc j) k) (decLe (suc k) j)
+  where
+    by-order : Dec (suc j ≤ k) → Dec (suc k ≤ j) → j ≡ k
+    by-order (yes before) after = absurd (not-before before)
+    by-order (no here) (yes after) = absurd (not-after after)
+    by-order (no here) (no there) = omega arith
+
+pub next-swap-is-unique : (f : ℕ → Effect) (i p d j e k : ℕ) → NextSwap f i p d j → NextSwap f i p e k → j ≡ k
+next-swap-is-unique f i p d j e k one other =
+    unordered j k (λ before. other .first j d (one .later) before (one .here)) (λ after. one .first k e (other .later) after (other .here))
+
+pub next-retire-is-unique : (f : ℕ → Effect) (j d s r s′ r′ : ℕ) → NextRetire f j d s r → NextRetire f j d s′ r′ → r ≡ r′
+next-retire-is-unique f j d s r s′ r′ one other =
+    unordered r r′ (λ before. other .first r s (one .later) before (one .here)) (λ after. one .first r′ s′ (other .later) after (other .here))
+
+-- A take is linked to one retirement.
+pub link-is-unique : (f : ℕ → Effect) (i r r′ : ℕ) → Linked f i r → Linked f i r′ → r ≡ r′
+link-is-unique f i r r′ one other =
+    let position : one .position ≡ other .position = sym (ap (part 3) (one .take)) ∙ ap (part 3) (other .take) in
+    let moved = subst (λ (p : ℕ). NextSwap f i p (one .swapper) (one .swapAt)) position (one .swap) in
+    let swapAt = next-swap-is-unique f i (other .position) (one .swapper) (one .swapAt) (other .swapper) (other .swapAt) moved (other .swap) in
+    let swapper : one .swapper ≡ other .swapper = sym (ap (part 1) (one .swap .here)) ∙ ap (λ (j : ℕ). part 1 (f j)) swapAt ∙ ap (part 1) (other .swap .here) in
+    next-retire-is-unique f (other .swapAt) (other .swapper) (one .session) r (other .session) r′
+    (subst (λ (d : ℕ). NextRetire f (other .swapAt) d (one .session) r) swapper (subst (λ (j : ℕ). NextRetire f j (one .swapper) (one .session) r) swapAt (one .retire)))
+    (other .retire)
+
+-- A take is not dropped before an index where no drop of its screen stands between.
+pub not-dropped : (f : ℕ → Effect) (i h d c p s : ℕ) → f i ≡ takes c p s by d → noneBetween (λ m. isDropOf d c (f m)) i h ≡ true → DroppedBefore f i h → ⊥
+not-dropped f i h d c p s take none dropped =
+    let desk : dropped .desk ≡ d = sym (ap (part 1) (dropped .take)) ∙ ap (part 1) take in
+    let screen : dropped .screen ≡ c = sym (ap (part 2) (dropped .take)) ∙ ap (part 2) take in
+    let here : f (dropped .dropAt) ≡ drops c by d = subst (λ (x : ℕ). f (dropped .dropAt) ≡ drops c by x) desk (subst (λ (x : ℕ). f (dropped .dropAt) ≡ drops x by dropped .desk) screen (dropped .drop .here)) in
+    none-between (λ m. isDropOf d c (f m)) i h none (dropped .dropAt) (dropped .drop .later) (dropped .before)
+    (ap (isDropOf d c) here ∙ and-true (eqb d d) (eqb c c) (eq-eqb d d refl) (eq-eqb c c refl))
+
+-- ---- What a screen shows.
+
+-- a session that is never taken is never shown
+pub never-shown : (s : ℕ) (es : List Event) → indicesWhere (isTakeOf s) 0 es ≡ [] → (from upTo : ℕ) → Unshown (effectAt es) s from upTo
+never-shown s es none from upTo n d c a b shows =
+    nowhere (isTakeOf s) refl es none (shows .takenAt) (ap (λ (e : Effect). isTakeOf s (e .action)) (shows .take) ∙ eq-eqb s s refl)
+
+-- ---- Sessions that are unreferenced, and put only then.
 abbrev isOther : ℕ → ℕ → Bool
 isOther s x = not (eqb x s)
 
@@ -214,8 +216,8 @@ put-fresh-by-test hall history tables s h q i l put =
     ∙ ap (λ (n : ℕ). cond (eqb (putAt history n) s) (isUnreferenced hall (tables n) s) true) (sym back)
     ∙ passed)
 
--- ---- Words of 16 bits.
-pub words16-by-test : (table : List ℕ) → every (λ word. ltb word 65536) table ≡ true → Words16 table
-words16-by-test [] q i = omega arith
-words16-by-test (word ∷ words) q zero = ltb-true word 65536 (and-left (ltb word 65536) (every (λ word. ltb word 65536) words) q)
-words16-by-test (word ∷ words) q (suc i) = words16-by-test words (and-right (ltb word 65536) (every (λ word. ltb word 65536) words) q) i
+-- ---- Every element is below a bound: the words of a table, and bytes.
+pub each-below : (n : ℕ) (xs : List ℕ) → every (λ x. ltb x (suc n)) xs ≡ true → (i : ℕ) → getD xs i 0 < suc n
+each-below n [] q i = omega arith
+each-below n (x ∷ xs) q zero = ltb-true x (suc n) (and-left (ltb x (suc n)) (every (λ x. ltb x (suc n)) xs) q)
+each-below n (x ∷ xs) q (suc i) = each-below n xs (and-right (ltb x (suc n)) (every (λ x. ltb x (suc n)) xs) q) i

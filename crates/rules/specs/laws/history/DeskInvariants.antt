@@ -18,22 +18,13 @@ use Rattle.rules.specs.laws.desk.HandBack.{Due, due-collect, due-end, du
 use Rattle.rules.specs.laws.desk.Room.{Room, collect-room, owe-room, retire-room}
 use Rattle.rules.specs.laws.desk.Sound.{Sound, collect-sound, retire-sound, sound-orderly, sound-owe}
 use Rattle.rules.specs.laws.history.Actions.{by-own-desk, same-action}
+use Rattle.rules.specs.laws.history.Spacing.{CollectBefore, Spaced}
 use Rattle.rules.specs.laws.history.StepEffects.{Collects, DeskChangeIn, OutOfRoom, Same, desk-change, effectIn, formed-step}
 use Rattle.rules.specs.laws.lists.Lists.{indicator, indicator-other, one-if-le}
 
 -- ---- A collect between any two retires. Has the desk tried to retire since its last collect?
 abbrev pending : Bool → Action → Bool
 pending f a = cond (isRetireAttempt a) true (cond (isCollect a) false f)
-
-pub record CollectBefore (d : ℕ) (es : List Event) (j : ℕ) : Type 0 where
-  pub index : ℕ
-  pub before : index < j
-  pub here : isCollect (byDesk d (effectAt es index)) ≡ true
-
--- The desk collects between its retires in these events, and, if it has a retire pending, collects before the next one.
-pub record Spaced (d : ℕ) (f : Bool) (es : List Event) : Type 0 where
-  pub between : CollectsBetweenRetires (effectAt es) d
-  pub since : f ≡ true → (j : ℕ) → isRetireAttempt (byDesk d (effectAt es j)) ≡ true → CollectBefore d es j
 
 -- of the events after the first
 spaced-next : (d : ℕ) (f : Bool) (e : Event) (es : List Event) → Spaced d f (e ∷ es) → Spaced d (pending f (byDesk d (effectAt (e ∷ es) 0))) es

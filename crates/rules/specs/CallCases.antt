@@ -1,0 +1,294 @@
+-- What the statements about one call admit and what they refuse, by computation: demand 1, widths, words and bytes, locality. For each
+-- field of each statement there is a result that this field alone refuses. No theorem is used here.
+use Prim.Native.Nat.{ℕ, zero, suc}
+use native.Mathlib.Omega.{arith}
+use mathlib.Core.Path.{_≡_, refl, ap}
+use mathlib.Core.Bool.{Bool, true, false, cond}
+use mathlib.Core.List.{List, [], _∷_, _++_, map}
+use lib.ListN.{getD, replicate}
+use lib.Dec.{eqb, ltb}
+use Rattle.rules.specs.Bytes.{Agrees, Call16, Calls16, IsBytes, Words16, bytesOfWords, openBytes, overwriteWords, pack, stepBytes, unpack, wordsOfBytes}
+use Rattle.rules.specs.Cases.{ok, refusedWith}
+use Rattle.rules.specs.Demands.{Demand1, footprint, onBytesOf, openingFootprint, openingRefusals, refusals}
+use Rattle.rules.specs.Hall.{Desk, Formed, Hall, Limits, State, emptyDesk, hallLimits, hallOf, marked, unmarked}
+use Rattle.rules.specs.Locality.{OthersStay, SameView, StepsAlike, deskAt, namedWords, positionAt, screenAt, screensRead, writesPosition, writesScreen}
+use Rattle.rules.specs.Steps.{Answer, Call, Collect, Drop, Result, Retire, Step, Swap, Take, _sends_, accept, refuse, step}
+use Rattle.rules.specs.Table.{decodeDesk, encodeDesk, openTable, recordSound, sound, stepTable}
+use Rattle.rules.specs.laws.history.Checks.{each-below}
+
+-- ---- Demand 1. "an accepted call writes only the words its step names"
+
+-- the numbers below n that pass a test, in order
+abbrev below : ℕ → (ℕ → Bool) → List ℕ
+below zero test = []
+below (suc n) test = below n test ++ cond (test n) (n ∷ []) []
+
+-- 2 desks with 2 screens each and 2 positions: S = 4, and desk 2's record of 21 words starts at word 30. Position 2 holds 5; desk 2 owes 9
+-- and has 8 ready.
+abbrev twoByTwo : List ℕ
+twoByTwo = (2 ∷ 2 ∷ 2 ∷ 0 ∷ 5 ∷ 0 ∷ 0 ∷ 0 ∷ 6 ∷ []) ++ (replicate 21 0 ++ ((9 ∷ 0 ∷ 1 ∷ replicate 10 0) ++ (8 ∷ replicate 7 0)))
+
+-- the words that a call of desk 2 names
+abbrev named : Step → List ℕ
+named step = below 60 (footprint twoByTwo (2 sends step))
+
+-- take and drop, the one screen; swap, the position, and the owed word only where the position holds a session; retire, the owed word, the
+-- count of waiting and the first unused slot; collect, all of the record but the owed word
+pub words-named :
+    map named (Take 1 2 ∷ Drop 2 ∷ Swap 1 7 ∷ Swap 2 7 ∷ Retire ∷ [])
+    ≡ (7 ∷ []) ∷ (8 ∷ []) ∷ (3 ∷ []) ∷ (4 ∷ 30 ∷ []) ∷ (30 ∷ 34 ∷ 44 ∷ []) ∷ []
+words-named = refl
+
+pub words-named-by-collect : named Collect ≡ below 51 (λ i. ltb 30 i)
+words-named-by-collect = refl
+
+-- those of an opening: all up to the need, 20
+pub words-named-by-opening : below 60 (openingFootprint (hallOf 1 1 1)) ≡ below 20 (λ i. true)
+words-named-by-opening = refl
+
+-- the bytes of word 2, of five words and an odd byte; the odd byte is of no word
+pub bytes-named : (below 20 (onBytesOf (replicate 11 7) (eqb 2)) ≡ 4 ∷ 5 ∷ []) × (below 20 (onBytesOf (replicate 11 7) (eqb 5)) ≡ [])
+bytes-named = (refl, refl)
+
+-- The numbers of each step's refusals and of the opening's.
+pub refusal-numbers :
+    map (λ (step : Step). refusals (2 sends step)) (Take 1 2 ∷ Drop 2 ∷ Swap 1 7 ∷ Retire ∷ Collect ∷ [])
+    ≡ (5 ∷ 6 ∷ 7 ∷ 8 ∷ 9 ∷ 10 ∷ []) ∷ (5 ∷ 6 ∷ 7 ∷ 11 ∷ []) ∷ (5 ∷ 6 ∷ 8 ∷ 12 ∷ []) ∷ (5 ∷ 6 ∷ 13 ∷ 14 ∷ []) ∷ (5 ∷ 6 ∷ []) ∷ []
+refusal-numbers = refl
+
+pub opening-refusal-numbers : openingRefusals ≡ 1 ∷ 2 ∷ 3 ∷ 4 ∷ []
+opening-refusal-numbers = refl
+
+-- Results of a take that demand 1 refuses. It may give 5 to 10, and may write word 1 of these four.
+abbrev TakeDemand1 : Result (List ℕ) → Type 0
+TakeDemand1 = Demand1 (refusals (1 sends Take 1 1)) (eqb 1) (4 ∷ 5 ∷ 6 ∷ 7 ∷ [])
+
+-- a number that is not the step's; a session beside the number; a word written; accepted, a word written that is not named; a table of
+-- another length
+pub demand-1-refuses :
+    (TakeDemand1 (refuse 11 (4 ∷ 5 ∷ 6 ∷ 7 ∷ [])) → ⊥)
+    × (TakeDemand1 (record { answer = record { number = 5; session = 9 }; after = 4 ∷ 5 ∷ 6 ∷ 7 ∷ [] }) → ⊥)
+    × (TakeDemand1 (refuse 5 (4 ∷ 9 ∷ 6 ∷ 7 ∷ [])) → ⊥)
+    × (TakeDemand1 (accept 9 (4 ∷ 5 ∷ 9 ∷ 7 ∷ [])) → ⊥)
+    × (TakeDemand1 (accept 9 (4 ∷ 9 ∷ 6 ∷ 7 ∷ 0 ∷ [])) → ⊥)
+demand-1-refuses = (
+  λ demand. omega (arith, demand .refused 10 refl .0),
+  λ demand. omega (arith, demand .refused 4 refl .1),
+  λ demand. omega (arith, ap (λ (after : List ℕ). getD after 1 0) (demand .refused 4 refl .2)),
+  λ demand. omega (arith, demand .accepted refl 2 refl),
+  λ demand. omega (arith, demand .sameLength),
+)
+
+-- ---- Widths.
+
+-- "Every number in a call is 16 bits wide": 65,535 is, 65,536 is not, in any field of any step, and in any call of a list.
+abbrev widest : List Call
+widest = 65535 sends Take 65535 65535 ∷ 65535 sends Drop 65535 ∷ 65535 sends Swap 65535 65535 ∷ 65535 sends Retire ∷ 65535 sends Collect ∷ []
+
+pub widest-calls : Calls16 widest
+widest-calls =
+    ((omega arith, (omega arith, omega arith)), ((omega arith, omega arith), ((omega arith, (omega arith, omega arith)), ((omega arith, tt), ((omega arith, tt), tt)))))
+
+pub too-wide :
+    (Call16 (65536 sends Collect) → ⊥) × (Call16 (1 sends Take 65536 1) → ⊥) × (Call16 (1 sends Take 1 65536) → ⊥) × (Call16 (1 sends Drop 65536) → ⊥)
+    × (Call16 (1 sends Swap 65536 1) → ⊥) × (Call16 (1 sends Swap 1 65536) → ⊥) × (Calls16 (1 sends Collect ∷ 65536 sends Collect ∷ []) → ⊥)
+too-wide = (
+  λ call. omega (arith, call .0),
+  λ call. omega (arith, call .1 .0),
+  λ call. omega (arith, call .1 .1),
+  λ call. omega (arith, call .1),
+  λ call. omega (arith, call .1 .0),
+  λ call. omega (arith, call .1 .1),
+  λ calls. omega (arith, calls .1 .0 .0),
+)
+
+-- words of 16 bits, and bytes
+pub width-of-words : Words16 (0 ∷ 65535 ∷ []) × (Words16 (0 ∷ 65536 ∷ []) → ⊥) × IsBytes (0 ∷ 255 ∷ []) × (IsBytes (0 ∷ 256 ∷ []) → ⊥)
+width-of-words = (
+  each-below 65535 (0 ∷ 65535 ∷ []) refl,
+  λ words. omega (arith, words 1),
+  each-below 255 (0 ∷ 255 ∷ []) refl,
+  λ bytes. omega (arith, bytes 1),
+)
+
+-- ---- Bytes. "two to a word, low byte first; an odd last byte is not part of the table"
+pub low-byte-first :
+    (wordsOfBytes (0x2C ∷ 0x01 ∷ 0xFF ∷ 0xFF ∷ 0x07 ∷ []) ≡ 300 ∷ 65535 ∷ [])
+    × (bytesOfWords (300 ∷ 65535 ∷ []) ≡ 0x2C ∷ 0x01 ∷ 0xFF ∷ 0xFF ∷ [])
+    × (overwriteWords (300 ∷ []) (9 ∷ 9 ∷ 8 ∷ 8 ∷ 7 ∷ []) ≡ 0x2C ∷ 0x01 ∷ 8 ∷ 8 ∷ 7 ∷ [])
+unfolding overwriteWords
+low-byte-first = (refl, refl, refl)
+
+-- "the reply number times 65,536, plus the session"
+pub packed-answers : (pack (record { number = 6; session = 300 }) ≡ 393516) × (unpack 393516 ≡ record { number = 6; session = 300 })
+packed-answers = (refl, refl)
+
+-- A hall of 1, 1, 1 in 41 bytes: opened, and then with 300 at position 1. The odd last byte stays.
+abbrev oneDesk : ℕ → ℕ → List ℕ
+oneDesk low high = (1 ∷ 0 ∷ 1 ∷ 0 ∷ 1 ∷ 0 ∷ low ∷ high ∷ replicate 32 0) ++ (9 ∷ [])
+
+pub opening-bytes : openBytes hallLimits (hallOf 1 1 1) (replicate 41 9) ≡ accept 0 (oneDesk 0 0)
+unfolding openBytes openTable overwriteWords
+opening-bytes = refl
+
+pub swap-bytes : stepBytes hallLimits (oneDesk 0 0) (1 sends Swap 1 300) ≡ accept 0 (oneDesk 0x2C 0x01)
+unfolding stepBytes stepTable overwriteWords sound recordSound encodeDesk decodeDesk
+swap-bytes = refl
+
+-- A call on bytes agrees with the call on words, `accept 7 (3 ∷ 2 ∷ [])` on two words and an odd byte.
+abbrev AgreesWith : Result (List ℕ) → Result (List ℕ) → Type 0
+AgreesWith = Agrees (1 ∷ 0 ∷ 2 ∷ 0 ∷ 9 ∷ [])
+
+pub agrees : AgreesWith (accept 7 (3 ∷ 0 ∷ 2 ∷ 0 ∷ 9 ∷ [])) (accept 7 (3 ∷ 2 ∷ []))
+agrees = record {
+  answer = refl;
+  packs = refl;
+  words = refl;
+  areBytes = each-below 255 (3 ∷ 0 ∷ 2 ∷ 0 ∷ 9 ∷ []) refl;
+  sameLength = refl;
+  lastByte = refl;
+}
+
+-- not with another answer; not with one that 32 bits do not hold; not with other words; not with what are no bytes; not with another odd
+-- byte; and not with fewer bytes
+pub agrees-refuses :
+    (AgreesWith (accept 8 (3 ∷ 0 ∷ 2 ∷ 0 ∷ 9 ∷ [])) (accept 7 (3 ∷ 2 ∷ [])) → ⊥)
+    × (AgreesWith (accept 70000 (3 ∷ 0 ∷ 2 ∷ 0 ∷ 9 ∷ [])) (accept 70000 (3 ∷ 2 ∷ [])) → ⊥)
+    × (AgreesWith (accept 7 (4 ∷ 0 ∷ 2 ∷ 0 ∷ 9 ∷ [])) (accept 7 (3 ∷ 2 ∷ [])) → ⊥)
+    × (AgreesWith (accept 7 (300 ∷ 0 ∷ 2 ∷ 0 ∷ 9 ∷ [])) (accept 7 (300 ∷ 2 ∷ [])) → ⊥)
+    × (AgreesWith (accept 7 (3 ∷ 0 ∷ 2 ∷ 0 ∷ 8 ∷ [])) (accept 7 (3 ∷ 2 ∷ [])) → ⊥)
+    × (Agrees (1 ∷ 0 ∷ 2 ∷ 0 ∷ []) (accept 7 (3 ∷ 0 ∷ [])) (accept 7 (3 ∷ [])) → ⊥)
+agrees-refuses = (
+  λ both. omega (arith, ap (λ (answer : Answer). answer .session) (both .answer)),
+  λ both. omega (arith, ap (λ (answer : Answer). answer .session) (both .packs)),
+  λ both. omega (arith, ap (λ (words : List ℕ). getD words 0 0) (both .words)),
+  λ both. omega (arith, both .areBytes 0),
+  λ both. omega (arith, ap (λ (rest : List ℕ). getD rest 0 0) (both .lastByte)),
+  λ both. omega (arith, both .sameLength),
+)
+
+-- ---- A board may have smaller limits than the hall's: at most 4 desks, with one screen each.
+abbrev fourDesks : Limits
+fourDesks = record {
+  desks = 4;
+  screens = 1;
+  positions = 64;
+  fewDesks = omega arith;
+  fewScreens = omega arith;
+  fewPositions = omega arith;
+}
+
+-- It opens 4 desks and not 5; and the table of 5 that another board opened is not sound for it.
+abbrev answersOf : Limits → List Answer
+answersOf limits =
+    let five = openTable hallLimits (hallOf 5 1 1) (replicate 124 9) .after in
+    openTable limits (hallOf 4 1 1) (replicate 92 9) .answer ∷ openTable limits (hallOf 5 1 1) (replicate 124 9) .answer ∷ stepTable limits five (1 sends Collect) .answer ∷ []
+
+pub smaller-limits : (answersOf fourDesks ≡ ok 0 ∷ refusedWith 1 ∷ refusedWith 5 ∷ []) × (answersOf hallLimits ≡ ok 0 ∷ ok 0 ∷ ok 0 ∷ [])
+unfolding openTable stepTable sound recordSound encodeDesk decodeDesk
+smaller-limits = (refl, refl)
+
+-- ---- Locality. What a call sees, in a hall of 2 desks with 2 screens each and 2 positions.
+abbrev pub deskWith : ℕ → List ℕ → Desk
+deskWith owed waiting = record { owed = owed; scanned = 0; ready = []; tested = []; waiting = waiting }
+
+abbrev wide : Hall
+wide = hallOf 2 2 2
+
+abbrev wideState : State
+wideState = record { held = 7 ∷ 8 ∷ []; shown = 1 ∷ 2 ∷ 3 ∷ 4 ∷ []; desks = deskWith 5 [] ∷ deskWith 6 (9 ∷ []) ∷ [] }
+
+-- a desk, a screen and a position that the hall has, and those on either side that it has not
+pub seen-parts :
+    (map (λ (d : ℕ). deskAt wide wideState d .owed) (0 ∷ 1 ∷ 2 ∷ 3 ∷ []) ≡ 0 ∷ 5 ∷ 6 ∷ 0 ∷ [])
+    × (map (screenAt wide wideState 2) (0 ∷ 1 ∷ 2 ∷ 3 ∷ []) ≡ 0 ∷ 3 ∷ 4 ∷ 0 ∷ [])
+    × (map (λ (d : ℕ). screenAt wide wideState d 2) (0 ∷ 1 ∷ 2 ∷ 3 ∷ []) ≡ 0 ∷ 2 ∷ 4 ∷ 0 ∷ [])
+    × (map (positionAt wide wideState) (0 ∷ 1 ∷ 2 ∷ 3 ∷ []) ≡ 0 ∷ 7 ∷ 8 ∷ 0 ∷ [])
+seen-parts = (refl, refl, refl, refl)
+
+-- what each step of desk 2 names, and the screens that it reads: a collect, the next two where something is tested
+pub seen-by-steps :
+    (map (λ (step : Step). namedWords wide wideState (2 sends step)) (Take 2 1 ∷ Drop 1 ∷ Swap 2 9 ∷ Retire ∷ Collect ∷ []) ≡ (4 ∷ 7 ∷ []) ∷ (3 ∷ []) ∷ (8 ∷ []) ∷ [] ∷ [] ∷ [])
+    × (map (λ (step : Step). screensRead wide wideState (2 sends step)) (Take 2 1 ∷ Drop 1 ∷ Swap 2 9 ∷ Retire ∷ Collect ∷ []) ≡ [] ∷ [] ∷ [] ∷ [] ∷ (1 ∷ 2 ∷ []) ∷ [])
+    × (screensRead wide wideState (1 sends Collect) ≡ [])
+seen-by-steps = (refl, refl, refl)
+
+-- the screens 1 and 2 and the positions 1 and 2 that each step writes
+pub written-by-steps :
+    (map (λ (step : Step). map (writesScreen step) (1 ∷ 2 ∷ [])) (Take 2 1 ∷ Drop 1 ∷ Swap 2 9 ∷ Retire ∷ Collect ∷ [])
+    ≡ (false ∷ true ∷ []) ∷ (true ∷ false ∷ []) ∷ (false ∷ false ∷ []) ∷ (false ∷ false ∷ []) ∷ (false ∷ false ∷ []) ∷ [])
+    × (map (λ (step : Step). map (writesPosition step) (1 ∷ 2 ∷ [])) (Take 2 1 ∷ Drop 1 ∷ Swap 2 9 ∷ Retire ∷ Collect ∷ [])
+    ≡ (false ∷ false ∷ []) ∷ (false ∷ false ∷ []) ∷ (false ∷ true ∷ []) ∷ (false ∷ false ∷ []) ∷ (false ∷ false ∷ []) ∷ [])
+written-by-steps = (refl, refl)
+
+-- In a hall of three desks with one screen each, desk 1 has 5 waiting. These two states differ in everything that a collect of desk 1 does
+-- not see: screen 3, position 2 and the other desks.
+abbrev pub threeDesks : Hall
+threeDesks = hallOf 3 1 2
+
+abbrev pub quiet : State
+quiet = record { held = 7 ∷ 0 ∷ []; shown = 0 ∷ 5 ∷ 0 ∷ []; desks = deskWith 0 (5 ∷ []) ∷ emptyDesk ∷ emptyDesk ∷ [] }
+
+abbrev pub busy : State
+busy = record { held = 7 ∷ 8 ∷ []; shown = 0 ∷ 5 ∷ 9 ∷ []; desks = deskWith 0 (5 ∷ []) ∷ deskWith 4 [] ∷ deskWith 0 (6 ∷ []) ∷ [] }
+
+pub quiet-formed : Formed threeDesks quiet
+quiet-formed = record { positions = refl; screens = refl; desks = refl }
+
+pub busy-formed : Formed threeDesks busy
+busy-formed = record { positions = refl; screens = refl; desks = refl }
+
+-- A state of another hall is not of this one: positions, screens, desks.
+pub not-formed : (Formed (hallOf 3 1 1) quiet → ⊥) × (Formed (hallOf 3 2 2) quiet → ⊥) × (Formed (hallOf 1 3 2) quiet → ⊥)
+not-formed = (λ formed. omega (arith, formed .positions), λ formed. omega (arith, formed .screens), λ formed. omega (arith, formed .desks))
+
+-- The collect, and a take of position 1, find the same in both.
+pub same-view : SameView threeDesks quiet busy (1 sends Collect) × SameView threeDesks quiet busy (1 sends Take 1 1)
+same-view = (record { desk = refl; named = refl; read = refl }, record { desk = refl; named = refl; read = refl })
+
+-- Where screen 2, which the collect reads, shows nothing, 5 is not marked.
+abbrev dark : State
+dark = record { held = 7 ∷ 0 ∷ []; shown = 0 ∷ 0 ∷ 0 ∷ []; desks = deskWith 0 (5 ∷ []) ∷ emptyDesk ∷ emptyDesk ∷ [] }
+
+abbrev afterCollect : State → Desk
+afterCollect state = deskAt threeDesks (step threeDesks state (1 sends Collect) .after) 1
+
+pub marks-what-it-reads : (afterCollect quiet .tested ≡ marked 5 ∷ []) × (afterCollect dark .tested ≡ unmarked 5 ∷ [])
+marks-what-it-reads = (refl, refl)
+
+-- Desk 2's record, position 2, and the screens that a collect reads differ.
+pub other-view :
+    (SameView threeDesks quiet busy (2 sends Retire) → ⊥) × (SameView threeDesks quiet busy (1 sends Swap 2 5) → ⊥) × (SameView threeDesks quiet dark (1 sends Collect) → ⊥)
+other-view = (
+  λ view. omega (arith, ap (λ (desk : Desk). desk .owed) (view .desk)),
+  λ view. omega (arith, ap (λ (words : List ℕ). getD words 0 0) (view .named)),
+  λ view. omega (arith, ap (λ (words : List ℕ). getD words 1 0) (view .read)),
+)
+
+-- A take does not do alike where the answers differ, or its desk afterwards, or its screen.
+abbrev DropsAlike : Result State → Result State → Type 0
+DropsAlike = StepsAlike threeDesks (2 sends Drop 1)
+
+pub not-alike :
+    (DropsAlike (accept 5 quiet) (accept 6 quiet) → ⊥)
+    × (DropsAlike (accept 5 quiet) (accept 5 (record { held = quiet .held; shown = quiet .shown; desks = busy .desks })) → ⊥)
+    × (DropsAlike (accept 5 quiet) (accept 5 dark) → ⊥)
+not-alike = (
+  λ alike. omega (arith, ap (λ (answer : Answer). answer .session) (alike .answer)),
+  λ alike. omega (arith, ap (λ (desk : Desk). desk .owed) (alike .desk)),
+  λ alike. omega (arith, ap (λ (words : List ℕ). getD words 0 0) (alike .named)),
+)
+
+-- A take of desk 1 at screen 1 may not write another desk's record, another desk's screen, or a position; a drop of desk 2 not its other
+-- screen.
+pub others-do-not-stay :
+    (OthersStay threeDesks (1 sends Take 1 1) quiet (record { held = quiet .held; shown = quiet .shown; desks = busy .desks }) → ⊥)
+    × (OthersStay threeDesks (1 sends Take 1 1) quiet dark → ⊥)
+    × (OthersStay threeDesks (1 sends Take 1 1) quiet (record { held = busy .held; shown = quiet .shown; desks = quiet .desks }) → ⊥)
+    × (OthersStay wide (2 sends Drop 1) wideState (record { held = wideState .held; shown = 1 ∷ 2 ∷ 0 ∷ 0 ∷ []; desks = wideState .desks }) → ⊥)
+others-do-not-stay = (
+  λ stay. omega (arith, ap (λ (desk : Desk). desk .owed) (stay .desks 2 (λ same. omega arith))),
+  λ stay. omega (arith, stay .screens 2 1 (λ same. absurd (omega arith))),
+  λ stay. omega (arith, stay .positions 2 refl),
+  λ stay. omega (arith, stay .screens 2 2 (λ same. refl)),
+)
