@@ -25,7 +25,7 @@ ghost use Rattle.board.specs.declared.Header.the-variants.{Of};
 ghost use Rattle.board.specs.Opening.{OpeningAnswer};
 ghost use Rattle.board.specs.Results.{Opened, Stepped};
 
-// Where things stand in a table: P, the desks.
+// Offsets in a table: P, the desks.
 const DESKS: usize = 0;
 
 // c, the screens per desk.
@@ -35,7 +35,7 @@ const SCREENS: usize = 1;
 const POSITIONS: usize = 2;
 
 // The words before the session at each position.
-pub const HEADER: usize = 3;
+const HEADER: usize = 3;
 
 // The board of a hall: its limits, and the words that its table needs.
 pub struct Board;
@@ -63,7 +63,7 @@ impl Board {
     }
 }
 
-// Whether a number is 1 to the most.
+// Whether a number is 1 to `most`.
 fn in_range(n: u16, most: usize) -> bool
     ensures { λ r. ⌜ r ≡ inRange n most ⌝ }
 {
@@ -85,7 +85,7 @@ fn in_limits(desks: u16, screens: u16, positions: u16) -> bool
 }
 
 // Where the record of desk d stands, with d counted from 0, in a hall of l positions and s screens.
-// It requires numbers within the limits: a sound table tells them. Desk P's end is the start of a desk after it.
+// Precondition: the numbers are within the limits. The end of the last record is the start of one after it, so d may be P.
 fn record_start(l: usize, s: usize, d: usize) -> usize
     requires { ⌜ (l ≤ maxPositions) × (s ≤ maxAllScreens) × (d ≤ maxDesks) ⌝ }
     ensures { λ r. ⌜ (r ≡ startFor l s d) × (r ≤ maxWords) ⌝ }
@@ -93,8 +93,8 @@ fn record_start(l: usize, s: usize, d: usize) -> usize
     HEADER + l + s + d * record_words(s)
 }
 
-// Where screen i of desk d stands, both counted from 1, in a hall of l positions and c screens per desk. It requires numbers of
-// a sound table's hall.
+// Where screen i of desk d stands, both counted from 1, in a hall of l positions and c screens per desk.
+// Precondition: the hall has that screen.
 fn screen_at(l: usize, c: usize, d: u16, i: u16) -> usize
     requires { ⌜ (1 ≤ d) × (1 ≤ i) × (screenFor l c d i ≤ maxWords) ⌝ }
     ensures { λ r. ⌜ r ≡ screenFor l c d i ⌝ }
@@ -128,7 +128,7 @@ struct Hall {
     pub all: usize,
 }
 
-// The header of a table: its hall, or none where a number is out of range or the table is too short for the hall.
+// The header of a table: its hall, or `Broken` if a number is out of range or the table is too short for the hall.
 enum Header {
     Broken,
     Of(Hall),
@@ -161,8 +161,8 @@ fn read_header(t: &[u8]) -> Header
     })
 }
 
-// Where a desk's things stand in a sound table: the counts of positions, of screens per desk and of all screens, and the
-// start and the end of the desk's record.
+// A desk's location in a sound table: the numbers of positions, of screens per desk and of all screens, and the start and the end
+// of the desk's record.
 struct Location {
     pub positions: usize,
     pub screens: usize,
@@ -178,7 +178,7 @@ enum Admission {
     At(Location),
 }
 
-// What every step asks first: is the table sound, is the desk 1 to P. It requires the hall that the header names.
+// What every step asks first: is the table sound, is the desk 1 to P. Precondition: `hall` is the one in the header.
 fn admit(t: &[u8], hall: Hall, desk: u16) -> Admission
     requires { ⌜ Of hall ≡ headerOf (wordsOfBytes (now t)) ⌝ }
     ensures { λ r. ⌜ r ≡ admissionOf (wordsOfBytes (now (t .entry))) desk ⌝ }
@@ -239,7 +239,7 @@ pub fn open(t: &mut [u8], desks: u16, screens: u16, positions: u16) -> Reply
     Reply::Accepted(0)
 }
 
-// Take, of a desk that was admitted.
+// Take, of an admitted desk.
 fn take_at(t: &mut [u8], desk: u16, location: Location, screen: u16, position: u16) -> Reply
     requires { ⌜ Admits (wordsOfBytes (now t)) desk location ⌝ }
     ensures { λ r. ⌜ Stepped (desk sends Take screen position) (now (t .entry)) r (now (t .exit)) ⌝ }
@@ -282,7 +282,7 @@ pub fn take(t: &mut [u8], desk: u16, screen: u16, position: u16) -> Reply
     }
 }
 
-// Drop, of a desk that was admitted.
+// Drop, of an admitted desk.
 fn drop_at(t: &mut [u8], desk: u16, location: Location, screen: u16) -> Reply
     requires { ⌜ Admits (wordsOfBytes (now t)) desk location ⌝ }
     ensures { λ r. ⌜ Stepped (desk sends Drop screen) (now (t .entry)) r (now (t .exit)) ⌝ }
@@ -319,7 +319,7 @@ pub fn drop(t: &mut [u8], desk: u16, screen: u16) -> Reply
     }
 }
 
-// Swap, of a desk that was admitted.
+// Swap, of an admitted desk.
 fn swap_at(t: &mut [u8], desk: u16, location: Location, position: u16, session: u16) -> Reply
     requires { ⌜ Admits (wordsOfBytes (now t)) desk location ⌝ }
     ensures { λ r. ⌜ Stepped (desk sends Swap position session) (now (t .entry)) r (now (t .exit)) ⌝ }
@@ -359,7 +359,7 @@ pub fn swap(t: &mut [u8], desk: u16, position: u16, session: u16) -> Reply
     }
 }
 
-// Retire, of a desk that was admitted: on its record.
+// Retire, of an admitted desk: on its record.
 fn retire_at(t: &mut [u8], desk: u16, location: Location) -> Reply
     requires { ⌜ Admits (wordsOfBytes (now t)) desk location ⌝ }
     ensures { λ r. ⌜ Stepped (desk sends Retire) (now (t .entry)) r (now (t .exit)) ⌝ }
@@ -387,7 +387,7 @@ pub fn retire(t: &mut [u8], desk: u16) -> Reply
     }
 }
 
-// Collect, of a desk that was admitted: on its record, with the next two screens of the hall or the last one alone.
+// Collect, of an admitted desk: on its record, with the next two screens of the hall or the last one alone.
 fn collect_at(t: &mut [u8], desk: u16, location: Location) -> Reply
     requires { ⌜ Admits (wordsOfBytes (now t)) desk location ⌝ }
     ensures { λ r. ⌜ Stepped (desk sends Collect) (now (t .entry)) r (now (t .exit)) ⌝ }

@@ -6,7 +6,7 @@ ghost use Rattle.words.specs.Words.{allZero, lacks as lacksWord, shiftLe
 ghost use Rattle.words.specs.Written.{Written};
 
 // Word i of a table sent as bytes, low byte first.
-// It requires that both its bytes are there.
+// Precondition: both its bytes are in the table.
 pub fn word(t: &[u8], i: usize) -> u16
     requires { ⌜ 2 * i + 1 < length (now t) ⌝ }
     ensures { λ r. ⌜ r ≡ getD (wordsOfBytes (now (t .entry))) i 0 ⌝ }
@@ -24,8 +24,8 @@ pub fn count(t: &[u8], i: usize) -> usize
     word(t, i) as usize
 }
 
-// Word i becomes w; no other byte is written.
-// It requires that both its bytes are there.
+// Writes w to word i; no other byte is written.
+// Precondition: both its bytes are in the table.
 pub fn put_word(t: &mut [u8], i: usize, w: u16)
     requires { ⌜ 2 * i + 1 < length (now t) ⌝ }
     ensures { λ _. ⌜ Written (now (t .entry)) (set (wordsOfBytes (now (t .entry))) i w) (now (t .exit)) ⌝ }
@@ -34,7 +34,7 @@ pub fn put_word(t: &mut [u8], i: usize, w: u16)
     t[2 * i + 1] = (w / 256 % 256) as u8;
 }
 
-// Whether every word of a part is 0. The loop has no exit in its middle, so that it takes many words at a time.
+// Whether every word of a part is 0. The loop has no early exit, so the compiler vectorises it.
 pub fn all_zero(l: &[u8]) -> bool
     ensures { λ r. ⌜ r ≡ allZero (wordsOfBytes (now (l .entry))) ⌝ }
 {
@@ -48,7 +48,7 @@ pub fn all_zero(l: &[u8]) -> bool
     bits == 0
 }
 
-// Whether no word of a part is x. The loop has no exit in its middle either.
+// Whether no word of a part is x. This loop has no early exit either.
 pub fn lacks(l: &[u8], x: u16) -> bool
     ensures { λ r. ⌜ r ≡ lacksWord x (wordsOfBytes (now (l .entry))) ⌝ }
 {
@@ -64,7 +64,7 @@ pub fn lacks(l: &[u8], x: u16) -> bool
     ok
 }
 
-// Each byte becomes 0.
+// Sets every byte to 0.
 pub fn clear(l: &mut [u8])
     ensures { λ _. ⌜ now (l .exit) ≡ replicate (length (now (l .entry))) 0 ⌝ }
 {
@@ -75,7 +75,7 @@ pub fn clear(l: &mut [u8])
     }
 }
 
-// The first word leaves, the rest move up one, and 0 comes last; a part without words stays as it is.
+// Removes the first word, moves the rest up by one and puts 0 last; an empty part stays as it is.
 pub fn shift_left(l: &mut [u8])
     ensures { λ _. ⌜ Written (now (l .entry)) (shiftLeft (wordsOfBytes (now (l .entry)))) (now (l .exit)) ⌝ }
 {
@@ -93,8 +93,8 @@ pub fn shift_left(l: &mut [u8])
     put_word(l, last, 0);
 }
 
-// The words at the front of src, in place of those of dst.
-// It requires that there are as many.
+// Copies the first words of src over those of dst.
+// Precondition: src has at least as many words as dst.
 pub fn copy_in(dst: &mut [u8], src: &[u16])
     requires { ⌜ length (now dst) ≤ 2 * length (now src) + 1 ⌝ }
     ensures { λ _. ⌜ Written (now (dst .entry)) (take (length (wordsOfBytes (now (dst .entry)))) (now (src .entry))) (now (dst .exit)) ⌝ }
