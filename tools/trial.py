@@ -1,4 +1,7 @@
-"""Trials of changed crates: copies of the repository in which one crate at a time is changed and developed anew."""
+"""Trials of changed crates: copies of the repository in which one crate at a time is changed and checked anew.
+
+A trial starts from what the crate's library holds of its proof, so only the modules that a change reaches are checked.
+"""
 import concurrent.futures
 import contextlib
 import os
@@ -11,13 +14,23 @@ import tempfile
 
 ROOT = pathlib.Path(__file__).resolve().parent.parent
 
-
 # A check takes seconds; one that takes so long is given up.
 LONGEST = 300
 
 
+def prove(crates):
+    """Proves these crates in this tree, where they have changed since they were last proved."""
+    return subprocess.run(['rt', 'check', *crates], cwd=ROOT, capture_output=True, text=True)
+
+
 def develop(copy, crate):
-    """Checks a crate over its incremental folder: seconds, where only a part of it has changed."""
+    """Checks a crate over an incremental folder with the modules of its library: those that have not changed are loaded."""
+    library = ROOT / 'target' / 'rlib' / f'{crate}.rlib'
+    # the library's second line has the version under which the prover looks for modules
+    version = (library / 'format').read_text().split('\n')[1].removeprefix('rattle-build ').replace('/', '_')
+    folder = copy / 'target' / 'inc' / crate
+    shutil.rmtree(folder, ignore_errors=True)
+    shutil.copytree(library / 'toolchain' / 'checked', folder / version)
     words = ['timeout', str(LONGEST), 'rt', 'dev', crate]
     return subprocess.run(words, cwd=copy, capture_output=True, text=True)
 
@@ -50,44 +63,80 @@ def refusals(run, folder):
     return found
 
 
+# ---- Parts of a crate of specs.
+
+USE = re.compile(r'^use Rattle·(\w+)·specs\.specs\.([\w.]+)\.\{', re.M)
+MODULE = re.compile(r'^pub mod (\w+)$', re.M)
+
+
+def used_by(text, crate):
+    """The files of a crate's specs that a text of it uses."""
+    return [f'specs/{module.replace(".", "/")}.antt' for owner, module in USE.findall(text) if owner == crate]
+
+
+def part_of(folder, wanted, texts):
+    """The changes that leave of a crate only these files of its specs and what they use; `texts` has what is changed already."""
+    kept, todo = set(), list(wanted)
+    while todo:
+        path = todo.pop()
+        if path not in kept:
+            kept.add(path)
+            todo += used_by(text_of(folder / path, texts), folder.name)
+    part = {}
+    for file in (folder / 'specs').rglob('*.antt'):
+        path, text = str(file.relative_to(folder)), text_of(file, texts)
+        if path in kept:
+            continue
+        # a list of modules keeps those that are kept, and those with a file below them that is
+        below = 'specs/' if path == 'specs/Lib.antt' else path.removesuffix('.antt') + '/'
+        listed = [found for found in MODULE.findall(text) if any(k.startswith((f'{below}{found}.', f'{below}{found}/')) for k in kept)]
+        part[file] = ''.join(f'pub mod {module}\n' for module in listed) or None
+    return part
+
+
+def text_of(file, texts):
+    return texts.get(file) or file.read_text()
+
+
 @contextlib.contextmanager
 def changed(texts):
-    """Files with other texts, and afterwards with their own again."""
+    """Files with other texts, or without them, and afterwards with their own again."""
     kept = {file: file.read_text() for file in texts}
     try:
         for file, text in texts.items():
-            file.write_text(text)
+            file.unlink() if text is None else file.write_text(text)
         yield
     finally:
         for file, text in kept.items():
             file.write_text(text)
 
 
+# ---- Copies.
+
 def copied(space):
     """A copy of the crates and of what is proved of them."""
     copy = pathlib.Path(tempfile.mkdtemp(dir=space))
     shutil.copytree(ROOT / 'crates', copy / 'crates')
     shutil.copy(ROOT / 'crates.txt', copy)
-    for part in ('rlib', 'stamp', 'log', 'inc'):
-        if (ROOT / 'target' / part).is_dir():
-            shutil.copytree(ROOT / 'target' / part, copy / 'target' / part)
+    for part in ('rlib', 'stamp', 'log'):
+        shutil.copytree(ROOT / 'target' / part, copy / 'target' / part)
     return copy
 
 
-def each(work, crates):
-    """What work(copy, crate) gives for each crate; several at a time, each in a copy that nobody else uses."""
-    jobs = max(1, min(os.cpu_count() or 1, 4, len(crates)))
+def each(work, jobs):
+    """What work(copy, job) gives for each job; as many at a time as rt would run, each in a copy that nobody else uses."""
+    workers = int(os.environ.get('RT_JOBS') or min(os.cpu_count() or 1, 4))
     with tempfile.TemporaryDirectory() as space:
         copies = queue.Queue()
-        for _ in range(jobs):
+        for _ in range(workers):
             copies.put(copied(space))
 
-        def in_a_copy(crate):
+        def in_a_copy(job):
             copy = copies.get()
             try:
-                return work(copy, crate)
+                return work(copy, job)
             finally:
                 copies.put(copy)
 
-        with concurrent.futures.ThreadPoolExecutor(jobs) as pool:
-            return list(pool.map(in_a_copy, crates))
+        with concurrent.futures.ThreadPoolExecutor(workers) as pool:
+            return list(pool.map(in_a_copy, jobs))
