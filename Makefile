@@ -30,23 +30,17 @@ examples/%.txt:
 	@echo "make: there is no $@; SHEET= is one of: $(notdir $(basename $(wildcard examples/*.txt)))" >&2; exit 2
 
 host: lib
-	@gcc -Iinclude examples/host.c build/libhost.a -o build/host_example
+	@gcc -Iinclude examples/host.c build/libsession_board.a -o build/host_example
 	@build/host_example
 
 test:
 	@tools/gate
 
 lib:
-	@mkdir -p build
-	@echo "Proving and building the archive: minutes, if a crate has changed." >&2
-	@rt staticlib host > build/staticlib.log 2>&1 || { cat build/staticlib.log; exit 1; }
-	@cp target/staticlib/libhost.a include/session_board.h build/
+	@tools/build lib
 
-# Always asked for: rt knows what has changed.
 target/bin/day_sheet:
-	@mkdir -p build
-	@echo "Proving and building the sheet program: minutes, if a crate has changed." >&2
-	@rt check day_sheet > build/day_sheet.log 2>&1 || { cat build/day_sheet.log; exit 1; }
+	@tools/build day_sheet
 
 bench: lib target/bin/day_sheet
 	@bench/c_board/compare.sh

@@ -1,7 +1,7 @@
 /*
  * A small host: one hall of 2 desks with 1 screen each, and 2 crane positions.
  *
- *     gcc -Iinclude examples/host.c build/libhost.a -o build/host_example
+ *     gcc -Iinclude examples/host.c build/libsession_board.a -o build/host_example
  *
  * It shows what the board is for. A session that is replaced at its crane is
  * not closed at once: an operator may still be steering by it. The board hands

@@ -32,7 +32,7 @@
  * The board keeps nothing between calls: the table is the whole state of the
  * hall. It uses no memory but the table and less than 1 KB of stack, and of the C
  * library memcpy, memmove and memset. Send one call at a time to a table. Link
- * with libhost.a, which is for x86-64.
+ * with libsession_board.a, which is for x86-64.
  */
 #ifndef SESSION_BOARD_H
 #define SESSION_BOARD_H

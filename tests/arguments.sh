@@ -8,7 +8,7 @@ usage() {
 
 # places LIBDIR PROGRAM: sets SESSION_BOARD_LIB and program, as whole paths
 places() {
-    [ -f "$1/libhost.a" ] || usage "there is no $1/libhost.a"
+    [ -f "$1/libsession_board.a" ] || usage "there is no $1/libsession_board.a"
     [ -f "$2" ] && [ -x "$2" ] || usage "$2 is no program"
     SESSION_BOARD_LIB=$(cd "$1" && pwd)
     program=$(cd "$(dirname "$2")" && pwd)/$(basename "$2")

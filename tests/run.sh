@@ -4,12 +4,12 @@
 #
 #     tests/run.sh LIBDIR PROGRAM
 #
-# LIBDIR holds the archive libhost.a; PROGRAM reads a day sheet and prints it.
+# LIBDIR holds the archive libsession_board.a; PROGRAM reads a day sheet and prints it.
 # What is built goes to target/ beside include/, or to $TARGET.
 set -eu
 
 root=$(cd "$(dirname "$0")/.." && pwd)
-name=run words="LIBDIR PROGRAM (LIBDIR with libhost.a, PROGRAM a day sheet program)"
+name=run words="LIBDIR PROGRAM (LIBDIR with libsession_board.a, PROGRAM a day sheet program)"
 . "$root/tests/arguments.sh"
 [ $# -eq 2 ] || usage "two arguments are needed"
 places "$1" "$2"
@@ -39,7 +39,7 @@ build() {
 
 # link SOURCE NAME
 link() {
-    gcc $warnings -I"$root/include" "$1" "$SESSION_BOARD_LIB/libhost.a" -o "$CARGO_TARGET_DIR/$2"
+    gcc $warnings -I"$root/include" "$1" "$SESSION_BOARD_LIB/libsession_board.a" -o "$CARGO_TARGET_DIR/$2"
 }
 
 reference_tests() {
@@ -63,5 +63,6 @@ step "tool" 1 "$root/tests/tool.sh" "$program"
 step "building the example" 0 link "$root/examples/host.c" host_example
 step "the example" 0 "$CARGO_TARGET_DIR/host_example"
 step "documents" 1 "$root/tests/documents.py"
+step "moved" 1 "$root/tests/moved.py"
 step "stores" 1 "$root/tests/stores/run.sh" "$SESSION_BOARD_LIB"
 echo "run: all passed"

@@ -5,7 +5,7 @@
 #
 #     tests/soak.sh LIBDIR PROGRAM MINUTES [FIRST_SEED]
 #
-# LIBDIR holds the archive libhost.a; PROGRAM reads a day sheet and prints it.
+# LIBDIR holds the archive libsession_board.a; PROGRAM reads a day sheet and prints it.
 # No round begins after the time is over. What is built goes to target/ beside
 # include/, or to $TARGET.
 set -eu

@@ -1,4 +1,4 @@
-//! Links libhost.a from the directory that SESSION_BOARD_LIB names.
+//! Links libsession_board.a from the directory that SESSION_BOARD_LIB names.
 //!
 //! The archive may bring along a runtime of its own (a panic handler, say)
 //! under names that this program's runtime uses too. So its six calls and all
@@ -24,9 +24,9 @@ fn main() {
 
 fn archive() -> PathBuf {
     let named = env::var("SESSION_BOARD_LIB")
-        .expect("SESSION_BOARD_LIB must name the directory that holds libhost.a");
-    fs::canonicalize(Path::new(&named).join("libhost.a"))
-        .unwrap_or_else(|error| panic!("{named}/libhost.a: {error}"))
+        .expect("SESSION_BOARD_LIB must name the directory that holds libsession_board.a");
+    fs::canonicalize(Path::new(&named).join("libsession_board.a"))
+        .unwrap_or_else(|error| panic!("{named}/libsession_board.a: {error}"))
 }
 
 /// Makes libboard.a, the archive with only the six names left open.

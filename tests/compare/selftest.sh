@@ -1,6 +1,6 @@
 #!/bin/sh
 # Tests the comparison itself. With the reference standing in for the archive
-# it must pass; with each wrong board of ../stand_in/wrong it must fail, print
+# it must pass; with each wrong board of ../fake_archive/wrong it must fail, print
 # a replay line, and fail again on that line. The case that a wrong board names
 # must fail too when it is put in the reference's place.
 #
@@ -10,14 +10,14 @@ set -eu
 tests=$(cd "$(dirname "$0")/.." && pwd)
 work=$(mktemp -d)
 trap 'rm -rf "$work"' EXIT
-wrong=$tests/stand_in/wrong
+wrong=$tests/fake_archive/wrong
 export RUSTFLAGS=-Awarnings # a wrong board may well leave a function unused
 
 # A copy of the reference with the stand-in beside it, to be made wrong.
 fresh_copy() {
     rm -rf "$work/tests"
     mkdir -p "$work/tests"
-    for crate in reference stand_in; do
+    for crate in reference fake_archive; do
         mkdir "$work/tests/$crate"
         (cd "$tests/$crate" && tar -cf - --exclude=target .) |
             tar -xf - -C "$work/tests/$crate"
@@ -25,9 +25,9 @@ fresh_copy() {
 }
 
 build() {
-    CARGO_TARGET_DIR=$work/stand_in cargo build --quiet --offline --release \
-        --manifest-path "$work/tests/stand_in/Cargo.toml"
-    SESSION_BOARD_LIB=$work/stand_in/release CARGO_TARGET_DIR=$work/compare \
+    CARGO_TARGET_DIR=$work/fake_archive cargo build --quiet --offline --release \
+        --manifest-path "$work/tests/fake_archive/Cargo.toml"
+    SESSION_BOARD_LIB=$work/fake_archive/release CARGO_TARGET_DIR=$work/compare \
         cargo build --quiet --offline --release --manifest-path "$tests/compare/Cargo.toml"
 }
 

@@ -3,12 +3,12 @@
 #
 #     tests/fuzz/build.sh LIBDIR FOLDER [REFERENCE]
 #
-# LIBDIR holds the archive libhost.a. REFERENCE is the folder of the crate
+# LIBDIR holds the archive libsession_board.a. REFERENCE is the folder of the crate
 # reference_in_c; the self-test gives one beside a reference made wrong.
 set -eu
 
 fuzz=$(cd "$(dirname "$0")" && pwd)
-library=$1/libhost.a
+library=$1/libsession_board.a
 mkdir -p "$2"
 out=$(cd "$2" && pwd)
 reference=${3:-$fuzz/reference_in_c}

@@ -3,7 +3,7 @@
 #
 #     tests/fuzz/run.sh LIBDIR PROGRAM MINUTES
 #
-# LIBDIR holds the archive libhost.a; PROGRAM reads a day sheet and prints it.
+# LIBDIR holds the archive libsession_board.a; PROGRAM reads a day sheet and prints it.
 # All goes to target/fuzz beside include/, or to $FUZZ: the inputs worth keeping
 # (the next run begins with them), the logs, and in found/ an input that failed.
 set -eu

@@ -12,7 +12,7 @@ work=$(mktemp -d)
 trap 'rm -rf "$work"' EXIT
 export RUSTFLAGS=-Awarnings # a wrong board may well leave a function unused
 
-# Wrong boards of ../stand_in/wrong that the reference shows.
+# Wrong boards of ../fake_archive/wrong that the reference shows.
 boards="keeps-every-copy joins-in-mid-reading room-one-early position-before-screen newest-first"
 # Those that the header's promises show: here the reference is wrong as well.
 alike="opening-clears-all opening-clears-odd-byte refused-swap-writes"
@@ -30,7 +30,7 @@ fail() {
 wrong_copy() {
     rm -rf "$work/tests"
     mkdir -p "$work/tests/fuzz"
-    for crate in reference stand_in fuzz/reference_in_c; do
+    for crate in reference fake_archive fuzz/reference_in_c; do
         mkdir "$work/tests/$crate"
         (cd "$tests/$crate" && tar -cf - --exclude=target .) |
             tar -xmf - -C "$work/tests/$crate" # as new, so that all of it is built again
@@ -65,27 +65,27 @@ how() {
 }
 
 wrong_board() {
-    wrong_copy "$tests/stand_in/wrong/$1.patch"
-    build "$work/tests/stand_in" wrong
+    wrong_copy "$tests/fake_archive/wrong/$1.patch"
+    build "$work/tests/fake_archive" wrong
     "$fuzz/build.sh" "$work/wrong/release" "$work/harness"
     caught "$1" "$work/harness/fuzz_calls"
 }
 
 wrong_alike() {
-    wrong_copy "$tests/stand_in/wrong/$1.patch"
-    build "$work/tests/stand_in" wrong
+    wrong_copy "$tests/fake_archive/wrong/$1.patch"
+    build "$work/tests/fake_archive" wrong
     "$fuzz/build.sh" "$work/wrong/release" "$work/alike" "$work/tests/fuzz/reference_in_c"
     caught "$1, in the reference too" "$work/alike/fuzz_calls"
 }
 
 stray_access() {
-    build "$tests/stand_in" right
+    build "$tests/fake_archive" right
     "$fuzz/build.sh" "$work/right/release" "$work/harness" # for its board.o
     mkdir -p "$work/stray"
     objcopy --redefine-sym board_drop=right_drop "$work/harness/board.o" "$work/stray/right.o"
     gcc -O2 -D"$1" -I"$tests/../include" -c "$fuzz/stray.c" -o "$work/stray/stray.o"
-    rm -f "$work/stray/libhost.a"
-    ar crs "$work/stray/libhost.a" "$work/stray/right.o" "$work/stray/stray.o"
+    rm -f "$work/stray/libsession_board.a"
+    ar crs "$work/stray/libsession_board.a" "$work/stray/right.o" "$work/stray/stray.o"
     "$fuzz/build.sh" "$work/stray" "$work/harness"
     caught "$1" "$work/harness/fuzz_calls"
 }
@@ -93,7 +93,7 @@ stray_access() {
 wrong_program() {
     wrong_copy "$tests/sheets/wrong/$1.patch"
     build "$work/tests/reference" wrong_program
-    build "$tests/stand_in" right
+    build "$tests/fake_archive" right
     "$fuzz/build.sh" "$work/right/release" "$work/harness"
     DAY_SHEET=$work/wrong_program/release/day_sheet_reference
     export DAY_SHEET
@@ -102,7 +102,7 @@ wrong_program() {
 
 # With nothing wrong, ten seconds pass.
 right_ones() {
-    build "$tests/stand_in" right
+    build "$tests/fake_archive" right
     build "$tests/reference" right
     "$fuzz/build.sh" "$work/right/release" "$work/harness"
     DAY_SHEET=$work/right/release/day_sheet_reference

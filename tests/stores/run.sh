@@ -4,7 +4,7 @@
 #
 #     tests/stores/run.sh LIBDIR
 #
-# LIBDIR holds the archive libhost.a. What is built goes to $CARGO_TARGET_DIR,
+# LIBDIR holds the archive libsession_board.a. What is built goes to $CARGO_TARGET_DIR,
 # or to target/outside beside include/.
 set -eu
 
@@ -13,5 +13,5 @@ root=$(dirname "$(dirname "$stores")")
 out=${CARGO_TARGET_DIR:-$root/target/outside}
 mkdir -p "$out"
 . "$stores/build.sh"
-build_driver "$1/libhost.a" "$out/stores_driver"
+build_driver "$1/libsession_board.a" "$out/stores_driver"
 exec "$stores/check.py" "$out/stores_driver"

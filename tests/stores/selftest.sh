@@ -19,9 +19,9 @@ fail() {
     exit 1
 }
 
-CARGO_TARGET_DIR=$work/stand_in cargo build --quiet --offline --release \
-    --manifest-path "$tests/stand_in/Cargo.toml"
-right=$work/stand_in/release/libhost.a
+CARGO_TARGET_DIR=$work/fake_archive cargo build --quiet --offline --release \
+    --manifest-path "$tests/fake_archive/Cargo.toml"
+right=$work/fake_archive/release/libsession_board.a
 
 right_board() {
     build_driver "$right" "$work/driver"
