@@ -65,9 +65,9 @@ gallery: target/bin/day_sheet
 	done
 
 selftest:
-	@tests/compare/selftest.sh
-	@tests/sheets/selftest.sh
-	@tests/stores/selftest.sh
+	@tests/selftest.sh boards
+	@tests/selftest.sh programs
+	@tests/selftest.sh stores
 
 soak: lib target/bin/day_sheet
 	@tests/soak.sh build target/bin/day_sheet $(MINUTES)
@@ -76,7 +76,7 @@ fuzz: lib target/bin/day_sheet
 	@tests/fuzz/run.sh build target/bin/day_sheet $(MINUTES)
 
 fuzz-selftest:
-	@tests/fuzz/selftest.sh
+	@tests/selftest.sh fuzz
 
 help:
 	@sed -n 's/^#   //p' Makefile

@@ -37,9 +37,11 @@ build() {
     cargo build --quiet --offline --release --manifest-path "$root/tests/$1/Cargo.toml"
 }
 
-# link SOURCE NAME
+# link NAME SOURCE...: a C program, with the archive
 link() {
-    gcc $warnings -I"$root/include" "$1" "$SESSION_BOARD_LIB/libsession_board.a" -o "$CARGO_TARGET_DIR/$2"
+    built=$CARGO_TARGET_DIR/$1
+    shift
+    gcc $warnings -I"$root/include" -I"$root/tests/c" "$@" "$SESSION_BOARD_LIB/libsession_board.a" -o "$built"
 }
 
 reference_tests() {
@@ -51,7 +53,7 @@ reference_tests() {
 step "reference" 1 reference_tests
 step "building compare" 0 build compare
 step "compare" 1 "$CARGO_TARGET_DIR/release/compare"
-step "building host_test" 0 link "$root/tests/host/host_test.c" host_test
+step "building host_test" 0 link host_test "$root/tests/host/host_test.c" "$root"/tests/c/*.c
 step "host_test" 1 "$CARGO_TARGET_DIR/host_test"
 step "building sheets" 0 build sheets
 step "building the sheet program in Rust" 0 build reference
@@ -60,7 +62,7 @@ step "sheets" 1 "$CARGO_TARGET_DIR/release/sheets" "$program" \
 step "sheet_cases" 1 "$root/tests/sheet_cases.py" --check --reference \
     "$CARGO_TARGET_DIR/release/day_sheet_reference"
 step "tool" 1 "$root/tests/tool.sh" "$program"
-step "building the example" 0 link "$root/examples/host.c" host_example
+step "building the example" 0 link host_example "$root/examples/host.c"
 step "the example" 0 "$CARGO_TARGET_DIR/host_example"
 step "documents" 1 "$root/tests/documents.py"
 step "moved" 1 "$root/tests/moved.py"

@@ -1,11 +1,11 @@
 #!/bin/sh
-# Traces the stores of an archive's six calls, and holds each to the bytes that
-# the call names:
+# Traces the stores of an archive's six calls, and compares them with the calls'
+# footprints:
 #
 #     tests/stores/run.sh LIBDIR
 #
-# LIBDIR holds the archive libsession_board.a. What is built goes to $CARGO_TARGET_DIR,
-# or to target/outside beside include/.
+# LIBDIR contains the archive libsession_board.a. Built files go to
+# $CARGO_TARGET_DIR, or else to target/outside.
 set -eu
 
 stores=$(cd "$(dirname "$0")" && pwd)

@@ -6,11 +6,11 @@
 
 mod call;
 mod case;
+mod crash;
 mod damage;
 mod make;
 mod rng;
 mod shrink;
-mod stopped;
 mod tables;
 mod tally;
 
@@ -71,9 +71,9 @@ fn compare_many(options: &Options) -> ExitCode {
     let begun = Instant::now();
     let mut tally = Tally::default();
     let mut number = 0;
-    stopped::watch(options.seed);
+    crash::watch(options.seed);
     while tally.calls < options.calls && begun.elapsed() < Duration::from_secs(options.seconds) {
-        stopped::now_at(number);
+        crash::now_at(number);
         let case = make::case(options.seed, number);
         if case.run(|call, answer| tally.count(call, answer)).is_some() {
             explain_case(options.seed, number, case);
@@ -135,7 +135,7 @@ fn smaller_after(seed: u64, number: u64, case: &Case) -> Option<Case> {
         if begun.elapsed() > Duration::from_secs(2) {
             break;
         }
-        stopped::now_at(later);
+        crash::now_at(later);
         let other = make::case(seed, later);
         if other.differs() {
             let other = shrink(other);

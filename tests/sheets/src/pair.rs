@@ -1,6 +1,6 @@
 //! The two programs that are compared.
 
-use crate::program::{run, Printed, Way};
+use crate::program::{run, InputMode, Printed};
 use std::fmt;
 use std::fs::create_dir_all;
 use std::path::{Path, PathBuf};
@@ -24,15 +24,15 @@ impl Pair {
     }
 
     /// What the program and the reference printed.
-    pub fn run(&self, sheet: &[u8], way: Way) -> (Printed, Printed) {
+    pub fn run(&self, sheet: &[u8], mode: InputMode) -> (Printed, Printed) {
         (
-            run(&self.program, sheet, way, &self.folder),
-            run(&self.reference, sheet, way, &self.folder),
+            run(&self.program, sheet, mode, &self.folder),
+            run(&self.reference, sheet, mode, &self.folder),
         )
     }
 
-    pub fn differs(&self, sheet: &[u8], way: Way) -> bool {
-        let (program, reference) = self.run(sheet, way);
+    pub fn differs(&self, sheet: &[u8], mode: InputMode) -> bool {
+        let (program, reference) = self.run(sheet, mode);
         differ(&program, &reference)
     }
 }

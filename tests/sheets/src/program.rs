@@ -18,29 +18,34 @@ const PAUSE: Duration = Duration::from_millis(3);
 
 /// How a sheet comes to standard input.
 #[derive(Clone, Copy, Debug, PartialEq, Eq)]
-pub enum Way {
+pub enum InputMode {
     File,
     Pipe,
     /// A pipe that gives one part first and the rest a while later.
     Pieces,
 }
 
-pub const WAYS: [Way; 3] = [Way::File, Way::Pipe, Way::Pieces];
+pub const INPUT_MODES: [InputMode; 3] = [InputMode::File, InputMode::Pipe, InputMode::Pieces];
 
 /// What the program printed, or how else it ended.
 pub type Printed = Result<Vec<u8>, String>;
 
-pub fn run(program: &Path, sheet: &[u8], way: Way, folder: &Path) -> Printed {
-    start_and_wait(program, sheet, way, folder)
+pub fn run(program: &Path, sheet: &[u8], mode: InputMode, folder: &Path) -> Printed {
+    start_and_wait(program, sheet, mode, folder)
         .unwrap_or_else(|error| Err(format!("cannot be run: {error}")))
 }
 
 /// The lines go to a file, so that the program never waits for a reader.
-fn start_and_wait(program: &Path, sheet: &[u8], way: Way, folder: &Path) -> io::Result<Printed> {
+fn start_and_wait(
+    program: &Path,
+    sheet: &[u8],
+    mode: InputMode,
+    folder: &Path,
+) -> io::Result<Printed> {
     let lines = folder.join("lines");
-    let stdin = match way {
-        Way::File => Stdio::from(File::open(written(sheet, folder)?)?),
-        Way::Pipe | Way::Pieces => Stdio::piped(),
+    let stdin = match mode {
+        InputMode::File => Stdio::from(File::open(written(sheet, folder)?)?),
+        InputMode::Pipe | InputMode::Pieces => Stdio::piped(),
     };
     let mut child = Command::new(program)
         .stdin(stdin)
@@ -51,7 +56,7 @@ fn start_and_wait(program: &Path, sheet: &[u8], way: Way, folder: &Path) -> io::
         None => wait(&mut child, &lines)?,
         // Beside the waiting: a program that does not read is not waited for.
         Some(pipe) => scope(|threads| {
-            threads.spawn(|| feed(pipe, sheet, way));
+            threads.spawn(|| feed(pipe, sheet, mode));
             wait(&mut child, &lines)
         })?,
     };
@@ -69,8 +74,8 @@ fn written(sheet: &[u8], folder: &Path) -> io::Result<PathBuf> {
 
 /// A program need not read a sheet that is too long to its end, so it may well
 /// close the pipe early.
-fn feed(mut pipe: ChildStdin, sheet: &[u8], way: Way) {
-    let first = if way == Way::Pieces { sheet.len() / 2 } else { sheet.len() };
+fn feed(mut pipe: ChildStdin, sheet: &[u8], mode: InputMode) {
+    let first = if mode == InputMode::Pieces { sheet.len() / 2 } else { sheet.len() };
     let _ = pipe.write_all(&sheet[..first]);
     if first < sheet.len() {
         sleep(PAUSE);

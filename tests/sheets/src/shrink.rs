@@ -1,7 +1,7 @@
 //! The smallest sheet that still differs: fewest bytes, then the smallest.
 
 use crate::pair::Pair;
-use crate::program::Way;
+use crate::program::InputMode;
 use std::time::{Duration, Instant};
 
 /// A sheet that differs by its length alone cannot be made shorter; it is not
@@ -9,8 +9,8 @@ use std::time::{Duration, Instant};
 const MAX_TIME: Duration = Duration::from_secs(20);
 
 /// Tries ever smaller sheets until none of them differs any more.
-pub fn shrink(pair: &Pair, sheet: Vec<u8>, way: Way) -> Vec<u8> {
-    let mut search = Search { pair, way, smallest: sheet, begun: Instant::now() };
+pub fn shrink(pair: &Pair, sheet: Vec<u8>, mode: InputMode) -> Vec<u8> {
+    let mut search = Search { pair, mode, smallest: sheet, begun: Instant::now() };
     loop {
         let before = size(&search.smallest);
         search.shorter_end();
@@ -29,7 +29,7 @@ fn size(sheet: &[u8]) -> (usize, u64) {
 
 struct Search<'a> {
     pair: &'a Pair,
-    way: Way,
+    mode: InputMode,
     smallest: Vec<u8>,
     begun: Instant,
 }
@@ -43,7 +43,7 @@ impl Search<'_> {
     fn try_other(&mut self, other: Vec<u8>) -> bool {
         let better = !self.is_late()
             && size(&other) < size(&self.smallest)
-            && self.pair.differs(&other, self.way);
+            && self.pair.differs(&other, self.mode);
         if better {
             self.smallest = other;
         }

@@ -1,4 +1,4 @@
-//! A board that stops the program, or never answers, leaves no time to explain
+//! A board that crashes the program, or never answers, leaves no time to explain
 //! the case. This names it at least: on a fault, and when the run is ended
 //! from outside, the seed and number of the case in hand are printed.
 
@@ -29,7 +29,7 @@ pub fn now_at(case: u64) {
 
 /// Nothing here may allocate: the fault may have come from anywhere.
 extern "C" fn on_signal(_: i32) {
-    print(b"stopped, again: compare --seed ");
+    print(b"crash, again: compare --seed ");
     print_number(SEED.load(Relaxed));
     print(b" --case ");
     print_number(CASE.load(Relaxed));
