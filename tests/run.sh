@@ -1,15 +1,14 @@
 #!/bin/sh
-# Tests the board and the sheet program from outside, quietly, up to the first
-# failure:
+# Runs the tests outside Rattle, up to the first failure (tests/README.md):
 #
 #     tests/run.sh LIBDIR PROGRAM
 #
-# LIBDIR holds the archive libsession_board.a; PROGRAM reads a day sheet and prints it.
-# What is built goes to target/ beside include/, or to $TARGET.
+# LIBDIR contains the archive libsession_board.a; PROGRAM is a sheet program.
+# Built files go to $TARGET, or else to target/outside.
 set -eu
 
 root=$(cd "$(dirname "$0")/.." && pwd)
-name=run words="LIBDIR PROGRAM (LIBDIR with libsession_board.a, PROGRAM a day sheet program)"
+name=run words="LIBDIR PROGRAM (LIBDIR contains libsession_board.a, PROGRAM is a sheet program)"
 . "$root/tests/arguments.sh"
 [ $# -eq 2 ] || usage "two arguments are needed"
 places "$1" "$2"
@@ -19,7 +18,7 @@ mkdir -p "$CARGO_TARGET_DIR"
 log=$CARGO_TARGET_DIR/run.log
 warnings="-std=c11 -Wall -Wextra -Wpedantic -Werror -O2"
 
-# step NAME LINES COMMAND...: shows the last lines, or all of them on failure.
+# step NAME LINES COMMAND...: prints the last LINES lines of output, or all on failure
 step() {
     name=$1 lines=$2
     shift 2

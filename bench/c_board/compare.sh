@@ -1,6 +1,6 @@
 #!/bin/sh
 # Compares the board in C with the one in Rust, as tests/compare does it with
-# the archive: the C board stands in the archive's place.
+# the archive: the C board replaces the archive.
 #
 #     bench/c_board/compare.sh [CALLS]
 set -eu

@@ -87,7 +87,7 @@ fn compare_many(options: &Options) -> ExitCode {
     judge(&tally)
 }
 
-/// No case differed; but a reply that never came was never compared.
+/// No case differed; but a reply that never occurred was never compared.
 fn judge(tally: &Tally) -> ExitCode {
     let missing = tally.missing();
     for (function, reply) in &missing {
@@ -126,8 +126,8 @@ fn compare_one(case: &Case) -> ExitCode {
     }
 }
 
-/// A case smaller than this one among those after it. A board that is wrong in
-/// one case is mostly wrong in more, and one of those may be simpler.
+/// A smaller case among those after this one. A board that is wrong in one case
+/// is usually wrong in more, and one of those may be simpler.
 fn smaller_after(seed: u64, number: u64, case: &Case) -> Option<Case> {
     let begun = Instant::now();
     let mut smallest = None;

@@ -1,4 +1,4 @@
-//! A sheet that differs, told to a person.
+//! Prints a sheet that differs.
 
 use crate::bytes::hex;
 use crate::pair::Pair;

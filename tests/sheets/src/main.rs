@@ -54,8 +54,8 @@ fn main() -> ExitCode {
     result
 }
 
-/// For the sheets and the lines. In memory if it can be: the files are many,
-/// and small.
+/// For the sheets and the lines. In memory if possible: there are many small
+/// files.
 fn folder() -> PathBuf {
     let name = format!("sheets-{}", process::id());
     let in_memory = Path::new("/dev/shm").join(&name);
@@ -115,7 +115,7 @@ fn compare_many(pair: &Pair, all: &Sheets, count: u64) -> ExitCode {
     }
 }
 
-/// No sheet differed; but a reply that never came was never compared.
+/// No sheet differed; but a reply that never occurred was never compared.
 fn judge(tally: &Tally) -> ExitCode {
     let missing = tally.missing();
     for (name, reply) in &missing {

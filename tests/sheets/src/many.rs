@@ -1,4 +1,4 @@
-//! Many sheets, shared out among threads.
+//! Many sheets, distributed among threads.
 
 use crate::pair::{differ, Pair};
 use crate::program::InputMode;
@@ -26,7 +26,7 @@ impl Sheets {
     }
 }
 
-/// How a sheet goes in. Pieces are seldom, for they take their time.
+/// How a sheet is delivered. Pieces are rare, because they are slow.
 pub fn input_mode(number: u64) -> InputMode {
     match number % 64 {
         63 => InputMode::Pieces,
@@ -42,7 +42,7 @@ pub fn run_all(pair: &Pair, all: &Sheets, count: u64) -> Result<Tally, u64> {
     let (next, differs) = (&next, &differs);
     let mut tally = Tally::default();
     thread::scope(|threads| {
-        // Two for each core: one waits while the program of the other runs.
+        // Two per core: one waits while the program of the other runs.
         let cores = thread::available_parallelism().map_or(1, usize::from);
         let share = |at: usize| {
             let pair = pair.for_thread(at);

@@ -37,14 +37,14 @@ impl Pair {
     }
 }
 
-/// As they are named to the comparison.
+/// As on the command line of the comparison.
 impl fmt::Display for Pair {
     fn fmt(&self, out: &mut fmt::Formatter) -> fmt::Result {
         write!(out, "{} {}", self.program.display(), self.reference.display())
     }
 }
 
-/// A program that ends in another way than with its lines is never right.
+/// A program that fails is never right.
 pub fn differ(program: &Printed, reference: &Printed) -> bool {
     program.is_err() || program != reference
 }

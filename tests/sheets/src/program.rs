@@ -13,15 +13,15 @@ const MAX_TIME: Duration = Duration::from_secs(10);
 /// The lines of the longest sheet are less than a fifth of this.
 const MAX_PRINTED: u64 = 4 << 20;
 
-/// Between the pieces of a sheet: the program is waiting for more by then.
+/// Between the pieces of a sheet: by then the program waits for more.
 const PAUSE: Duration = Duration::from_millis(3);
 
-/// How a sheet comes to standard input.
+/// How a sheet is delivered on standard input.
 #[derive(Clone, Copy, Debug, PartialEq, Eq)]
 pub enum InputMode {
     File,
     Pipe,
-    /// A pipe that gives one part first and the rest a while later.
+    /// A pipe that delivers one half first and the rest after a pause.
     Pieces,
 }
 
@@ -54,7 +54,7 @@ fn start_and_wait(
         .spawn()?;
     let ended = match child.stdin.take() {
         None => wait(&mut child, &lines)?,
-        // Beside the waiting: a program that does not read is not waited for.
+        // In a thread: a program that does not read must not block the wait.
         Some(pipe) => scope(|threads| {
             threads.spawn(|| feed(pipe, sheet, mode));
             wait(&mut child, &lines)
@@ -72,8 +72,8 @@ fn written(sheet: &[u8], folder: &Path) -> io::Result<PathBuf> {
     Ok(path)
 }
 
-/// A program need not read a sheet that is too long to its end, so it may well
-/// close the pipe early.
+/// A program need not read a sheet that is too long to its end, so it may close
+/// the pipe early.
 fn feed(mut pipe: ChildStdin, sheet: &[u8], mode: InputMode) {
     let first = if mode == InputMode::Pieces { sheet.len() / 2 } else { sheet.len() };
     let _ = pipe.write_all(&sheet[..first]);
@@ -83,7 +83,7 @@ fn feed(mut pipe: ChildStdin, sheet: &[u8], mode: InputMode) {
     }
 }
 
-/// A program that does not end, or goes on printing, is ended.
+/// Kills a program that does not end, or that prints without end.
 fn wait(child: &mut Child, lines: &Path) -> io::Result<Result<(), String>> {
     let begun = Instant::now();
     let mut pause = Duration::from_micros(200);

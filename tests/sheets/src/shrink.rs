@@ -4,11 +4,11 @@ use crate::pair::Pair;
 use crate::program::InputMode;
 use std::time::{Duration, Instant};
 
-/// A sheet that differs by its length alone cannot be made shorter; it is not
-/// tried for ever.
+/// A sheet that differs only because of its length cannot be made shorter; the
+/// search is limited in time.
 const MAX_TIME: Duration = Duration::from_secs(20);
 
-/// Tries ever smaller sheets until none of them differs any more.
+/// Tries smaller and smaller sheets until none of them differs.
 pub fn shrink(pair: &Pair, sheet: Vec<u8>, mode: InputMode) -> Vec<u8> {
     let mut search = Search { pair, mode, smallest: sheet, begun: Instant::now() };
     loop {
@@ -60,8 +60,8 @@ impl Search<'_> {
         }
     }
 
-    /// Leaves out runs of bytes, long ones first: records among them. Of a
-    /// long sheet the runs are tried end to end, of a short one at each place.
+    /// Leaves out runs of bytes, long ones first; records are among them. In a
+    /// long sheet the runs are tried end to end, in a short one at each offset.
     fn fewer_bytes(&mut self) {
         let mut length = self.smallest.len() / 2;
         while length > 0 && !self.is_late() {
