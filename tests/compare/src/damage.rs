@@ -128,7 +128,7 @@ fn too_many_marks(rng: &mut Rng, hall: &Hall, record: &mut [u8]) {
     }
 }
 
-/// The tested sessions become waiting, but k stays.
+/// The tested sessions become waiting, but k is not 0.
 fn read_with_nothing_tested(rng: &mut Rng, record: &mut [u8]) {
     let waiting = word(record, place::WAITING) + word(record, place::TESTED);
     set_word(record, place::WAITING, waiting);

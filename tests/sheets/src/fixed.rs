@@ -70,7 +70,7 @@ fn codes() -> Vec<Vec<u8>> {
     sheets
 }
 
-/// Each step, accepted and refused, with all numbers in `groups` groups.
+/// Each step, accepted and refused, with all numbers in at least `least_groups` groups.
 fn every_step(least_groups: usize) -> Vec<u8> {
     let records: [&[u32]; 16] = [
         &[2, 2, 2],
