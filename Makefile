@@ -1,16 +1,16 @@
-# The front door. 'make help' prints these lines.
-#   make run            runs the sheet program on an example sheet (SHEET=busy_desk names another) and says what its lines mean
+# 'make help' prints these lines.
+#   make run            runs the sheet program on an example sheet (SHEET=busy_desk names another) and explains its output
 #   make host           builds and runs the example host in C
 #   make test           the gate: all proofs from nothing, the edits that must be refused, the tests outside Rattle
 #   make lib            the archive and its header, in build/
-#   make bench          the six calls against boards in Rust and in C, and the sheet program against one in Rust, same run
-#   make proved         the theorems
-#   make edits          the wrong programs and rules in edits/, each refused at its place
-#   make gallery        draws the example sheets anew, in docs/gallery/
-#   make selftest       shows that the comparisons catch 31 wrong boards and 34 wrong sheet programs, and the trace of stores 8
-#                       stray ones (minutes)
-#   make soak           the comparisons with new seeds; MINUTES=10 says how long, 1 if not said
-#   make fuzz           fuzzes the six calls, then the sheet program, each for half of MINUTES; installs clang if it is missing
+#   make bench          times the six calls against boards in Rust and in C, and the sheet program against one in Rust
+#   make proved         lists the theorems
+#   make edits          tries the wrong programs and rules in edits/: each must be refused where it says
+#   make gallery        draws the example sheets again, in docs/gallery/
+#   make selftest       shows that the comparisons catch 31 wrong boards and 34 wrong sheet programs, and that the trace of
+#                       stores catches 8 stray ones (minutes)
+#   make soak           runs the comparisons with new seeds; MINUTES=10 says how long (default: 1)
+#   make fuzz           fuzzes the six calls, then the sheet program, each for half of MINUTES; installs clang if missing
 #   make fuzz-selftest  shows that the fuzzing catches wrong boards, stray accesses and wrong programs (minutes)
 .PHONY: run host test lib bench proved edits gallery selftest soak fuzz fuzz-selftest help target/bin/day_sheet
 
@@ -20,33 +20,31 @@ export SESSION_BOARD_LIB = $(CURDIR)/build
 SHEET = quiet_shift
 MINUTES = 1
 
-run: examples/$(SHEET).txt target/bin/day_sheet
-	@mkdir -p build
-	@tools/sheet encode examples/$(SHEET).txt > build/$(SHEET).sheet
-	@tools/sheet explain build/$(SHEET).sheet
+run: build/$(SHEET).sheet target/bin/day_sheet
+	@tools/sheet explain $<
 
-# Asked before anything is proved.
+# Renamed when complete, so that two makes can run at once.
+build/%.sheet: examples/%.txt $(wildcard tools/day_sheet_tool/*.py)
+	@mkdir -p build
+	@tools/sheet encode $< > $@.$$$$ && mv $@.$$$$ $@
+
+# An unknown SHEET is reported before anything is proved.
 examples/%.txt:
-	@echo "make: there is no $@; SHEET= is one of: $(notdir $(basename $(wildcard examples/*.txt)))" >&2; exit 2
+	@echo "make: no file $@; SHEET= is one of: $(notdir $(basename $(wildcard examples/*.txt)))" >&2; exit 2
 
 host: lib
-	@gcc -Iinclude examples/host.c build/libhost.a -o build/host_example
+	@gcc -Iinclude examples/host.c build/libsession_board.a -o build/host_example.$$$$ && \
+	    mv build/host_example.$$$$ build/host_example
 	@build/host_example
 
 test:
 	@tools/gate
 
 lib:
-	@mkdir -p build
-	@echo "Proving and building the archive: minutes, if a crate has changed." >&2
-	@rt staticlib host > build/staticlib.log 2>&1 || { cat build/staticlib.log; exit 1; }
-	@cp target/staticlib/libhost.a include/session_board.h build/
+	@tools/build lib
 
-# Always asked for: rt knows what has changed.
 target/bin/day_sheet:
-	@mkdir -p build
-	@echo "Proving and building the sheet program: minutes, if a crate has changed." >&2
-	@rt check day_sheet > build/day_sheet.log 2>&1 || { cat build/day_sheet.log; exit 1; }
+	@tools/build day_sheet
 
 bench: lib target/bin/day_sheet
 	@bench/c_board/compare.sh
@@ -62,18 +60,15 @@ proved:
 edits:
 	@tools/edits
 
-gallery: target/bin/day_sheet
-	@mkdir -p build
-	@for text in examples/*.txt; do \
-	    name=$$(basename $$text .txt); \
-	    tools/sheet encode $$text > build/$$name.sheet && \
-	    tools/sheet picture build/$$name.sheet docs/gallery/$$name.svg || exit 1; \
+gallery: $(patsubst examples/%.txt,build/%.sheet,$(wildcard examples/*.txt)) target/bin/day_sheet
+	@for sheet in $(filter %.sheet,$^); do \
+	    tools/sheet picture $$sheet docs/gallery/$$(basename $$sheet .sheet).svg || exit 1; \
 	done
 
 selftest:
-	@tests/compare/selftest.sh
-	@tests/sheets/selftest.sh
-	@tests/stores/selftest.sh
+	@tests/selftest.sh boards
+	@tests/selftest.sh programs
+	@tests/selftest.sh stores
 
 soak: lib target/bin/day_sheet
 	@tests/soak.sh build target/bin/day_sheet $(MINUTES)
@@ -82,11 +77,11 @@ fuzz: lib target/bin/day_sheet
 	@tests/fuzz/run.sh build target/bin/day_sheet $(MINUTES)
 
 fuzz-selftest:
-	@tests/fuzz/selftest.sh
+	@tests/selftest.sh fuzz
 
 help:
 	@sed -n 's/^#   //p' Makefile
 
-# A target that there is not.
+# Unknown target.
 .DEFAULT:
-	@echo "make: there is no target '$@'; 'make help' lists them" >&2; exit 2
+	@echo "make: unknown target '$@'; 'make help' lists the targets" >&2; exit 2

@@ -1,13 +1,13 @@
 /*
  * A small host: one hall of 2 desks with 1 screen each, and 2 crane positions.
  *
- *     gcc -Iinclude examples/host.c build/libhost.a -o build/host_example
+ *     gcc -Iinclude examples/host.c build/libsession_board.a -o build/host_example
  *
  * It shows what the board is for. A session that is replaced at its crane is
  * not closed at once: an operator may still be steering by it. The board hands
  * its retirement back once the screens that took it there have dropped it. This
- * host never uses a number again before it was handed back, so that a session
- * that is handed back stands nowhere in the table, and it may be closed at once.
+ * host reuses no number before it was handed back, so a session that is handed
+ * back is nowhere else in the table, and may be closed at once.
  */
 #include "session_board.h"
 
@@ -16,12 +16,12 @@
 
 enum { DESKS = 2, SCREENS = 1, POSITIONS = 2 };
 
-/* The host lends the board its memory. The board keeps none of its own, so
- * this table is the whole state of the hall. The largest hall's size always
- * fits; a host that is short of memory lends 2 * board_need(...) bytes. */
+/* The host lends the board its memory. The board has none of its own, so this
+ * table is the whole state of the hall. The size of the largest hall is always
+ * enough; a host with little memory lends 2 * board_need(...) bytes. */
 static uint8_t table[BOARD_MAX_BYTES];
 
-/* Each refusal has a number; an operator would rather read this. */
+/* The text of each refusal, for an operator. */
 static const char *reason(uint16_t number)
 {
     switch (number) {
@@ -30,9 +30,9 @@ static const char *reason(uint16_t number)
     case BOARD_BAD_POSITIONS: return "a hall has 1 to 64 positions";
     case BOARD_TABLE_SHORT: return "the table is too short for this hall";
     case BOARD_UNSOUND: return "the table is damaged, or no hall was opened in it";
-    case BOARD_NO_DESK: return "there is no such desk";
+    case BOARD_NO_DESK: return "the hall has no such desk";
     case BOARD_NO_SCREEN: return "the desk has no such screen";
-    case BOARD_NO_POSITION: return "there is no such position";
+    case BOARD_NO_POSITION: return "the hall has no such position";
     case BOARD_SCREEN_FULL: return "the screen shows a session already";
     case BOARD_POSITION_EMPTY: return "the position holds no session";
     case BOARD_SCREEN_EMPTY: return "the screen shows nothing";
@@ -43,8 +43,8 @@ static const char *reason(uint16_t number)
     }
 }
 
-/* A refusal changes nothing, so a host may say why and carry on. Look at the
- * number alone: session 0 can also be the answer to an accepted call. */
+/* A refusal changes nothing, so a host may report it and continue. Test only the
+ * number: session 0 is also a valid result of an accepted call. */
 static int accepted(uint32_t answer)
 {
     uint16_t number = board_number(answer);
@@ -67,11 +67,11 @@ static void drop(uint16_t desk, uint16_t screen)
     printf("desk %u drops its screen: ", (unsigned)desk);
     uint32_t answer = board_drop(desk, screen, table, sizeof table);
     if (accepted(answer))
-        printf("session %u is shown there no more\n", (unsigned)board_session(answer));
+        printf("it no longer shows session %u\n", (unsigned)board_session(answer));
 }
 
 /* A swap and its retire belong together: the desk owes the session that it
- * replaced, and can swap no further before it has retired it. */
+ * replaced, and cannot swap again before it has retired it. */
 static void replace(uint16_t desk, uint16_t position, uint16_t session)
 {
     printf("desk %u puts session %u at position %u: ", (unsigned)desk, (unsigned)session,
@@ -90,8 +90,8 @@ static void replace(uint16_t desk, uint16_t position, uint16_t session)
 }
 
 /* A desk that collects at least once between two retires never runs out of
- * room. Each collect looks at two more screens and hands back at most one
- * retirement. By this host's own rule, no number twice, its session may then be
+ * room. Each collect reads two more screens and hands back at most one
+ * retirement. Because this host reuses no number, the session may then be
  * closed. */
 static uint16_t collect(uint16_t desk)
 {
@@ -120,7 +120,7 @@ int main(void)
 
     printf("\nSession 300 is replaced while desk 2 still shows it.\n");
     replace(1, 1, 301);
-    if (collect(1) != 0) /* it is shown, so it must not come back */
+    if (collect(1) != 0) /* a screen shows it, so it must not be handed back */
         return EXIT_FAILURE;
 
     printf("\nSession 400 is replaced too; nobody shows that one.\n");
@@ -128,12 +128,12 @@ int main(void)
     if (collect(1) != 400)
         return EXIT_FAILURE;
 
-    printf("\nDesk 2 lets go of session 300, and only now it may be closed.\n");
+    printf("\nDesk 2 drops session 300, and only now may it be closed.\n");
     drop(2, 1);
     if (collect(1) != 300)
         return EXIT_FAILURE;
 
-    printf("\nSome steps that do not fit.\n");
+    printf("\nSome steps that the board refuses.\n");
     take(2, 1, 3);
     drop(2, 1);
     take(3, 1, 1);

@@ -1,14 +1,14 @@
 #!/usr/bin/env python3
-"""Asks that every name in the documents' code marks is one that the repository declares: names change, and documents are read.
+"""Checks the documents: every name in backticks is declared in the repository, and no line but a table's is too long.
 
-usage: tests/documents.py [DOCUMENT ...]        README.md and those of docs/, if none is named
+usage: tests/documents.py [DOCUMENT ...]        by default README.md, tests/README.md, docs/*.md and docs/landings/README.md
 
 - `Table.need`: the file Table.antt declares `need`, or a record or a struct `Table` has the field.
-- `board::open`, `board::Board::need`: the crate's source declares it. What is no crate's (`u64::count_ones`) must stand so in a source.
-- `laws/table/EncodedStep`, `tests/host`: a file or a folder has this path or its end; CRATE and NAME in it stand for any.
+- `board::open`, `board::Board::need`: the crate's source declares it. A path of no crate (`u64::count_ones`) must occur in a source.
+- `laws/table/EncodedStep`, `tests/host`: a file or a folder has this path, or ends with it; CRATE, NAME and NN match any name.
 - `need`: a definition, a field, a constructor, a function, a constant, a type, an edit, a file or a folder, or a word of a test, a
   tool, the header or the Makefile.
-A mark that holds a phrase and no name is passed over.
+A phrase, an option, an extension and a path outside the repository (../) are ignored.
 """
 import collections
 import fnmatch
@@ -19,6 +19,8 @@ import sys
 ROOT = pathlib.Path(__file__).resolve().parent.parent
 PLACES = ['crates', 'edits', 'tests', 'tools', 'include', 'examples', 'bench', 'docs', 'Makefile', '.ci']
 BUILT = ('build', 'target')
+WIDTH = 120                  # columns of a line that is no table row
+GENERATED = ('MUTANTS.md',)  # written by a tool, in lines of any length
 KIT = ('io', 'libc')  # crates of the toolchain
 CLAUSES = {'requires', 'ensures'}
 NAME = r"[\w'′-]+"
@@ -49,10 +51,10 @@ def fields_of(text):
 
 class Names:
     def __init__(self):
-        self.paths = set()                              # every file and folder, with and without its ending
+        self.paths = set()                              # every file and folder, with and without its extension
         self.modules = collections.defaultdict(set)     # Table -> what Table.antt, or a record Table, declares
         self.crates = collections.defaultdict(set)      # board -> what its source declares
-        self.words = set(CLAUSES)                       # what a plain name may be
+        self.words = set(CLAUSES)                       # the plain names
         self.sources = []                               # the texts of the code, in Rattle and in Rust, and of the Makefile
         for file in files():
             self.add(file, file.relative_to(ROOT), file.read_text(errors='ignore'))
@@ -95,31 +97,38 @@ class Names:
     def has_path(self, mark):
         if mark.split('/')[0] in BUILT:
             return True
-        pattern = re.sub('CRATE|NAME', '*', mark)
+        pattern = re.sub('CRATE|NAME|NN', '*', mark)
         return any(fnmatch.fnmatchcase(path, pattern) or fnmatch.fnmatchcase(path, '*/' + pattern) for path in self.paths)
 
 
 def names_in(text):
     for mark in re.findall(r'`([^`\n]+)`', text):
-        if re.fullmatch(r"[\w'′:./*-]+", mark) and re.search(r'[A-Za-z]', mark) and mark.strip('.') == mark:
+        if re.fullmatch(r"[\w'′:./*-]+", mark) and re.search(r'[A-Za-z]', mark) and mark[0] not in '.-' and mark[-1] != '.':
             yield mark
 
 
 def main():
-    documents = [pathlib.Path(name) for name in sys.argv[1:]] or [ROOT / 'README.md', *sorted(ROOT.glob('docs/*.md'))]
+    documents = [pathlib.Path(name) for name in sys.argv[1:]]
+    if not documents:
+        documents = [ROOT / 'README.md', ROOT / 'tests' / 'README.md', *sorted(ROOT.glob('docs/*.md')),
+                     ROOT / 'docs' / 'landings' / 'README.md']
     for document in documents:
         if not document.is_file():
             sys.exit(f'documents: no file {document}')
     names = Names()
-    missing, count = [], 0
+    faults, count = [], 0
     for document in documents:
-        for mark in names_in(document.read_text()):
+        text = document.read_text()
+        for mark in names_in(text):
             count += 1
             if not names.has(mark):
-                missing.append(f'{document.name}: `{mark}` is not declared')
-    print(*missing, sep='\n', end='\n' if missing else '')
-    print(f'documents: {count} names, {len(missing)} not declared')
-    sys.exit(1 if missing else 0)
+                faults.append(f'{document.name}: `{mark}` is not declared')
+        for number, line in enumerate(text.splitlines(), 1):
+            if len(line) > WIDTH and not line.startswith('|') and document.name not in GENERATED:
+                faults.append(f'{document.name}:{number}: the line has {len(line)} columns')
+    print(*faults, sep='\n', end='\n' if faults else '')
+    print(f'documents: {count} names, {len(faults)} faults')
+    sys.exit(1 if faults else 0)
 
 
 main()

@@ -1,15 +1,14 @@
 #!/bin/sh
-# Tests the board and the sheet program from outside, quietly, up to the first
-# failure:
+# Runs the tests outside Rattle, up to the first failure (tests/README.md):
 #
 #     tests/run.sh LIBDIR PROGRAM
 #
-# LIBDIR holds the archive libhost.a; PROGRAM reads a day sheet and prints it.
-# What is built goes to target/ beside include/, or to $TARGET.
+# LIBDIR contains the archive libsession_board.a; PROGRAM is a sheet program.
+# Built files go to $TARGET, or else to target/outside.
 set -eu
 
 root=$(cd "$(dirname "$0")/.." && pwd)
-name=run words="LIBDIR PROGRAM (LIBDIR with libhost.a, PROGRAM a day sheet program)"
+name=run words="LIBDIR PROGRAM (LIBDIR contains libsession_board.a, PROGRAM is a sheet program)"
 . "$root/tests/arguments.sh"
 [ $# -eq 2 ] || usage "two arguments are needed"
 places "$1" "$2"
@@ -19,7 +18,7 @@ mkdir -p "$CARGO_TARGET_DIR"
 log=$CARGO_TARGET_DIR/run.log
 warnings="-std=c11 -Wall -Wextra -Wpedantic -Werror -O2"
 
-# step NAME LINES COMMAND...: shows the last lines, or all of them on failure.
+# step NAME LINES COMMAND...: prints the last LINES lines of output, or all on failure
 step() {
     name=$1 lines=$2
     shift 2
@@ -37,9 +36,11 @@ build() {
     cargo build --quiet --offline --release --manifest-path "$root/tests/$1/Cargo.toml"
 }
 
-# link SOURCE NAME
+# link NAME SOURCE...: a C program, with the archive
 link() {
-    gcc $warnings -I"$root/include" "$1" "$SESSION_BOARD_LIB/libhost.a" -o "$CARGO_TARGET_DIR/$2"
+    built=$CARGO_TARGET_DIR/$1
+    shift
+    gcc $warnings -I"$root/include" -I"$root/tests/c" "$@" "$SESSION_BOARD_LIB/libsession_board.a" -o "$built"
 }
 
 reference_tests() {
@@ -51,7 +52,7 @@ reference_tests() {
 step "reference" 1 reference_tests
 step "building compare" 0 build compare
 step "compare" 1 "$CARGO_TARGET_DIR/release/compare"
-step "building host_test" 0 link "$root/tests/host/host_test.c" host_test
+step "building host_test" 0 link host_test "$root/tests/host/host_test.c" "$root"/tests/c/*.c
 step "host_test" 1 "$CARGO_TARGET_DIR/host_test"
 step "building sheets" 0 build sheets
 step "building the sheet program in Rust" 0 build reference
@@ -60,8 +61,9 @@ step "sheets" 1 "$CARGO_TARGET_DIR/release/sheets" "$program" \
 step "sheet_cases" 1 "$root/tests/sheet_cases.py" --check --reference \
     "$CARGO_TARGET_DIR/release/day_sheet_reference"
 step "tool" 1 "$root/tests/tool.sh" "$program"
-step "building the example" 0 link "$root/examples/host.c" host_example
+step "building the example" 0 link host_example "$root/examples/host.c"
 step "the example" 0 "$CARGO_TARGET_DIR/host_example"
 step "documents" 1 "$root/tests/documents.py"
+step "moved" 1 "$root/tests/moved.py"
 step "stores" 1 "$root/tests/stores/run.sh" "$SESSION_BOARD_LIB"
 echo "run: all passed"

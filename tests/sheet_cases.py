@@ -1,10 +1,10 @@
 #!/usr/bin/env python3
-"""The cases that the program sheet_cases is run on: writes its stored input and output from the list tests/sheet_cases.txt.
+"""Writes the stored input and output of the program sheet_cases from the list tests/sheet_cases.txt.
 
 usage: tests/sheet_cases.py                         writes crates/sheet_cases/stdin and stdout
-       tests/sheet_cases.py --check                 says whether the stored files are those of the list
+       tests/sheet_cases.py --check                 checks that the stored files match the list
        tests/sheet_cases.py --reference PROGRAM     runs PROGRAM, which prints one sheet, on each case and compares
-       tests/sheet_cases.py --list                  the numbers and names of the cases
+       tests/sheet_cases.py --list                  prints the numbers and names of the cases
 
 The last line is 'sheet_cases: ..', and the exit status is 0 only if all agree.
 """
@@ -25,7 +25,7 @@ Case = collections.namedtuple('Case', 'name sheet lines')
 
 
 def listed():
-    """The cases of the list. Its first lines say how it is written."""
+    """The cases of the list. Its first lines document the format."""
     cases = []
     for number, row in enumerate(LIST.read_text().splitlines(), 1):
         if not row.strip() or row.startswith('#'):
@@ -46,7 +46,7 @@ def listed():
 
 def longest():
     """The cases of 65,536 bytes and of one more."""
-    # Sessions come and go in a hall of 1, 1, 1: a swap to 65,535, a swap to 0, a retire, a collect. Every number has three bytes.
+    # In a hall of 1, 1, 1, repeated: a swap to 65,535, a swap to 0, a retire, a collect. Every number has three bytes.
     one, none = '81 80 00', '80 80 00'
     swap, retire, collect = f'83 80 00 {one} {one}', f'84 80 00 {one}', f'85 80 00 {one}'
     turn = bytes.fromhex(f'{swap} FF FF 03 {swap} {none} {retire} {collect}')
@@ -68,14 +68,14 @@ def text(lines):
 
 
 def stored(cases):
-    """What the files stdin and stdout have: each sheet after its length, and its lines after its number."""
+    """The contents of the files stdin and stdout: each sheet after its length, and its lines after its number."""
     stdin = b''.join(len(case.sheet).to_bytes(3, 'little') + case.sheet for case in cases)
     stdout = b''.join(text([f'case {number}', *case.lines]) for number, case in enumerate(cases, 1))
     return {STORED / 'stdin': stdin, STORED / 'stdout': stdout}
 
 
 def compared(cases, program):
-    """Says where the program prints something else."""
+    """Runs the program on each case; returns how many differ."""
     wrong = 0
     for number, case in enumerate(cases, 1):
         found = subprocess.run([program], input=case.sheet, stdout=subprocess.PIPE, check=True).stdout
@@ -101,7 +101,7 @@ def main():
         for path, content in stored(cases).items():
             if not path.exists() or path.read_bytes() != content:
                 wrong += 1
-                print(f"{path.relative_to(ROOT)} is not of today's list ('tests/sheet_cases.py' writes it)")
+                print(f"{path.relative_to(ROOT)} does not match the list ('tests/sheet_cases.py' writes it)")
     if options.reference:
         wrong += compared(cases, options.reference)
     if not options.check and not options.reference:

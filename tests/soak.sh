@@ -1,16 +1,16 @@
 #!/bin/sh
 # Compares the board and the sheet program with those in Rust for a given time,
-# in rounds, each with a seed that no round had before; stops at the first
-# difference with the line that runs it again:
+# in rounds, each with a new seed. Stops at the first difference, with a command
+# that runs it again:
 #
 #     tests/soak.sh LIBDIR PROGRAM MINUTES [FIRST_SEED]
 #
-# LIBDIR holds the archive libhost.a; PROGRAM reads a day sheet and prints it.
-# No round begins after the time is over. What is built goes to target/ beside
-# include/, or to $TARGET.
+# LIBDIR contains the archive libsession_board.a; PROGRAM is a sheet program. No
+# round starts after the time is over. Built files go to $TARGET, or else to
+# target/outside.
 set -eu
 
-# About ten seconds each, and far more than it takes to see every reply.
+# About ten seconds each, and far more than are needed to get every reply.
 calls=20000000
 sheets=8000
 
@@ -21,7 +21,7 @@ name=soak words="LIBDIR PROGRAM MINUTES [FIRST_SEED]"
 places "$1" "$2"
 minutes "$3"
 end=$(($(date +%s) + $3 * 60))
-first=${4:-$(date +%s)} # the time of day: another one whenever it is run
+first=${4:-$(date +%s)} # the time: different in each run
 CARGO_TARGET_DIR=${TARGET:-$root/target/outside}
 export CARGO_TARGET_DIR
 built=$CARGO_TARGET_DIR/release
@@ -31,19 +31,19 @@ for crate in compare sheets reference; do
     cargo build --quiet --offline --release --manifest-path "$root/tests/$crate/Cargo.toml"
 done
 
-# round COMMAND...: its last line, or, on failure, all lines, with the one that
-# runs it again among them.
+# round COMMAND...: prints the last line of output, or, on failure, all lines,
+# which include the command that runs it again
 round() {
     if ! "$@" >"$log" 2>&1; then
         cat "$log"
         echo "soak: stopped at seed $seed; $all_calls calls and $all_sheets sheets before it had 0 differences"
-        echo "soak: compare and sheets, to run it again, are in $built"
+        echo "soak: to run it again: compare and sheets are in $built"
         exit 1
     fi
     tail -n 1 "$log"
 }
 
-# compared NAME: how many the last round compared.
+# compared NAME: how many calls or sheets the last round compared
 compared() {
     sed -n "s/^$1: \([0-9]*\) .*/\1/p" "$log" | tail -n 1
 }

@@ -1,7 +1,7 @@
 #!/bin/sh
-# Tests tools/sheet as people use it, with good and with bad input:
+# Tests tools/sheet from the command line, with valid and invalid input:
 #
-#     tests/tool.sh PROGRAM      PROGRAM reads a day sheet and prints it
+#     tests/tool.sh PROGRAM      PROGRAM is a sheet program
 set -eu
 
 [ $# -eq 1 ] && [ -x "$1" ] || { echo "usage: $0 PROGRAM"; exit 2; }
@@ -12,7 +12,7 @@ trap 'rm -rf "$work"' EXIT
 cd "$work"
 checks=0
 
-# The interpreter itself and nothing that is installed beside it: finding those takes longer than the tool.
+# -S: no installed packages; finding them takes longer than the tool.
 python=$(python3 -c 'import sys; print(sys.executable)')
 sheet() {
     "$python" -S "$root/tools/sheet" "$@"
@@ -33,8 +33,8 @@ same() {
     passed
 }
 
-# refused STATUS MESSAGE COMMAND...: the command ends so, says this on standard
-# error, and nothing else; it writes no byte to standard output.
+# refused STATUS MESSAGE COMMAND...: the command ends with this status, prints
+# exactly this line on standard error, and nothing on standard output.
 refused() {
     status=0 expected=$1 message=$2
     shift 2
@@ -46,13 +46,13 @@ refused() {
     passed
 }
 
-# bad_text MESSAGE TEXT: the text, in printf's form, cannot be encoded.
+# bad_text MESSAGE TEXT: the text, a printf format, cannot be encoded.
 bad_text() {
     printf "$2" >bad.txt
     refused 2 "bad.txt$1" encode bad.txt
 }
 
-# bad_sheet MESSAGE BYTES: the bytes, in printf's form, cannot be read.
+# bad_sheet MESSAGE BYTES: the bytes, a printf format, cannot be read.
 bad_sheet() {
     printf "$2" >bad.sheet
     status=0
@@ -88,7 +88,7 @@ cat >d.meaning <<'END'
 4 4 0 300   desk 1 retires: 300 now waits on its list
 5 5 0 0     desk 1 collects: nothing is handed back
 6 2 0 300   desk 1 drops screen 1: it showed 300
-7 5 0 300   desk 1 collects: one retirement of 300 is handed back; it stands nowhere now and may be closed
+7 5 0 300   desk 1 collects: one retirement of 300 is handed back; nothing references it now, so it may be closed
 8 4 13 0    desk 1 retires: refused, the desk owes no session
 end 7 1 1   7 steps accepted, 1 refused by the board, 1 session handed back
 END
@@ -112,33 +112,33 @@ retire 1
 collect 1
 END
 sheet encode twice.txt >twice.sheet
-echo "9 5 0 5     desk 1 collects: one retirement of 5 is handed back; it stands on desk 1's list and must stay open" >twice.meaning
+echo "9 5 0 5     desk 1 collects: one retirement of 5 is handed back; it is still on desk 1's list and must stay open" >twice.meaning
 sheet explain twice.sheet --program "$program" | sed -n 's/ *$//; /^9 /p' >twice.explained
 same "explain: a session that must stay open" twice.meaning twice.explained
 
-# Comments, blank lines, spaces and other line ends leave the bytes alone.
+# Comments, blank lines, spaces and other line ends do not change the bytes.
 printf '\357\273\277# a comment\r\n\r\n\thall  1 1 1 # the hall\r\nswap 1 01 300\r\n' >loose.txt
 sheet encode loose.txt >loose.sheet
 printf '\001\001\001\003\001\001\254\002' >loose.bytes
 same "encode: a loose text" loose.bytes loose.sheet
 
-# The examples, there and back, and their pictures as they stand in the gallery.
+# The examples, encoded and decoded, and their pictures, compared with the gallery.
 for text in "$root"/examples/*.txt; do
     name=$(basename "$text" .txt)
     sheet encode "$text" >"$name.sheet"
     sheet decode "$name.sheet" >"$name.txt"
     sheet encode "$name.txt" >"$name.again"
-    same "$name: there and back" "$name.sheet" "$name.again"
+    same "$name: encode, decode, encode" "$name.sheet" "$name.again"
     sheet picture "$name.sheet" "$name.svg" --program "$program"
-    same "$name: docs/gallery is not of today ('make gallery')" "$root/docs/gallery/$name.svg" "$name.svg"
+    same "$name: docs/gallery is not up to date ('make gallery')" "$root/docs/gallery/$name.svg" "$name.svg"
 done
 
-# Pictures are XML, also of a sheet with nothing to show and of one cut short.
+# Pictures are XML, also of a sheet without records and of a truncated one.
 printf '\002\001\001' >nothing.sheet
 printf '\002\001\001\005\001\001\002' >cut.sheet
 for name in d nothing cut; do
     sheet picture "$name.sheet" "$name.svg" --program "$program"
-    "$python" -c 'import sys, xml.dom.minidom as dom; dom.parse(sys.argv[1])' "$name.svg" || fail "$name.svg: no XML"
+    "$python" -c 'import sys, xml.dom.minidom as dom; dom.parse(sys.argv[1])' "$name.svg" || fail "$name.svg: not XML"
     passed
 done
 grep -q ">refused 13<" d.svg || fail "the picture of case D does not show the refusal"
@@ -146,37 +146,37 @@ grep -q ">number 15<" cut.svg || fail "the picture of a cut sheet does not show 
 passed
 
 # Texts that cannot be encoded.
-bad_text ":2: there is no step 'take2'; the steps are take, drop, swap, retire, collect" 'hall 1 1 1\ntake2 1 1\n'
+bad_text ":2: no step 'take2'; the steps are take, drop, swap, retire, collect" 'hall 1 1 1\ntake2 1 1\n'
 bad_text ":3: 'take' has 3 numbers (desk, screen, position), here it has 2" 'hall 1 1 1\n\ntake 1 1 # short\n'
 bad_text ":2: 'retire' has 1 number (desk), here it has 2" 'hall 1 1 1\nretire 1 1\n'
 bad_text ":2: session: '-7' is not a number" 'hall 1 1 1\nswap 1 1 -7\n'
 bad_text ":2: session: 65536 is over 65,535 (reply number 16)" 'hall 1 1 1\nswap 1 1 65536\n'
 bad_text ":2: desk: 12345678901234567890... is over 65,535 (reply number 16)" 'hall 1 1 1\nretire 1234567890123456789012345\n'
 bad_text ":1: the first line must be 'hall DESKS SCREENS POSITIONS', not 'take'" 'take 1 1 1\nhall 1 1 1\n'
-bad_text ":2: the hall stands on the first line alone" 'hall 1 1 1\nhall 1 1 1\n'
-bad_text ": there is no line 'hall DESKS SCREENS POSITIONS', and every sheet begins with one" '# nothing but a comment\n'
-bad_text ": there is no line 'hall DESKS SCREENS POSITIONS', and every sheet begins with one" ''
+bad_text ":2: only the first line may be 'hall'" 'hall 1 1 1\nhall 1 1 1\n'
+bad_text ": no line 'hall DESKS SCREENS POSITIONS'; every sheet starts with one" '# nothing but a comment\n'
+bad_text ": no line 'hall DESKS SCREENS POSITIONS'; every sheet starts with one" ''
 bad_text ":2: not UTF-8 text; is it a sheet already? then 'decode' reads it" 'hall 1 1 1\n\377\376\n'
 bad_text ":1: not plain text; is it a sheet already? then 'decode' reads it" '\001\001\001\005\001'
 awk 'BEGIN { print "hall 1 1 1"; for (i = 0; i < 32767; i++) print "collect 1" }' >long.txt
 refused 2 "long.txt:32768: the sheet is longer than 65,536 bytes with this record (reply number 18)" encode long.txt
 
 # Sheets that cannot be read.
-bad_sheet "byte 0, in the header: 15, the sheet stops before this number is whole" ''
-bad_sheet "byte 5, in record 1 (take): 15, the sheet stops before this number is whole" '\001\001\001\001\001\201'
+bad_sheet "byte 0, in the header: 15, the sheet ends before this number is complete" ''
+bad_sheet "byte 5, in record 1 (take): 15, the sheet ends before this number is complete" '\001\001\001\001\001\201'
 bad_sheet "byte 4, in record 1 (swap): 16, a number must end within three bytes and be at most 65,535" '\001\001\001\003\200\200\004\001'
-bad_sheet "byte 5, in record 2: code 9: 17, there is no step with this code; they are 1 to 5" '\001\001\001\005\001\011\001'
+bad_sheet "byte 5, in record 2: code 9: 17, no step has this code; the codes are 1 to 5" '\001\001\001\005\001\011\001'
 head -c 65537 /dev/zero >long.sheet
 refused 2 "long.sheet: the reading ends with 18, a sheet has at most 65,536 bytes" decode long.sheet
 
-# Files and programs that are not there, or are something else.
+# Files and programs that do not exist, or are of the wrong kind.
 refused 2 "none.txt: no such file or directory" encode none.txt
 refused 2 "none.sheet: no such file or directory" explain none.sheet --program "$program"
 refused 2 ".: is a directory" decode .
 refused 2 "d.txt: this is the text of a sheet; 'encode' makes the sheet" explain d.txt --program "$program"
 refused 2 "./none: no such file or directory" explain d.sheet --program none
 refused 2 "/bin/false: ended with status 1" explain d.sheet --program /bin/false
-refused 2 "/bin/true: the last line is not whole; are these the lines of a sheet?" explain d.sheet --program /bin/true
+refused 2 "/bin/true: the last line is incomplete; are these the lines of a sheet?" explain d.sheet --program /bin/true
 refused 2 "none/d.svg: no such file or directory" picture d.sheet none/d.svg --program "$program"
 printf '\021\001\001' >refused.sheet
 refused 2 "the opening is refused with 1, so there is no hall to draw ('explain' says why)" \
@@ -197,7 +197,7 @@ sheet explain cut.sheet --lines wrong.lines >out
 grep -qx '2 1 0 0     reply 0, though the reading ends at byte 7, in record 2 (take): 15, .*' out || fail "explain: a wrong end"
 passed
 
-# Bytes of no meaning: a message, never a trace of the tool's own lines.
+# Random bytes: a message, never a Python traceback.
 for at in 1 2 3; do
     head -c "$((at * 700))" "$program" | tail -c 300 >junk
     for command in "encode junk" "decode junk" "explain junk --program $program" "explain d.sheet --lines junk" \

@@ -1,6 +1,6 @@
 #!/bin/sh
 # Compares the board in C with the one in Rust, as tests/compare does it with
-# the archive: the C board stands in the archive's place.
+# the archive: the C board replaces the archive.
 #
 #     bench/c_board/compare.sh [CALLS]
 set -eu
@@ -11,8 +11,8 @@ out=$root/target/c_board
 mkdir -p "$out"
 gcc -std=c11 -Wall -Wextra -Wpedantic -Werror -O2 -msse2 -fno-builtin-memset -I"$root/include" \
     -c "$here/board.c" -o "$out/board.o"
-rm -f "$out/libhost.a"
-ar crs "$out/libhost.a" "$out/board.o"
+rm -f "$out/libsession_board.a"
+ar crs "$out/libsession_board.a" "$out/board.o"
 # A folder of its own: cargo builds the comparison anew for each archive.
 SESSION_BOARD_LIB=$out CARGO_TARGET_DIR=$out cargo run --quiet --offline --release \
     --manifest-path "$root/tests/compare/Cargo.toml" -- --calls "${1:-500000}" >"$out/compare.log" ||

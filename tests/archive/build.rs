@@ -1,9 +1,9 @@
-//! Links libhost.a from the directory that SESSION_BOARD_LIB names.
+//! Links libsession_board.a from the directory that SESSION_BOARD_LIB names.
 //!
-//! The archive may bring along a runtime of its own (a panic handler, say)
+//! The archive may contain a runtime of its own (a panic handler, for example)
 //! under names that this program's runtime uses too. So its six calls and all
-//! they need are first made one object in which only the six names are open:
-//! nothing of the archive can then be taken for anything of the program.
+//! they need are first linked into one object in which only the six names are
+//! global: the linker cannot confuse the two runtimes.
 
 use std::path::{Path, PathBuf};
 use std::process::Command;
@@ -24,12 +24,12 @@ fn main() {
 
 fn archive() -> PathBuf {
     let named = env::var("SESSION_BOARD_LIB")
-        .expect("SESSION_BOARD_LIB must name the directory that holds libhost.a");
-    fs::canonicalize(Path::new(&named).join("libhost.a"))
-        .unwrap_or_else(|error| panic!("{named}/libhost.a: {error}"))
+        .expect("SESSION_BOARD_LIB must name the directory of libsession_board.a");
+    fs::canonicalize(Path::new(&named).join("libsession_board.a"))
+        .unwrap_or_else(|error| panic!("{named}/libsession_board.a: {error}"))
 }
 
-/// Makes libboard.a, the archive with only the six names left open.
+/// Makes libboard.a: the archive with only the six names global.
 fn close(archive: &Path, out: &Path) {
     let (object, library) = (out.join("board.o"), out.join("libboard.a"));
     let wanted = CALLS.map(|call| format!("--undefined={call}"));
@@ -40,7 +40,7 @@ fn close(archive: &Path, out: &Path) {
         .arg("-o")
         .arg(&object));
     let open = CALLS.map(|call| format!("--keep-global-symbol={call}"));
-    // Embedded bitcode of another compiler version would only confuse ar.
+    // ar may not understand embedded bitcode of another compiler version.
     let bitcode = ["--remove-section=.llvmbc", "--remove-section=.llvmcmd"];
     run(Command::new("objcopy").args(open).args(bitcode).arg(&object));
     let _ = fs::remove_file(&library);

@@ -3,33 +3,33 @@
 #
 #     tests/fuzz/build.sh LIBDIR FOLDER [REFERENCE]
 #
-# LIBDIR holds the archive libhost.a. REFERENCE is the folder of the crate
-# reference_in_c; the self-test gives one beside a reference made wrong.
+# LIBDIR contains the archive libsession_board.a. REFERENCE is the folder of the crate
+# reference_in_c; the self-test passes one with a patched reference.
 set -eu
 
 fuzz=$(cd "$(dirname "$0")" && pwd)
-library=$1/libhost.a
+library=$1/libsession_board.a
 mkdir -p "$2"
 out=$(cd "$2" && pwd)
 reference=${3:-$fuzz/reference_in_c}
 
-# What the fuzzing needs beyond the rest of the repository.
+# Fuzzing needs clang with its fuzzer library.
 if ! command -v clang >/dev/null || ! echo 'int LLVMFuzzerTestOneInput(void) { return 0; }' |
     clang -fsanitize=fuzzer,address -x c - -o "$out/try" 2>/dev/null; then
     apt-get update --quiet --quiet
     apt-get install --quiet --quiet --yes clang libclang-rt-14-dev
 fi
 
-# The six calls and all they need as one object with only their names open, as
-# tests/archive does it: a board in Rust brings a runtime that the reference
-# has too.
+# One object with the six calls and all that they need, in which only their names
+# are global, as in tests/archive: a board in Rust comes with a runtime, and so
+# does the reference.
 calls="board_open board_take board_drop board_swap board_retire board_collect"
 ld -r --force-group-allocation $(printf -- '--undefined=%s ' $calls) "$library" -o "$out/board.o"
 objcopy $(printf -- '--keep-global-symbol=%s ' $calls) \
     --remove-section=.llvmbc --remove-section=.llvmcmd "$out/board.o"
 
-# The reference leads the fuzzer: each of its branches is counted, and what it
-# compares is seen.
+# The reference guides the fuzzer: its branches are counted and its comparisons
+# traced.
 coverage="-Cpasses=sancov-module
     -Cllvm-args=-sanitizer-coverage-level=4
     -Cllvm-args=-sanitizer-coverage-inline-8bit-counters
@@ -43,9 +43,9 @@ warnings="-std=c11 -Wall -Wextra -Wpedantic -Werror"
 harness() {
     name=$1
     shift
-    clang $warnings -O2 -g -fsanitize=fuzzer,address -I"$fuzz/../../include" -I"$fuzz" "$@" \
+    clang $warnings -O2 -g -fsanitize=fuzzer,address -I"$fuzz/../../include" -I"$fuzz" -I"$fuzz/../c" "$@" \
         "$expected" -o "$out/$name"
 }
 cd "$fuzz"
-harness fuzz_calls fuzz_calls.c call.c ground.c "$out/board.o"
+harness fuzz_calls fuzz_calls.c tally.c ../c/calls.c ../c/guarded_memory.c "$out/board.o"
 harness fuzz_sheets fuzz_sheets.c

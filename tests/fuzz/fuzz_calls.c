@@ -1,22 +1,24 @@
 /*
- * Fuzzes the six calls. An input is a table and the calls sent to it, one
+ * Fuzzes the six calls. An input is a table and the calls made on it, one
  * after the other:
  *
- *     place        1 byte    where on its ground the table is laid
+ *     place        1 byte    where in guarded memory the table is placed
  *     length       2 bytes   of the table, low byte first
- *     given        2 bytes   so many bytes of the table follow
- *     fill         1 byte    what the rest of it is filled with
+ *     given        2 bytes   how many bytes of the table follow
+ *     fill         1 byte    the value of the rest of it
  *     the bytes given
  *     calls to the end: 1 byte for the function, then three numbers, of one
- *     byte each, or of two if the function's byte has its top bit
+ *     byte each, or of two if the function's byte has its top bit set
  *
- * Lengths wrap, so that every input is one. After each call what the header
- * promises is checked, first from the header alone, then with the reference.
+ * Lengths wrap, so that every input is valid. After each call the harness checks
+ * what the header promises, first from the header alone, then against the
+ * reference.
  */
-#include "call.h"
-#include "ground.h"
+#include "guarded_memory.h"
 #include "reference_in_c.h"
+#include "tally.h"
 
+#include <sanitizer/asan_interface.h>
 #include <stdio.h>
 #include <stdlib.h>
 #include <string.h>
@@ -55,22 +57,37 @@ static struct call next_call(void)
 
 /* ---- the tables ------------------------------------------------------ */
 
-static struct ground lent, short_reach;
+static struct guarded_memory lent, reachable;
 static uint8_t at_first[MAX_BYTES], before[MAX_BYTES], of_reference[MAX_BYTES];
-static uint8_t *told; /* the table, as the board gets it: NULL is allowed for no bytes */
+static uint8_t *passed; /* the table, as the board gets it: NULL is allowed for no bytes */
 
-static void lay_table(void)
+static void read_table(void)
 {
     unsigned place = byte() % PLACES;
     size_t bytes = two_bytes() % (MAX_BYTES + 1u);
     size_t given = two_bytes() % (bytes + 1);
     uint8_t fill = byte();
-    lay(&lent, place, bytes);
+    place_table(&lent, place, bytes);
     for (size_t at = 0; at < bytes; at++)
         at_first[at] = at < given ? byte() : fill;
     memcpy(lent.table, at_first, bytes);
     memcpy(of_reference, at_first, bytes);
-    told = bytes == 0 && place == ALIGNED_0 ? NULL : lent.table;
+    passed = bytes == 0 && place == ALIGNED_0 ? NULL : lent.table;
+}
+
+/* The archive is not instrumented, so the address sanitizer does not see its
+ * own accesses. It does see those of memcpy, memmove and memset, so the guard
+ * bytes are poisoned while the archive runs. */
+static void poison_guards(void)
+{
+    size_t first = (size_t)(lent.table - lent.start), past = first + lent.bytes;
+    ASAN_POISON_MEMORY_REGION(lent.start, first);
+    ASAN_POISON_MEMORY_REGION(lent.start + past, lent.length - past);
+}
+
+static void unpoison_guards(void)
+{
+    ASAN_UNPOISON_MEMORY_REGION(lent.start, lent.length);
 }
 
 /* The need in bytes of a hall, or all bytes of the table if there is no such
@@ -85,7 +102,7 @@ static size_t need_within(const uint16_t hall[3], size_t bytes)
     return need < most ? need : most;
 }
 
-/* The bytes that a call may touch. */
+/* How many bytes from the start a call may access. */
 static size_t reach(const struct call *call, const uint8_t *table, size_t bytes)
 {
     uint16_t hall[3];
@@ -117,49 +134,50 @@ static void keeps_the_headers_promises(const struct call *call, uint32_t answer)
 {
     size_t touched = reach(call, before, lent.bytes);
     require(can_answer(call->function, board_number(answer)), "a reply number of this call");
-    require(known_intact(&lent), "nothing outside the table is written");
+    require(guards_intact(&lent, lent.bytes), "nothing outside the table is written");
     require(memcmp(before + touched, lent.table + touched, lent.bytes - touched) == 0,
             "nothing past the need, and no odd last byte, is written");
     if (board_number(answer) != BOARD_ACCEPTED) {
         require(board_session(answer) == 0, "a refusal has session 0");
         require(memcmp(before, lent.table, lent.bytes) == 0, "a refusal leaves every byte");
     } else {
-        /* No hall has a desk 0: anything but 5 says that the table is sound. */
-        require(board_number(board_collect(0, told, lent.bytes)) == BOARD_NO_DESK,
+        /* No hall has a desk 0, so a sound table gives 6. */
+        require(board_number(board_collect(0, passed, lent.bytes)) == BOARD_NO_DESK,
                 "an accepted call leaves a sound table");
     }
 }
 
-/* The same call again, with all that it may not touch out of reach. */
+/* Repeats the call, with all bytes that it may not access on an inaccessible
+ * page. */
 static void reaches_no_further(const struct call *call, uint32_t answer)
 {
     size_t touched = reach(call, before, lent.bytes);
-    lay(&short_reach, AT_END, touched);
-    memcpy(short_reach.table, before, touched);
-    uint32_t again = to_archive(call, short_reach.table, lent.bytes);
+    place_table(&reachable, AT_END, touched);
+    memcpy(reachable.table, before, touched);
+    uint32_t again = send_call(call, reachable.table, lent.bytes);
     require(again == answer, "the same call on the same bytes has the same answer");
-    require(memcmp(short_reach.table, lent.table, touched) == 0,
+    require(memcmp(reachable.table, lent.table, touched) == 0,
             "the same call on the same bytes writes the same");
 }
 
 static void agrees_with_the_reference(const struct call *call, uint32_t answer)
 {
-    uint32_t expected = reference_call(call->function, call->numbers, of_reference, lent.bytes);
+    uint32_t expected = reference_call((uint8_t)call->function, call->numbers, of_reference, lent.bytes);
     require(answer == expected, "the answer of the reference");
     require(memcmp(of_reference, lent.table, lent.bytes) == 0, "the bytes of the reference");
 }
 
 /* ---- the fuzzer's side ----------------------------------------------- */
 
-/* The fuzzer takes an input as new if it gets one of these further. */
+/* The fuzzer keeps an input that raises one of these. */
 __attribute__((section("__libfuzzer_extra_counters")))
 static uint8_t this_input[FUNCTIONS][BOARD_NO_ROOM + 1];
 
 int LLVMFuzzerInitialize(int *count, char ***arguments)
 {
     (void)count, (void)arguments;
-    make_ground(&lent, MAX_BYTES);
-    make_ground(&short_reach, MAX_BYTES);
+    lent = make_guarded_memory(MAX_BYTES);
+    reachable = make_guarded_memory(MAX_BYTES);
     atexit(print_tally);
     return 0;
 }
@@ -171,14 +189,14 @@ int LLVMFuzzerTestOneInput(const uint8_t *bytes, size_t length)
     input.left = length;
     calls = made;
     calls_made = 0;
-    lay_table();
+    read_table();
     while (input.left > 0 && calls_made < sizeof made / sizeof *made) {
         struct call *call = &made[calls_made++];
         *call = next_call();
         memcpy(before, lent.table, lent.bytes);
-        hide_known(&lent);
-        uint32_t answer = to_archive(call, told, lent.bytes);
-        show_known(&lent);
+        poison_guards();
+        uint32_t answer = send_call(call, passed, lent.bytes);
+        unpoison_guards();
         keeps_the_headers_promises(call, answer);
         reaches_no_further(call, answer);
         agrees_with_the_reference(call, answer);

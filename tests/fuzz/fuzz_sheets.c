@@ -1,8 +1,8 @@
 /*
- * Fuzzes the sheet program. An input is a sheet, as it is: the program that
- * DAY_SHEET names runs on it in a process of its own, and what it prints is
- * compared with the lines of the reference, in this one. The reference is
- * instrumented and leads the fuzzer; the program is taken as it was built.
+ * Fuzzes the sheet program. An input is a sheet. The program that DAY_SHEET
+ * names runs on it in a separate process, and its output is compared with the
+ * lines of the reference, which runs in this process. The reference is
+ * instrumented and guides the fuzzer; the program is not.
  */
 #define _GNU_SOURCE
 #include "reference_in_c.h"
@@ -38,7 +38,7 @@ static void require(bool good, const char *what)
     abort(); /* the fuzzer saves the input */
 }
 
-/* This machine, not the program, is at fault. */
+/* A failure of the machine, not of the program. */
 static void must(bool good, const char *what)
 {
     if (good)
@@ -50,7 +50,7 @@ static void must(bool good, const char *what)
 /* ---- running the program --------------------------------------------- */
 
 static const char *program;
-static int lines; /* a file in memory that takes what is printed */
+static int lines; /* a file in memory for the output */
 static uint8_t printed[MAX_PRINTED];
 static const struct rlimit max_printed = {MAX_PRINTED, MAX_PRINTED};
 
@@ -62,8 +62,8 @@ static int sheet_in_a_file(const uint8_t *sheet, size_t bytes)
     return file;
 }
 
-/* In parts of so many bytes. A pipe that is made for packets gives one part to
- * each read, so a program that reads once only is seen. */
+/* In parts of `part` bytes. A packet-mode pipe delivers one part per read, which
+ * catches a program that reads only once. */
 static int sheet_in_a_pipe(const uint8_t *sheet, size_t bytes, size_t part, int flags)
 {
     int ends[2];
@@ -77,7 +77,7 @@ static int sheet_in_a_pipe(const uint8_t *sheet, size_t bytes, size_t part, int 
     return ends[0];
 }
 
-/* The length chooses the way, so that an input always goes the same one. */
+/* Chosen by the length, so that an input is always delivered in the same way. */
 static int sheet_to_read(const uint8_t *sheet, size_t bytes)
 {
     switch (bytes % 3) {
@@ -102,12 +102,12 @@ static pid_t start(int sheet)
     posix_spawn_file_actions_addopen(&files, 2, "/dev/null", O_WRONLY, 0);
     errno = posix_spawn(&child, program, &files, NULL, arguments, no_environment);
     must(errno == 0, program);
-    prlimit(child, RLIMIT_FSIZE, &max_printed, NULL); /* no matter if it has ended by now */
+    prlimit(child, RLIMIT_FSIZE, &max_printed, NULL); /* may fail: it may have ended already */
     posix_spawn_file_actions_destroy(&files);
     return child;
 }
 
-/* The fuzzer's own clock may interrupt the waiting; then it begins again. */
+/* The fuzzer's timer may interrupt poll(); then it is called again. */
 static bool ends_in_time(pid_t child)
 {
     int found;
@@ -149,7 +149,7 @@ static size_t run(const uint8_t *sheet, size_t bytes)
 
 static unsigned long sheets, tally[NUMBERS];
 
-/* The fuzzer takes an input as new if it gets one of these further. */
+/* The fuzzer keeps an input that raises one of these. */
 __attribute__((section("__libfuzzer_extra_counters")))
 static uint8_t this_input[NUMBERS];
 

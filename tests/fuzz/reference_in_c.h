@@ -1,4 +1,4 @@
-/* The reference, as the harnesses call it: reference_in_c/src/lib.rs. */
+/* The reference, as a C library: reference_in_c/src/lib.rs. */
 #ifndef REFERENCE_IN_C_H
 #define REFERENCE_IN_C_H
 
@@ -9,7 +9,7 @@
 uint32_t reference_call(uint8_t function, const uint16_t numbers[3],
                         uint8_t *table, size_t bytes);
 
-/* The lines stay until the next sheet. */
+/* The lines are valid until the next call. */
 const uint8_t *reference_lines(const uint8_t *sheet, size_t bytes, size_t *length);
 
 #endif

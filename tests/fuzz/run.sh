@@ -3,9 +3,9 @@
 #
 #     tests/fuzz/run.sh LIBDIR PROGRAM MINUTES
 #
-# LIBDIR holds the archive libhost.a; PROGRAM reads a day sheet and prints it.
-# All goes to target/fuzz beside include/, or to $FUZZ: the inputs worth keeping
-# (the next run begins with them), the logs, and in found/ an input that failed.
+# LIBDIR contains the archive libsession_board.a; PROGRAM is a sheet program. All
+# files go to $FUZZ, or else to target/fuzz: the inputs worth keeping (the next
+# run starts with them), the logs, and in found/ an input that failed.
 set -eu
 
 fuzz=$(cd "$(dirname "$0")" && pwd)
@@ -25,14 +25,14 @@ export DAY_SHEET
 CARGO_TARGET_DIR=$out/seeds cargo build --quiet --offline --release \
     --manifest-path "$fuzz/seeds/Cargo.toml"
 
-# fuzz NAME MAX_BYTES: the harness fuzz_NAME, begun with the seeds of its own.
+# fuzz NAME MAX_BYTES: runs the harness fuzz_NAME, starting with its seeds
 fuzz() {
     mkdir -p "$out/found" "$out/$1" "$out/$1_seeds"
     "$out/seeds/release/$1_seeds" "$out/$1_seeds" 2000
     log=$out/$1.log
     if ! "$out/fuzz_$1" -max_total_time="$seconds" -max_len="$2" -timeout=60 -print_final_stats=1 \
         -artifact_prefix="$out/found/$1-" "$out/$1" "$out/$1_seeds" >"$log" 2>&1; then
-        grep -a -v '^#' "$log" # all but the fuzzer's own progress
+        grep -a -v '^#' "$log" # without the fuzzer's progress
         input=$(sed -n 's/.*Test unit written to //p' "$log")
         echo "fuzz: failed; again: DAY_SHEET=$DAY_SHEET $out/fuzz_$1 $input"
         exit 1
@@ -43,6 +43,6 @@ fuzz() {
     echo
 }
 
-# A large table and some hundred calls; somewhat more than the longest sheet.
+# A large table with a few hundred calls; slightly more than the longest sheet.
 fuzz calls 8192
 fuzz sheets 70000

@@ -1,21 +1,20 @@
 /*
- * Tests the session board as a C host meets it: over bytes, at any address,
- * with memory around the table that must stay as it is.
+ * Tests the session board as a C host calls it: over bytes, at any address,
+ * with memory around the table that must stay unchanged.
  *
- * Every table is laid on a ground: a few pages of known bytes between two
- * pages that cannot be read or written. A stray write shows in the known
- * bytes; a stray read or write past them stops the test.
+ * Every table is placed in guarded memory: a stray write changes a guard byte,
+ * and a stray access beyond the guard bytes faults.
  *
- * Where asked for, each call is then made again on copies of its table whose
- * pages are read-only, but for those that hold a word that the call names: a
- * store to any other page is caught, even one that changes nothing.
+ * Where asked for, each call is repeated on copies of its table whose pages are
+ * read-only, except those with a word of the call's footprint: this catches a
+ * store to any other page, even one that changes nothing.
  */
 #define _DEFAULT_SOURCE
-#include "session_board.h"
+#include "guarded_memory.h"
+#include "layout.h"
 
 #include <setjmp.h>
 #include <signal.h>
-#include <stdbool.h>
 #include <stdio.h>
 #include <stdlib.h>
 #include <string.h>
@@ -49,61 +48,29 @@ static void end(void)
     printf("%s: %lu checks\n", group, checks - checks_before);
 }
 
-/* ---- the ground ------------------------------------------------------ */
+/* ---- signals --------------------------------------------------------- */
 
-enum { GUARD = 64, SPARE = 3 };
-
-static size_t page;
-static uint8_t *ground;
-static size_t ground_bytes;
-
-/* So many bytes, whole pages, between two pages that cannot be reached. */
-static uint8_t *pages(size_t bytes)
-{
-    uint8_t *all = mmap(NULL, bytes + 2 * page, PROT_READ | PROT_WRITE,
-                        MAP_PRIVATE | MAP_ANONYMOUS, -1, 0);
-    if (all == MAP_FAILED || mprotect(all, page, PROT_NONE) != 0 ||
-        mprotect(all + page + bytes, page, PROT_NONE) != 0) {
-        perror("host_test: no ground");
-        exit(2);
-    }
-    return all + page;
-}
-
-static void make_ground(void)
-{
-    page = (size_t)sysconf(_SC_PAGESIZE);
-    ground_bytes = (BOARD_MAX_BYTES + 2 * GUARD + 8 + page - 1) / page * page;
-    ground = pages(ground_bytes);
-}
-
-/* Not 0, and no two neighbours alike. */
-static uint8_t guard_byte(size_t at)
-{
-    return (uint8_t)(at % 251 + 1);
-}
-
-/* While a call runs on read-only pages: where to go on after a store to one. */
+/* While a call runs on read-only pages: where to continue after a store to one. */
 static sigjmp_buf after_store;
 static volatile sig_atomic_t store_expected;
 static uint8_t *volatile stored_to;
 
-static void stopped(int number, siginfo_t *info, void *context)
+static void on_signal(int number, siginfo_t *info, void *context)
 {
     (void)context;
     if (store_expected && number == SIGSEGV) {
         stored_to = info->si_addr;
         siglongjmp(after_store, 1);
     }
-    /* Nothing can be trusted any more; say where and stop. */
-    printf("FAILED in %s: signal %d, a read or write outside the table?\n", group, number);
+    /* The state of the program is unknown: report and exit. */
+    printf("FAILED in %s: signal %d, an access outside the table?\n", group, number);
     fflush(stdout);
     _exit(1);
 }
 
 static void catch_signals(void)
 {
-    struct sigaction action = {.sa_sigaction = stopped, .sa_flags = SA_SIGINFO};
+    struct sigaction action = {.sa_sigaction = on_signal, .sa_flags = SA_SIGINFO};
     sigaction(SIGSEGV, &action, NULL);
     sigaction(SIGBUS, &action, NULL);
     sigaction(SIGABRT, &action, NULL);
@@ -111,199 +78,56 @@ static void catch_signals(void)
 
 /* ---- the lent table -------------------------------------------------- */
 
-/* Where on its ground a table is laid. */
-enum place { AT_START, AT_END, ALIGNED_0 /* to ALIGNED_0 + 7 */ };
+enum { SPARE = 3 };
 
-static struct {
-    uint8_t *table;
-    size_t bytes;
-    size_t need; /* bytes that the board may write; the rest is guarded */
-    size_t told; /* as told to the board */
-} lent;
+static struct guarded_memory lent;
+static size_t writable;     /* bytes of the table that the board may write; the rest is guarded */
+static size_t bytes_passed; /* the length passed to the board */
 
 static uint8_t before[BOARD_MAX_BYTES + SPARE];
 
 static void lend(int place, size_t bytes)
 {
-    for (size_t at = 0; at < ground_bytes; at++)
-        ground[at] = guard_byte(at);
-    if (place == AT_START)
-        lent.table = ground;
-    else if (place == AT_END)
-        lent.table = ground + ground_bytes - bytes;
-    else
-        lent.table = ground + GUARD + (place - ALIGNED_0);
-    lent.bytes = bytes;
-    lent.need = bytes;
-    lent.told = bytes;
-}
-
-static bool guards_intact(void)
-{
-    size_t first = (size_t)(lent.table - ground);
-    for (size_t at = 0; at < first; at++)
-        if (ground[at] != guard_byte(at))
-            return false;
-    for (size_t at = first + lent.need; at < ground_bytes; at++)
-        if (ground[at] != guard_byte(at))
-            return false;
-    return true;
-}
-
-/* ---- a call ---------------------------------------------------------- */
-
-enum function { OPEN, TAKE, DROP, SWAP, RETIRE, COLLECT, FUNCTIONS };
-
-/* A function and its numbers; those that it lacks are 0. */
-struct call {
-    enum function function;
-    uint16_t numbers[3];
-};
-
-static uint32_t send(const struct call *call, uint8_t *table, size_t bytes)
-{
-    const uint16_t *numbers = call->numbers;
-    switch (call->function) {
-    case OPEN:
-        return board_open(numbers[0], numbers[1], numbers[2], table, bytes);
-    case TAKE:
-        return board_take(numbers[0], numbers[1], numbers[2], table, bytes);
-    case DROP:
-        return board_drop(numbers[0], numbers[1], table, bytes);
-    case SWAP:
-        return board_swap(numbers[0], numbers[1], numbers[2], table, bytes);
-    case RETIRE:
-        return board_retire(numbers[0], table, bytes);
-    default:
-        return board_collect(numbers[0], table, bytes);
-    }
-}
-
-static void print_call(const struct call *call)
-{
-    static const char *const names[FUNCTIONS] = {"open", "take", "drop", "swap", "retire", "collect"};
-    static const int fields[FUNCTIONS] = {3, 3, 2, 3, 1, 1};
-    printf("%s", names[call->function]);
-    for (int field = 0; field < fields[call->function]; field++)
-        printf(" %u", call->numbers[field]);
-}
-
-/* ---- the words that a call names ------------------------------------- */
-
-/* The words of a desk's record, from document 01's layout. */
-enum { OWED = 0, READY = 2, TESTED = 3, WAITING = 4, LIST = 13 };
-
-static uint16_t word_of(const uint8_t *table, size_t at)
-{
-    return (uint16_t)(table[2 * at] | table[2 * at + 1] << 8);
-}
-
-static size_t first_screen(const uint8_t *table)
-{
-    return 3 + (size_t)word_of(table, 2);
-}
-
-static size_t all_screens(const uint8_t *table)
-{
-    return (size_t)word_of(table, 0) * word_of(table, 1);
-}
-
-/* The first word of a desk's record. */
-static size_t record_of(const uint8_t *table, uint16_t desk)
-{
-    size_t all = all_screens(table);
-    return first_screen(table) + all + (desk - 1u) * (LIST + 2 * all);
-}
-
-/* The bytes that a call may write, as offsets in the table. */
-struct named {
-    size_t count;
-    struct range {
-        size_t first, past;
-    } ranges[3];
-};
-
-static void name(struct named *named, size_t word, size_t words)
-{
-    named->ranges[named->count++] = (struct range){2 * word, 2 * (word + words)};
-}
-
-/* What an accepted call names, on the table before it. */
-static struct named named_by(const struct call *call, const uint8_t *table)
-{
-    struct named named = {0};
-    const uint16_t *numbers = call->numbers;
-    if (call->function == OPEN) {
-        name(&named, 0, board_need(numbers[0], numbers[1], numbers[2]));
-        return named;
-    }
-    size_t record = record_of(table, numbers[0]);
-    switch (call->function) {
-    case TAKE:
-    case DROP:
-        name(&named, first_screen(table) + (numbers[0] - 1u) * word_of(table, 1) + numbers[1] - 1u, 1);
-        break;
-    case SWAP:
-        name(&named, 3 + numbers[1] - 1u, 1);
-        if (word_of(table, 3 + numbers[1] - 1u) != 0)
-            name(&named, record + OWED, 1);
-        break;
-    case RETIRE:
-        name(&named, record + OWED, 1);
-        name(&named, record + WAITING, 1);
-        name(&named, record + LIST + word_of(table, record + READY) + word_of(table, record + TESTED) +
-                         word_of(table, record + WAITING), 1);
-        break;
-    default:
-        name(&named, record + OWED + 1, LIST + 2 * all_screens(table) - 1);
-    }
-    return named;
-}
-
-static bool is_named(const struct named *named, size_t byte)
-{
-    for (size_t i = 0; i < named->count; i++)
-        if (named->ranges[i].first <= byte && byte < named->ranges[i].past)
-            return true;
-    return false;
+    place_table(&lent, (unsigned)place, bytes);
+    writable = bytes;
+    bytes_passed = bytes;
 }
 
 /* ---- read-only pages ------------------------------------------------- */
 
-/* A table can lie across the middle in any way. */
-enum { STRIP_PAGES = 4, LIMIT_REPORTS = 2 /* of each call */ };
+/* Enough for a table on either side of the boundary in the middle. */
+enum { STRIP_PAGES = 4, MAX_REPORTS = 2 /* of each function */ };
 
-static uint8_t *strip, *strip_filling;
-static bool read_only; /* is each call made again on read-only pages? */
+static size_t page;
+static uint8_t *strip, *strip_guards;
+static bool read_only; /* is each call repeated on read-only pages? */
 static unsigned long stray_stores[FUNCTIONS];
 
 static void make_strip(void)
 {
-    strip = pages(STRIP_PAGES * page);
-    strip_filling = malloc(STRIP_PAGES * page);
-    if (strip_filling == NULL)
-        exit(2);
-    for (size_t at = 0; at < STRIP_PAGES * page; at++)
-        strip_filling[at] = guard_byte(at);
+    page = (size_t)sysconf(_SC_PAGESIZE);
+    strip = map_between_guard_pages(STRIP_PAGES * page);
+    strip_guards = guard_bytes(STRIP_PAGES * page);
 }
 
 static void protect(size_t which, bool writable)
 {
     if (mprotect(strip + which * page, page, writable ? PROT_READ | PROT_WRITE : PROT_READ) != 0) {
-        perror("host_test: no protection");
+        perror("host_test: mprotect");
         exit(2);
     }
 }
 
-/* A page is writable if it holds a named byte of the table at this offset. */
-static void protect_unnamed(const struct named *named, size_t table)
+/* A page is writable if a byte of the footprint is on it, for a table at this
+ * offset. */
+static void protect_all_but(const struct footprint *footprint, size_t table)
 {
     for (size_t which = 0; which < STRIP_PAGES; which++) {
-        bool holds = false;
-        for (size_t i = 0; i < named->count; i++)
-            holds = holds || (table + named->ranges[i].first < (which + 1) * page &&
-                              table + named->ranges[i].past > which * page);
-        protect(which, holds);
+        bool written = false;
+        for (size_t i = 0; i < footprint->count; i++)
+            written = written || (table + footprint->ranges[i].first < (which + 1) * page &&
+                                  table + footprint->ranges[i].past > which * page);
+        protect(which, written);
     }
 }
 
@@ -311,63 +135,63 @@ static void report_stray(const struct call *call, size_t table, long edge)
 {
     checks++;
     failed++;
-    if (stray_stores[call->function]++ >= LIMIT_REPORTS)
+    if (stray_stores[call->function]++ >= MAX_REPORTS)
         return;
     printf("FAILED in %s: ", group);
     print_call(call);
-    printf(", hall %u %u %u: a store to byte %ld of the table, on a page with no word that the call names "
-           "(table at %zu of a page, page boundary before byte %ld)\n",
-           word_of(before, 0), word_of(before, 1), word_of(before, 2),
+    printf(", hall %u %u %u: a store to byte %ld of the table, on a page with no word of the footprint "
+           "(table at offset %zu of a page, page boundary before byte %ld)\n",
+           read_word(before, 0), read_word(before, 1), read_word(before, 2),
            (long)(stored_to - strip) - (long)table, table % page, edge);
 }
 
-/* The call again, with a page boundary before this byte of its table, which
- * may be one before or behind it. */
-static void again_at(const struct call *call, uint32_t answer, const struct named *named, long edge)
+/* Repeats the call with a page boundary before this byte of its table, which
+ * may be one outside of it. */
+static void repeat_at(const struct call *call, uint32_t answer, const struct footprint *footprint, long edge)
 {
     size_t table = (size_t)((long)(STRIP_PAGES / 2 * page) - edge);
     for (size_t which = 0; which < STRIP_PAGES; which++)
         protect(which, true);
-    memcpy(strip, strip_filling, STRIP_PAGES * page);
+    memcpy(strip, strip_guards, STRIP_PAGES * page);
     memcpy(strip + table, before, lent.bytes);
-    protect_unnamed(named, table);
+    protect_all_but(footprint, table);
     if (sigsetjmp(after_store, 1) != 0) {
         store_expected = false;
         report_stray(call, table, edge);
         return;
     }
     store_expected = true;
-    uint32_t same = send(call, strip + table, lent.told);
+    uint32_t same = send_call(call, strip + table, bytes_passed);
     store_expected = false;
     check(same == answer, "the same answer on read-only pages");
     check(memcmp(strip + table, lent.table, lent.bytes) == 0, "the same table on read-only pages");
-    check(memcmp(strip, strip_filling, table) == 0, "nothing written before the table");
+    check(memcmp(strip, strip_guards, table) == 0, "nothing written before the table");
     size_t past = table + lent.bytes;
-    check(memcmp(strip + past, strip_filling + past, STRIP_PAGES * page - past) == 0,
+    check(memcmp(strip + past, strip_guards + past, STRIP_PAGES * page - past) == 0,
           "nothing written behind the table");
 }
 
-/* The call again, with a page boundary just before and just behind each part
- * that it names, and one byte to either side: there the table has an odd
- * address. A refusal names nothing, and all pages are read-only. */
-static void again_on_read_only_pages(const struct call *call, uint32_t answer, const struct named *named)
+/* Repeats the call with a page boundary just before and just behind each range
+ * of its footprint, and one byte to either side: there the table has an odd
+ * address. A refusal has no footprint, and all pages are read-only. */
+static void repeat_on_read_only_pages(const struct call *call, uint32_t answer, const struct footprint *footprint)
 {
     for (long by = -1; by <= 1; by++) {
-        for (size_t i = 0; i < named->count; i++) {
-            again_at(call, answer, named, (long)named->ranges[i].first + by);
-            again_at(call, answer, named, (long)named->ranges[i].past + by);
+        for (size_t i = 0; i < footprint->count; i++) {
+            repeat_at(call, answer, footprint, (long)footprint->ranges[i].first + by);
+            repeat_at(call, answer, footprint, (long)footprint->ranges[i].past + by);
         }
-        if (named->count == 0)
-            again_at(call, answer, named, (long)lent.bytes / 2 + by);
+        if (footprint->count == 0)
+            repeat_at(call, answer, footprint, (long)lent.bytes / 2 + by);
     }
 }
 
 /* ---- the calls, checked ---------------------------------------------- */
 
-static bool unnamed_intact(const struct named *named)
+static bool only_footprint_changed(const struct footprint *footprint)
 {
     for (size_t byte = 0; byte < lent.bytes; byte++)
-        if (before[byte] != lent.table[byte] && !is_named(named, byte))
+        if (before[byte] != lent.table[byte] && !in_footprint(footprint, byte))
             return false;
     return true;
 }
@@ -375,20 +199,20 @@ static bool unnamed_intact(const struct named *named)
 /* Makes a call on the lent table, and checks what holds of every call. */
 static uint32_t perform(struct call call)
 {
-    struct named named = {0};
+    struct footprint footprint = {0};
     memcpy(before, lent.table, lent.bytes);
-    uint32_t answer = send(&call, lent.table, lent.told);
+    uint32_t answer = send_call(&call, lent.table, bytes_passed);
     check(board_number(answer) <= BOARD_NO_ROOM, "a reply number from 0 to 14");
-    check(guards_intact(), "nothing written outside the table's need");
+    check(guards_intact(&lent, writable), "nothing written outside the table's need");
     if (board_number(answer) != BOARD_ACCEPTED) {
         check(board_session(answer) == 0, "a refusal has session 0");
         check(memcmp(before, lent.table, lent.bytes) == 0, "a refusal leaves every byte");
     } else {
-        named = named_by(&call, before);
-        check(unnamed_intact(&named), "only the words that the call names change");
+        footprint = footprint_of(&call, before);
+        check(only_footprint_changed(&footprint), "only the words of the call's footprint change");
     }
     if (read_only)
-        again_on_read_only_pages(&call, answer, &named);
+        repeat_on_read_only_pages(&call, answer, &footprint);
     return answer;
 }
 
@@ -434,33 +258,32 @@ static void refuses(uint32_t answer, enum board_reply number, const char *what)
 
 static uint16_t word(size_t at)
 {
-    return word_of(lent.table, at);
+    return read_word(lent.table, at);
 }
 
 static void set_word(size_t at, uint16_t value)
 {
-    lent.table[2 * at] = (uint8_t)value;
-    lent.table[2 * at + 1] = (uint8_t)(value >> 8);
+    write_word(lent.table, at, value);
 }
 
 static size_t record(uint16_t desk)
 {
-    return record_of(lent.table, desk);
+    return record_index(lent.table, desk);
 }
 
 /* ---- the hall book --------------------------------------------------- */
 
 static int book_place;
 static size_t book_spare;
-static size_t book_out_of_reach; /* told beyond what is lent, on the page after */
+static size_t book_out_of_reach; /* passed beyond what is lent: on the inaccessible page after it */
 
 /* A fresh hall, with some bytes past its need that stay guarded. */
 static void hall(uint16_t desks, uint16_t screens, uint16_t positions)
 {
     size_t need = 2 * board_need(desks, screens, positions);
     lend(book_place, need + book_spare);
-    lent.need = need;
-    lent.told = need + book_spare + book_out_of_reach;
+    writable = need;
+    bytes_passed = need + book_spare + book_out_of_reach;
     accepts(open_hall(desks, screens, positions), 0, "the opening");
     check(word(0) == desks && word(1) == screens && word(2) == positions, "the header");
     bool zeros = true;
@@ -673,7 +496,7 @@ static void every_length(int place)
             memcpy(lent.table, header, bytes < 6 ? bytes : 6);
             steps_refuse_with_5();
         } else {
-            lent.need = 40;
+            writable = 40;
             accepts(open_hall(1, 1, 1), 0, "long enough to open");
             accepts(swap(1, 1, 9), 0, "a swap");
             accepts(take(1, 1, 1), 9, "a take");
@@ -856,7 +679,7 @@ static void stack_use(uint16_t desks, uint16_t screens, uint16_t positions)
 
 int main(void)
 {
-    make_ground();
+    lent = make_guarded_memory(BOARD_MAX_BYTES);
     make_strip();
     catch_signals();
 
@@ -894,7 +717,7 @@ int main(void)
     far_corner(ALIGNED_0 + 3);
     end();
 
-    begin("every answer, all words but the named ones read-only");
+    begin("every answer, with all pages outside the footprint read-only");
     read_only = true;
     hall_book(ALIGNED_0, SPARE);
     far_corner(ALIGNED_0);
@@ -916,7 +739,7 @@ int main(void)
     end();
 
     begin("lengths from 0 to 50 bytes");
-    for (int place = AT_START; place < ALIGNED_0 + 8; place++)
+    for (int place = AT_START; place < PLACES; place++)
         every_length(place);
     end();
 
@@ -925,7 +748,7 @@ int main(void)
     end();
 
     begin("tables of 00, of FF and of random bytes");
-    for (int place = AT_START; place < ALIGNED_0 + 8; place++)
+    for (int place = AT_START; place < PLACES; place++)
         for (int with = ZEROS; with <= RANDOM_WITH_HEADER; with++)
             unopened(place, (enum filling)with);
     end();

@@ -1,6 +1,6 @@
-# For run.sh and selftest.sh, which read this file and set `root` and `stores`.
+# Sourced by run.sh and by tests/selftest.sh, which set `root`: builds the driver.
 
-# What the trace needs beyond the rest of the repository.
+# The trace needs valgrind.
 if ! command -v valgrind >/dev/null; then
     apt-get update --quiet --quiet
     apt-get install --quiet --quiet --yes valgrind
@@ -10,6 +10,6 @@ fi
 build_driver() {
     library=$1 built=$2
     shift 2
-    gcc -std=c11 -Wall -Wextra -Wpedantic -Werror -O2 -I"$root/include" "$@" "$stores/driver.c" \
-        "$library" -o "$built"
+    gcc -std=c11 -Wall -Wextra -Wpedantic -Werror -O2 -I"$root/include" -I"$root/tests/c" "$@" \
+        "$root/tests/stores/driver.c" "$root/tests/c/calls.c" "$root/tests/c/layout.c" "$library" -o "$built"
 }

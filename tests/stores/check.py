@@ -1,10 +1,10 @@
 #!/usr/bin/env python3
-"""Holds every store of the six calls to the bytes that the call names.
+"""Compares every store of the six calls with the footprint of the call.
 
 usage: tests/stores/check.py DRIVER [ARGUMENT ..]
 
 DRIVER is driver.c with an archive. It runs under valgrind's lackey, which prints every store with its address and size. The
-driver stores to its marker before and after each call, and prints which bytes each call names. A store that changes nothing
+driver stores to its marker before and after each call, and prints the footprint of each call. A store that changes nothing
 counts like any other. The last line is 'stores: N calls, M stores into tables, K stray', and the exit status is 0 only if K
 is 0.
 """
@@ -13,25 +13,25 @@ import subprocess
 import sys
 import tempfile
 
-# Accepted, these always change a word: if no store of theirs is seen, the trace is no trace.
+# Accepted, these always change a word: if the trace shows no store of theirs, the trace is broken.
 ALWAYS_STORE = ('open', 'take', 'drop', 'retire')
 
 
 class Call:
-    """A call as the driver prints it; `named` are ranges of bytes of the table, and none for a refusal."""
+    """A call as the driver prints it. The footprint is a list of ranges of bytes of the table, empty for a refusal."""
 
     def __init__(self, line):
-        self.name, self.hall, table, ground, named = line.removeprefix('call ').split('|')
+        self.name, self.hall, table, memory, footprint = line.removeprefix('call ').split('|')
         self.table = int(table)
-        self.first, self.past = map(int, ground.split())
-        self.named = [tuple(map(int, part.split('-'))) for part in named.split()]
+        self.first, self.past = map(int, memory.split())
+        self.footprint = [tuple(map(int, part.split('-'))) for part in footprint.split()]
         self.function = self.name.split()[0]
         self.stores = 0
 
     def stray_byte(self, address, size):
-        """The first byte of this store, counted from the table's start, that the call does not name; None if it names all."""
+        """The offset in the table of the first byte of this store that is outside the footprint, or None."""
         for byte in range(address - self.table, address - self.table + size):
-            if not any(first <= byte < past for first, past in self.named):
+            if not any(first <= byte < past for first, past in self.footprint):
                 return byte
         return None
 
@@ -93,10 +93,10 @@ def main():
             stray.setdefault(call.function, []).append((call, byte, size))
     for call, byte, size in (found[0] for found in stray.values()):
         print(f'stores: {call.name} in a hall of {call.hall}: a store of {size} bytes to byte {byte} of the table (word '
-              f'{byte // 2}), which the call does not name')
+              f'{byte // 2}), outside its footprint')
     for call in calls:
-        if call.named and call.function in ALWAYS_STORE and not call.stores:
-            sys.exit(f'stores: {call.name} in a hall of {call.hall}: accepted, but no store of it is seen')
+        if call.footprint and call.function in ALWAYS_STORE and not call.stores:
+            sys.exit(f'stores: {call.name} in a hall of {call.hall}: accepted, but the trace shows no store')
     strays = sum(map(len, stray.values()))
     print(f'stores: {len(calls)} calls, {count} stores into tables, {strays} stray')
     sys.exit(1 if strays else 0)

@@ -3,24 +3,19 @@
  * which bytes it may store to:
  *
  *     marker ADDRESS
- *     call NAME AND NUMBERS|HALL|TABLE|GROUND FIRST PAST|FIRST-PAST FIRST-PAST ..
+ *     call NAME AND NUMBERS|HALL|TABLE|MEMORY FIRST PAST|FIRST-PAST FIRST-PAST ..
  *
- * The marker is stored to just before and just after each call, in the order of
- * the lines. GROUND is all memory around the table, in addresses; the ranges
- * are of bytes of the table. They come from document 01 and the table's words
- * before the call, and whether it is accepted is said below for each call.
+ * The driver stores to the marker just before and just after each call, in the
+ * order of the lines. TABLE is an address, MEMORY is the range of addresses
+ * around the table, and the ranges at the end are bytes of the table: the
+ * footprint of an accepted call, from document 01 and the table's words before
+ * the call. The code below says of each call whether it is accepted.
  */
-#include "session_board.h"
+#include "layout.h"
 
-#include <stdbool.h>
 #include <stdio.h>
 #include <stdlib.h>
 #include <string.h>
-
-enum function { OPEN, TAKE, DROP, SWAP, RETIRE, COLLECT, FUNCTIONS };
-
-/* The words of a desk's record, from document 01's layout. */
-enum { OWED = 0, SCANNED = 1, READY = 2, TESTED = 3, WAITING = 4, MARKS = 5, LIST = 13 };
 
 enum { SPARE = 5, MARGIN = 64, PLACES = 16 };
 
@@ -32,130 +27,57 @@ static size_t lent_bytes;
 static uint16_t hall_desks, hall_screens, hall_positions;
 static size_t calls;
 
-static _Alignas(64) uint8_t ground[MARGIN + PLACES + BOARD_MAX_BYTES + SPARE + MARGIN];
-
-/* ---- the table -------------------------------------------------------- */
+static _Alignas(64) uint8_t memory[MARGIN + PLACES + BOARD_MAX_BYTES + SPARE + MARGIN];
 
 static uint16_t word(size_t at)
 {
-    return (uint16_t)(kept[2 * at] | kept[2 * at + 1] << 8);
+    return read_word(kept, at);
 }
 
 static void set_word(size_t at, unsigned value)
 {
-    kept[2 * at] = (uint8_t)value;
-    kept[2 * at + 1] = (uint8_t)(value >> 8);
-}
-
-static size_t all_screens(void)
-{
-    return (size_t)hall_desks * hall_screens;
-}
-
-static size_t position_word(uint16_t position)
-{
-    return 3 + (size_t)position - 1;
-}
-
-static size_t screen_word(uint16_t desk, uint16_t screen)
-{
-    return 3 + (size_t)hall_positions + (desk - 1u) * (size_t)hall_screens + screen - 1u;
+    write_word(kept, at, value);
 }
 
 static size_t record(uint16_t desk)
 {
-    return 3 + (size_t)hall_positions + all_screens() + (desk - 1u) * (LIST + 2 * all_screens());
+    return record_index(kept, desk);
 }
 
 /* ---- a call ----------------------------------------------------------- */
 
-static void print_words(size_t first, size_t count)
+static void print_footprint(const struct call *call)
 {
-    printf(" %zu-%zu", 2 * first, 2 * (first + count));
+    struct footprint footprint = footprint_of(call, kept);
+    for (size_t i = 0; i < footprint.count; i++)
+        printf(" %zu-%zu", footprint.ranges[i].first, footprint.ranges[i].past);
 }
 
-/* What an accepted call names. */
-static void print_named(enum function function, const uint16_t numbers[3])
+static void print_line(const struct call *call, const uint8_t *table, bool accepted)
 {
-    switch (function) {
-    case OPEN:
-        print_words(0, board_need(numbers[0], numbers[1], numbers[2]));
-        break;
-    case TAKE:
-    case DROP:
-        print_words(screen_word(numbers[0], numbers[1]), 1);
-        break;
-    case SWAP:
-        print_words(position_word(numbers[1]), 1);
-        if (word(position_word(numbers[1])) != 0)
-            print_words(record(numbers[0]) + OWED, 1);
-        break;
-    case RETIRE: {
-        size_t desk = record(numbers[0]);
-        print_words(desk + OWED, 1);
-        print_words(desk + WAITING, 1);
-        print_words(desk + LIST + word(desk + READY) + word(desk + TESTED) + word(desk + WAITING), 1);
-        break;
-    }
-    default:
-        print_words(record(numbers[0]) + OWED + 1, LIST + 2 * all_screens() - 1);
-    }
-}
-
-static void print_call(enum function function, const uint16_t numbers[3], bool accepted)
-{
-    static const char *const names[FUNCTIONS] = {"open", "take", "drop", "swap", "retire", "collect"};
-    static const int fields[FUNCTIONS] = {3, 3, 2, 3, 1, 1};
-    printf("call %s", names[function]);
-    for (int field = 0; field < fields[function]; field++)
-        printf(" %u", numbers[field]);
+    printf("call ");
+    print_call(call);
     printf("|%u %u %u|%zu|%zu %zu|", hall_desks, hall_screens, hall_positions,
-           (size_t)(ground + MARGIN + calls % PLACES), (size_t)ground, (size_t)(ground + sizeof ground));
+           (size_t)table, (size_t)memory, (size_t)(memory + sizeof memory));
     if (accepted)
-        print_named(function, numbers);
+        print_footprint(call);
     printf("\n");
 }
 
-static uint32_t send(enum function function, const uint16_t numbers[3], uint8_t *table)
-{
-    uint16_t a = numbers[0], b = numbers[1], c = numbers[2];
-    uint32_t answer;
-    marker = 1;
-    switch (function) {
-    case OPEN:
-        answer = board_open(a, b, c, table, lent_bytes);
-        break;
-    case TAKE:
-        answer = board_take(a, b, c, table, lent_bytes);
-        break;
-    case DROP:
-        answer = board_drop(a, b, table, lent_bytes);
-        break;
-    case SWAP:
-        answer = board_swap(a, b, c, table, lent_bytes);
-        break;
-    case RETIRE:
-        answer = board_retire(a, table, lent_bytes);
-        break;
-    default:
-        answer = board_collect(a, table, lent_bytes);
-    }
-    marker = 0;
-    return answer;
-}
-
-/* The session of the call, which must get this reply number. */
+/* Makes the call, which must get this reply number; returns its session. */
 static uint16_t call(enum function function, uint16_t a, uint16_t b, uint16_t c, enum board_reply number)
 {
-    const uint16_t numbers[3] = {a, b, c};
-    uint8_t *table = ground + MARGIN + calls % PLACES;
+    const struct call made = {function, {a, b, c}};
+    uint8_t *table = memory + MARGIN + calls % PLACES;
     memcpy(table, kept, lent_bytes);
-    print_call(function, numbers, number == BOARD_ACCEPTED);
-    uint32_t answer = send(function, numbers, table);
+    print_line(&made, table, number == BOARD_ACCEPTED);
+    marker = 1;
+    uint32_t answer = send_call(&made, table, lent_bytes);
+    marker = 0;
     memcpy(kept, table, lent_bytes);
     calls++;
     if (board_number(answer) != number) {
-        printf("wrong reply number %u, and not %u\n", board_number(answer), number);
+        printf("reply number %u where %u is right\n", board_number(answer), number);
         exit(1);
     }
     return board_session(answer);
@@ -219,7 +141,7 @@ static void refusals(uint16_t desk)
     call(SWAP, desk, (uint16_t)(hall_positions + 1), 1, BOARD_NO_POSITION);
     size_t last = record(hall_desks);
     unsound(desk, 0, 17);
-    unsound(desk, last + LIST + 2 * all_screens() - 1, word(last + LIST + 2 * all_screens() - 1) == 0);
+    unsound(desk, last + LIST + 2 * all_screens(kept) - 1, word(last + LIST + 2 * all_screens(kept) - 1) == 0);
     unsound(desk, last + SCANNED, word(last + TESTED) == 0 ? 2 : 3);
     unsound(desk, last + MARKS + 7, 0x8000);
     size_t bytes = lent_bytes;
@@ -256,7 +178,7 @@ static void screens_and_positions(uint16_t desk)
 static void set_list(uint16_t desk, size_t used)
 {
     size_t at = record(desk);
-    memset(kept + 2 * at, 0, 2 * (LIST + 2 * all_screens()));
+    memset(kept + 2 * at, 0, 2 * (LIST + 2 * all_screens(kept)));
     set_word(at + WAITING, (unsigned)used);
     for (size_t slot = 0; slot < used; slot++)
         set_word(at + LIST + slot, slot % 3 == 0 ? 9 : 1000 + (unsigned)slot);
@@ -267,14 +189,14 @@ static void set_screens(uint16_t session)
 {
     for (uint16_t desk = 1; desk <= hall_desks; desk++)
         for (uint16_t screen = 1; screen <= hall_screens; screen++)
-            set_word(screen_word(desk, screen), session);
+            set_word(screen_index(kept, desk, screen), session);
 }
 
 /* A desk's list from full to empty: marks, a settling, and hand-backs. With
  * `steps`, steps in mid-reading too. */
 static void readings(uint16_t desk, bool steps)
 {
-    size_t at = record(desk), all = all_screens();
+    size_t at = record(desk), all = all_screens(kept);
     set_list(desk, 2 * all);
     set_screens(9);
     set_word(at + OWED, 77);

@@ -1,11 +1,11 @@
 #!/bin/sh
-# Traces the stores of an archive's six calls, and holds each to the bytes that
-# the call names:
+# Traces the stores of an archive's six calls, and compares them with the calls'
+# footprints:
 #
 #     tests/stores/run.sh LIBDIR
 #
-# LIBDIR holds the archive libhost.a. What is built goes to $CARGO_TARGET_DIR,
-# or to target/outside beside include/.
+# LIBDIR contains the archive libsession_board.a. Built files go to
+# $CARGO_TARGET_DIR, or else to target/outside.
 set -eu
 
 stores=$(cd "$(dirname "$0")" && pwd)
@@ -13,5 +13,5 @@ root=$(dirname "$(dirname "$stores")")
 out=${CARGO_TARGET_DIR:-$root/target/outside}
 mkdir -p "$out"
 . "$stores/build.sh"
-build_driver "$1/libhost.a" "$out/stores_driver"
+build_driver "$1/libsession_board.a" "$out/stores_driver"
 exec "$stores/check.py" "$out/stores_driver"

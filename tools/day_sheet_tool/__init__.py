@@ -1,1 +1,1 @@
-"""What tools/sheet is made of. Written from document 01, it shares nothing with the board."""
+"""The modules of tools/sheet. Written from document 01, they share no code with the board."""

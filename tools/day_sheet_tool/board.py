@@ -1,4 +1,4 @@
-"""The board, once more, from document 01: enough of it to draw what every record leaves."""
+"""A board from document 01, used to draw the state after each record."""
 
 from .steps import STEPS
 
@@ -20,7 +20,7 @@ class Desk:
 
 
 def opening(hall):
-    """The number of the first question that says no, or 0."""
+    """The number of the first question whose answer is no, or 0."""
     for number, (given, most) in enumerate(zip(hall, LIMITS), start=1):
         if not 1 <= given <= most:
             return number
@@ -105,7 +105,7 @@ def mark_first(desk, session):
 
 
 def settle(desk):
-    """The whole hall is read: the unmarked are ready, the marked wait again, ahead of the others."""
+    """The whole hall is read: unmarked sessions become ready, marked ones wait again, ahead of the others."""
     pairs = list(zip(desk.tested, desk.marks))
     desk.ready += [session for session, marked in pairs if not marked]
     desk.waiting = [session for session, marked in pairs if marked] + desk.waiting

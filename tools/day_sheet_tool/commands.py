@@ -4,7 +4,7 @@ import argparse
 import os
 import sys
 
-from .complaint import Complaint, plural
+from .errors import UserError, plural
 from .explain import explained
 from .files import read_sheet, read_text, reason, write_text
 from .lines import lines_of
@@ -13,41 +13,41 @@ from .reading import read
 from .replay import replay
 from .text import decode, encode, where_and_why
 
-EPILOG = "docs/SHEETS.md shows all of it. A file named '-' is standard input."
+EPILOG = "docs/SHEETS.md has examples. A file named '-' is standard input."
 
 
 def main(arguments):
     options = parser().parse_args(arguments)
     try:
         if sys.stdout is None:
-            raise Complaint("standard output is closed")
+            raise UserError("standard output is closed")
         options.command(options)
         sys.stdout.flush()
         return 0
-    except Complaint as complaint:
-        return complain(complaint)
-    except BrokenPipeError:  # whoever reads, as head, has seen enough
-        forget_output()
+    except UserError as error:
+        return report(error)
+    except BrokenPipeError:  # the reader, as head, has closed the pipe
+        discard_output()
         return 0
     except OSError as error:
-        forget_output()
-        return complain(f"standard output: {reason(error)}")
+        discard_output()
+        return report(f"standard output: {reason(error)}")
     except KeyboardInterrupt:
         return 130
 
 
-def complain(message):
+def report(message):
     print(f"sheet: {message}", file=sys.stderr)
     return 2
 
 
-def forget_output():
-    """What could not be written is not tried again at the end."""
+def discard_output():
+    """Python would try at exit to write what could not be written."""
     os.dup2(os.open(os.devnull, os.O_WRONLY), sys.stdout.fileno())
 
 
 def parser():
-    whole = argparse.ArgumentParser(prog="sheet", description="Day sheets for people.", epilog=EPILOG)
+    whole = argparse.ArgumentParser(prog="sheet", description="Converts, explains and draws day sheets.", epilog=EPILOG)
     commands = whole.add_subparsers(metavar="COMMAND", required=True)
 
     one = commands.add_parser("encode", help="text to bytes, to standard output", epilog=EPILOG)
@@ -58,7 +58,7 @@ def parser():
     one.add_argument("sheet", metavar="SHEET")
     one.set_defaults(command=to_text)
 
-    one = commands.add_parser("explain", help="each printed line beside what it means", epilog=EPILOG)
+    one = commands.add_parser("explain", help="each printed line with its meaning", epilog=EPILOG)
     one.add_argument("sheet", metavar="SHEET")
     add_lines(one)
     one.set_defaults(command=explain)
@@ -81,7 +81,7 @@ def add_lines(command):
 def to_bytes(options):
     data = encode(read_text(options.text), options.text)
     if sys.stdout.isatty():
-        raise Complaint("a sheet is bytes, and not for a terminal: send it to a file with > FILE.sheet")
+        raise UserError("a sheet is binary: redirect the output to a file with > FILE.sheet")
     sys.stdout.buffer.write(data)
 
 
@@ -90,7 +90,7 @@ def to_text(options):
     sys.stdout.write(decode(sheet))
     sys.stdout.flush()
     if sheet.fault is not None:
-        raise Complaint(f"{options.sheet}: {where_and_why(sheet.fault)}")
+        raise UserError(f"{options.sheet}: {where_and_why(sheet.fault)}")
 
 
 def explain(options):
@@ -106,9 +106,9 @@ def draw(options):
     lines, end = lines_of(data, sheet, options.program, options.lines)
     last = len(sheet.records)
     if not 1 <= options.first <= max(last, 1):
-        raise Complaint(f"--from {options.first}: the sheet has {plural(last, 'record')}")
+        raise UserError(f"--from {options.first}: the sheet has {plural(last, 'record')}")
     numbers = range(options.first, min(options.first + MAX_RECORDS, last + 1))
     moments = replay(sheet, lines, end, numbers)
     write_text(options.svg, picture(os.path.basename(options.sheet), sheet, moments, end))
     if len(moments) < last:
-        print(f"sheet: drawn are {plural(len(moments), 'record')} of {last:,}; --from N begins elsewhere", file=sys.stderr)
+        print(f"sheet: drew {plural(len(moments), 'record')} of {last:,}; --from N starts elsewhere", file=sys.stderr)

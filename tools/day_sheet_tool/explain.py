@@ -1,21 +1,21 @@
-"""What each line means, in words."""
+"""The meaning of each printed line, in words."""
 
-from .complaint import plural
-from .standing import Standing
+from .errors import plural
+from .references import References
 from .steps import REASONS, STEPS
 from .text import where_and_why
 
 
 def explained(sheet, lines, end):
-    """Each line as it was printed, and beside it what it means."""
-    standing = Standing()
-    rows = [(" ".join(map(str, line)), meaning(sheet, line, standing)) for line in lines]
+    """Each printed line, followed by its meaning."""
+    references = References()
+    rows = [(" ".join(map(str, line)), meaning(sheet, line, references)) for line in lines]
     rows.append((" ".join(["end", *map(str, end)]), end_in_words(end)))
     width = max(len(printed) for printed, _ in rows)
     return "".join(f"{printed:<{width}}   {words}\n" for printed, words in rows)
 
 
-def meaning(sheet, line, standing):
+def meaning(sheet, line, references):
     if sheet.fault and line.record == sheet.fault.record:
         ends = where_and_why(sheet.fault)
         return ends if line.reply == sheet.fault.number else f"reply {line.reply}, though {ends}"
@@ -24,12 +24,12 @@ def meaning(sheet, line, standing):
     record = sheet.records[line.record - 1]
     if line.reply != 0:
         return f"{doing_in_words(record)}: refused, {reason(line.reply)}"
-    standing.accept(record, line.session)
-    return f"{doing_in_words(record)}: {result_in_words(record, line.session, standing)}"
+    references.accept(record, line.session)
+    return f"{doing_in_words(record)}: {result_in_words(record, line.session, references)}"
 
 
 def reason(reply):
-    return REASONS.get(reply, f"with {reply}, a number that a sheet's step cannot have")
+    return REASONS.get(reply, f"with {reply}, a number that a step of a sheet cannot get")
 
 
 def opening_in_words(hall, reply):
@@ -56,7 +56,7 @@ def doing_in_words(record):
     return f"desk {desk} {name}s"
 
 
-def result_in_words(record, session, standing):
+def result_in_words(record, session, references):
     name = STEPS[record.code].name
     if name == "take":
         return f"it shows {session}"
@@ -66,13 +66,13 @@ def result_in_words(record, session, standing):
         return f"was {session}, now owed" if session else "was empty, nothing is owed"
     if name == "retire":
         return f"{session} now waits on its list"
-    return handed_back_in_words(session, standing) if session else "nothing is handed back"
+    return handed_back_in_words(session, references) if session else "nothing is handed back"
 
 
-def handed_back_in_words(session, standing):
-    """A hand-back gives back one retirement. A session may be closed once it stands nowhere."""
-    where = standing.where(session)
-    rest = f"it stands {where} and must stay open" if where else "it stands nowhere now and may be closed"
+def handed_back_in_words(session, references):
+    """A hand-back gives back one retirement. A session may be closed once nothing references it."""
+    where = references.where(session)
+    rest = f"it is still {where} and must stay open" if where else "nothing references it now, so it may be closed"
     return f"one retirement of {session} is handed back; {rest}"
 
 

@@ -1,9 +1,9 @@
-"""Files in and out; whatever goes wrong with one becomes a message."""
+"""Reads and writes files; an error becomes a message."""
 
 import re
 import sys
 
-from .complaint import Complaint
+from .errors import UserError
 from .steps import MAX_BYTES
 
 MAX_TEXT = 16 * 1024 * 1024
@@ -11,40 +11,40 @@ A_SHEET = "is it a sheet already? then 'decode' reads it"
 
 
 def read_bytes(name, most):
-    """At most so many bytes of a file, or of standard input for '-'."""
+    """At most this many bytes of a file, or of standard input for '-'."""
     try:
         if name == "-":
             if sys.stdin is None:
-                raise Complaint("standard input is closed")
+                raise UserError("standard input is closed")
             return sys.stdin.buffer.read(most)
         with open(name, "rb") as file:
             return file.read(most)
     except (OSError, ValueError) as error:
-        raise Complaint(f"{name}: {reason(error)}") from None
+        raise UserError(f"{name}: {reason(error)}") from None
 
 
 def read_sheet(name):
     """One byte more than the longest sheet is enough to know that it is too long."""
     data = read_bytes(name, MAX_BYTES + 1)
     words = (line.split(b"#", 1)[0].split() for line in data.split(b"\n"))
-    if next(filter(None, words), [b""])[0] == b"hall":  # no hall has as many desks as these letters would say
-        raise Complaint(f"{name}: this is the text of a sheet; 'encode' makes the sheet")
+    if next(filter(None, words), [b""])[0] == b"hall":  # as bytes, these letters would mean 104 desks
+        raise UserError(f"{name}: this is the text of a sheet; 'encode' makes the sheet")
     return data
 
 
 def read_text(name):
     data = read_bytes(name, MAX_TEXT + 1)
     if len(data) > MAX_TEXT:
-        raise Complaint(f"{name}: longer than 16 MB, no sheet has so much text")
+        raise UserError(f"{name}: longer than 16 MB; no sheet has this much text")
     try:
         text = data.decode("utf-8-sig")
     except UnicodeDecodeError as error:
         line = data.count(b"\n", 0, error.start) + 1
-        raise Complaint(f"{name}:{line}: not UTF-8 text; {A_SHEET}") from None
+        raise UserError(f"{name}:{line}: not UTF-8 text; {A_SHEET}") from None
     control = re.search(r"[\x00-\x08\x0e-\x1f]", text)
     if control:
         line = text.count("\n", 0, control.start()) + 1
-        raise Complaint(f"{name}:{line}: not plain text; {A_SHEET}")
+        raise UserError(f"{name}:{line}: not plain text; {A_SHEET}")
     return text
 
 
@@ -53,9 +53,9 @@ def write_text(name, text):
         with open(name, "w", encoding="utf-8", newline="\n") as file:
             file.write(text)
     except (OSError, ValueError) as error:
-        raise Complaint(f"{name}: {reason(error)}") from None
+        raise UserError(f"{name}: {reason(error)}") from None
 
 
 def reason(error):
-    """'no such file or directory' without the number that Python puts before it."""
+    """As in 'no such file or directory', without the number that Python puts before it."""
     return (getattr(error, "strerror", None) or str(error)).lower()

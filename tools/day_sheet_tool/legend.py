@@ -1,16 +1,16 @@
-"""What the pieces of a picture mean."""
+"""The legend of a picture."""
 
-from .pieces import COLUMN, HANDED_BACK, LEFT, MARGIN, REFUSED, ROW, SCREEN, boxed, cell
+from .shapes import COLUMN, HANDED_BACK, LEFT, MARGIN, REFUSED, ROW, SCREEN, boxed, cell
 from .svg import FAINT, INK
 
 
 def legend(drawing, top):
-    """Two columns of samples with what they mean."""
+    """Two columns of samples with their meanings."""
     drawing.line(MARGIN, top, LEFT + 11 * COLUMN, top, stroke=FAINT, stroke_width=1)
     drawing.words(MARGIN, top + 18, "legend", "bold")
     x, y = LEFT, top + 7
     for kind, marked, words in [
-        ("ready", False, "ready: a next collect hands it back"),
+        ("ready", False, "ready: a later collect hands it back"),
         ("tested", False, "tested: the screens of the hall are being read"),
         ("tested", True, "tested and marked: a screen that was read shows it"),
         ("waiting", False, "waiting: the next reading tests it"),
@@ -30,5 +30,5 @@ def legend(drawing, top):
     drawing.words(
         LEFT,
         y + 4 * ROW + 11,
-        "A session may be closed once it stands at no position, is owed by no desk and is on no list: then no screen shows it.",
+        "A session may be closed once it is at no position, owed by no desk and on no list: then no screen shows it.",
     )

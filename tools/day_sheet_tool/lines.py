@@ -1,10 +1,10 @@
-"""The lines of the sheet program: running it, and holding its lines to the sheet."""
+"""Runs the sheet program, and checks its lines against the sheet."""
 
 import os
 import subprocess
 from collections import namedtuple
 
-from .complaint import Complaint, plural
+from .errors import UserError, plural
 from .files import read_bytes, reason
 
 # Record number, step code, reply number, session.
@@ -20,13 +20,13 @@ MAX_LINES = 4 * 1024 * 1024
 
 
 def lines_of(data, sheet, program, file):
-    """The program's lines for this sheet, and the end; from a file if there is one."""
+    """The program's lines for this sheet, and the end; read from a file if one is given."""
     if file is not None:
         name, printed = file, read_bytes(file, MAX_LINES)
     else:
         name, printed = run(data, program)
     lines, end = parse(printed, name)
-    hold_to_sheet(lines, sheet, name)
+    check_against_sheet(lines, sheet, name)
     return lines, end
 
 
@@ -34,17 +34,17 @@ def run(data, program):
     """What the program prints for these bytes."""
     path = program or USUAL_PROGRAM
     if program is None and not os.path.exists(path):
-        raise Complaint(f"there is no {path}: 'make -C {ROOT} target/bin/day_sheet' builds it; or use --program or --lines")
+        raise UserError(f"no file {path}: 'make -C {ROOT} target/bin/day_sheet' builds it; or use --program or --lines")
     if os.sep not in path:
         path = os.path.join(os.curdir, path)
     try:
         done = subprocess.run([path], input=data, capture_output=True, timeout=MAX_SECONDS, check=False)
     except (OSError, ValueError) as error:
-        raise Complaint(f"{path}: {reason(error)}") from None
+        raise UserError(f"{path}: {reason(error)}") from None
     except subprocess.TimeoutExpired:
-        raise Complaint(f"{path}: did not end within {MAX_SECONDS} s") from None
+        raise UserError(f"{path}: did not end within {MAX_SECONDS} s") from None
     if done.returncode != 0:
-        raise Complaint(f"{path}: ended with status {done.returncode}")
+        raise UserError(f"{path}: ended with status {done.returncode}")
     return path, done.stdout
 
 
@@ -53,36 +53,36 @@ def parse(printed, name):
     text = printed.decode("ascii", errors="replace")
     rows = text.split("\n")
     if rows[-1] != "" or len(rows) < 2:
-        raise Complaint(f"{name}: the last line is not whole; are these the lines of a sheet?")
+        raise UserError(f"{name}: the last line is incomplete; are these the lines of a sheet?")
     lines = [Line(*numbers_of(row.split(" "), 4, name, at)) for at, row in enumerate(rows[:-2], start=1)]
     last = rows[-2].split(" ")
     if last[0] != "end":
-        raise Complaint(f"{name}:{len(rows) - 1}: the last line does not start with 'end'")
+        raise UserError(f"{name}:{len(rows) - 1}: the last line does not start with 'end'")
     return lines, End(*numbers_of(last[1:], 3, name, len(rows) - 1))
 
 
 def numbers_of(words, count, name, at):
     if len(words) != count or not all(word.isascii() and word.isdigit() and len(word) < 12 for word in words):
-        raise Complaint(f"{name}:{at}: not {plural(count, 'number')} with one space between")
+        raise UserError(f"{name}:{at}: not {plural(count, 'number')} with one space between")
     return map(int, words)
 
 
-def hold_to_sheet(lines, sheet, name):
-    """Each line must answer the sheet's record of that number, and none may be missing."""
+def check_against_sheet(lines, sheet, name):
+    """Each line must be the answer to the sheet's record of that number, and none may be missing."""
     opened = sheet.hall is not None and bool(lines) and lines[0].reply == 0
     expected = records_answered(sheet, opened)
     for at, (line, (record, code)) in enumerate(zip(lines, expected), start=1):
         if (line.record, line.code) != (record, code):
-            raise Complaint(
+            raise UserError(
                 f"{name}:{at}: not a line of this sheet: it says record {line.record}, code {line.code}; "
                 f"the sheet has record {record}, code {code}"
             )
     if len(lines) != len(expected):
-        raise Complaint(f"{name}: {plural(len(lines), 'line')} before the end; this sheet has {len(expected)}")
+        raise UserError(f"{name}: {plural(len(lines), 'line')} before the end; this sheet has {len(expected)}")
 
 
 def records_answered(sheet, opened):
-    """Record number and code of each line. Without an opening there is the header's line alone."""
+    """Record number and code of each line. Without an opening there is only the header's line."""
     if not opened:
         return [(0, 0)]
     answered = [(0, 0)] + [(at, record.code) for at, record in enumerate(sheet.records, start=1)]

@@ -1,13 +1,13 @@
-"""The picture of a replay: a column a record, strips of columns one below the other.
+"""The picture of a replay: one column per record, in strips one below the other.
 
-In each strip stand the records with their replies, then the positions, then every desk with its screens, what
-it owes and its list. A column shows what its record leaves.
+Each strip has the records with their replies, then the positions, then every desk with its screens, what it owes
+and its list. A column shows the state after its record.
 """
 
-from .complaint import plural
+from .errors import plural
 from .explain import end_in_words, hall_in_words
 from .legend import legend
-from .pieces import (
+from .shapes import (
     CELL, COLUMN, HANDED_BACK, LEFT, MARGIN, MAX_CELLS, REFUSED, ROW, SCREEN, bars, boxed, listed,
 )
 from .steps import STEPS
@@ -29,7 +29,7 @@ def picture(name, sheet, moments, end):
     drawing.words(MARGIN, 28, f"Day sheet {name}", "big")
     drawing.words(MARGIN, 46, f"A hall of {hall}. {drawn(sheet, moments)} In all: {end_in_words(end)}.")
     drawing.words(
-        MARGIN, 61, "A column shows what its record leaves. Every reply agrees with the program's line.", "soft"
+        MARGIN, 61, "A column shows the state after its record. Every reply agrees with the program's line.", "soft"
     )
     shown = Shown(sheet, moments)
     columns = list(moments)
@@ -52,7 +52,7 @@ def drawn(sheet, moments):
 
 
 def even_parts(columns):
-    """As few strips as hold them, all of about one length."""
+    """As few strips as possible, all of about the same length."""
     strips = -(-len(columns) // STRIP_COLUMNS)
     length = -(-len(columns) // max(strips, 1))
     return [columns[start : start + length] for start in range(0, len(columns), max(length, 1))]
@@ -77,7 +77,7 @@ def busy(moment, at):
 
 
 def strip(drawing, columns, shown, top):
-    """One strip; the answer is where it ends."""
+    """Draws one strip; returns the y of its end."""
     moments = [column for column in columns if column is not None]
     width = len(columns) * COLUMN
     drawing.rect(LEFT, top, width, HEAD, fill="#f6f6f6", stroke="none")
@@ -97,7 +97,7 @@ def strip(drawing, columns, shown, top):
 
 
 def record(drawing, moment, x, top):
-    """What was asked, and the reply."""
+    """The step, and its reply."""
     middle = x + COLUMN / 2
     drawing.line(x, top, x, top + HEAD, stroke=FAINT, stroke_width=1)
     drawing.words(middle, top + 13, str(moment.number), "bold", "middle")
@@ -155,7 +155,7 @@ def positions(drawing, moments, shown, y):
 
 
 def desk(drawing, moments, at, top, width):
-    """Its screens, what it owes, its list; the answer is where it ends."""
+    """Draws a desk's screens, what it owes and its list; returns the y of its end."""
     states = [moment.board.desks[at] for moment in moments]
     rows = max(1, *(min(state.used(), MAX_CELLS) for state in states))
     screens = len(states[0].screens)

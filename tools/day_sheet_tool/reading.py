@@ -1,21 +1,21 @@
-"""Reading a sheet's bytes, and writing them."""
+"""Reads and writes the bytes of a sheet."""
 
 from collections import namedtuple
 
 from .steps import MAX_BYTES, MAX_NUMBER, STEPS, Record
 
-# What a sheet says, up to where its reading ends. The hall is None if it could not be read; fault is None
-# if the sheet is whole.
+# The contents of a sheet, up to the end of its reading. The hall is None if it could not be read; fault is None
+# if the whole sheet could be read.
 Sheet = namedtuple("Sheet", "hall records fault")
 
-# Why a reading ends: the reply number, the byte (from 0) at which the number in question starts, the record
-# being read (0 is the header) and its code (0 if that was not read).
+# Why a reading ends: the reply number, the offset of the number that caused it, the record being read (0 is the
+# header) and its code (0 if it was not read).
 Fault = namedtuple("Fault", "number byte record code")
 
 MAX_GROUPS = 3
 
 
-class Stopped(Exception):
+class BadNumber(Exception):
     """A number could not be read: 15 or 16."""
 
 
@@ -23,7 +23,7 @@ class Reader:
     def __init__(self, data):
         self.data = data
         self.at = 0
-        self.began = 0  # where the number in hand starts
+        self.began = 0  # where the current number starts
 
     def at_end(self):
         return self.at == len(self.data)
@@ -34,15 +34,15 @@ class Reader:
         value = 0
         for group in range(MAX_GROUPS):
             if self.at_end():
-                raise Stopped(15)
+                raise BadNumber(15)
             byte = self.data[self.at]
             self.at += 1
             value |= (byte & 0x7F) << (7 * group)
             if byte < 0x80:
                 if value > MAX_NUMBER:
-                    raise Stopped(16)
+                    raise BadNumber(16)
                 return value
-        raise Stopped(16)
+        raise BadNumber(16)
 
 
 def read(data):
@@ -60,14 +60,14 @@ def read(data):
                 return Sheet(hall, records, Fault(17, reader.began, len(records) + 1, code))
             numbers = tuple(reader.number() for _ in STEPS[code].fields)
             records.append(Record(code, numbers))
-    except Stopped as stopped:
+    except BadNumber as error:
         record = 0 if hall is None else len(records) + 1
-        return Sheet(hall, records, Fault(stopped.args[0], reader.began, record, code))
+        return Sheet(hall, records, Fault(error.args[0], reader.began, record, code))
     return Sheet(hall, records, None)
 
 
 def number_bytes(number):
-    """A number in as few bytes as it needs."""
+    """A number in as few bytes as possible."""
     groups = []
     while number > 0x7F:
         groups.append(number & 0x7F | 0x80)

@@ -1,25 +1,25 @@
-"""A replay: what stands on the board after each record, held to the program's lines."""
+"""A replay: the state of the board after each record, checked against the program's lines."""
 
 import copy
 from collections import namedtuple
 
 from .board import Board, opening
-from .complaint import Complaint
+from .errors import UserError
 from .steps import STEPS
 
-# After one record: its number, the record, its reply number and session, and the board as it left it.
+# After one record: its number, the record, its reply number and session, and the board after it.
 Moment = namedtuple("Moment", "number record reply session board")
 
 
 def replay(sheet, lines, end, numbers):
     """The moments of the records with these numbers. Every reply, of all records, and the counts at the end are
-    held to the program's lines."""
+    checked against the program's lines."""
     if sheet.hall is None:
-        raise Complaint("the header cannot be read, so there is no hall to draw ('decode' says why)")
+        raise UserError("the header cannot be read, so there is no hall to draw ('decode' says why)")
     refused = opening(sheet.hall)
     agree(lines[0], refused, 0)
     if refused:
-        raise Complaint(f"the opening is refused with {refused}, so there is no hall to draw ('explain' says why)")
+        raise UserError(f"the opening is refused with {refused}, so there is no hall to draw ('explain' says why)")
     board = Board(sheet.hall)
     moments, counts = [], [0, 0, 0]
     for record, line in zip(sheet.records, lines[1:]):
@@ -42,4 +42,4 @@ def agree(line, reply, session):
 
 
 def differ(what, printed, expected):
-    raise Complaint(f"{what}: the program printed {printed}, but by document 01 it is {expected}; nothing is drawn")
+    raise UserError(f"{what}: the program printed {printed}, but by document 01 it is {expected}; nothing is drawn")

@@ -1,8 +1,8 @@
-"""The five steps: their codes, names and fields, and what each reply number says."""
+"""The five steps: their codes, names and fields, and the meaning of each reply number."""
 
 from collections import namedtuple
 
-# A step as a sheet has it: its code and its numbers, in the order of the fields.
+# A step in a sheet: its code and its numbers, in the order of the fields.
 Record = namedtuple("Record", "code numbers")
 
 Step = namedtuple("Step", "name fields")
@@ -22,7 +22,7 @@ HALL_FIELDS = ("desks", "screens per desk", "positions")
 MAX_NUMBER = 65_535
 MAX_BYTES = 65_536
 
-# Reply numbers. 4 and 5 cannot come from a sheet: the program lends a table of its own.
+# Reply numbers. A sheet cannot get 4 and 5: the program lends a table of its own.
 REASONS = {
     1: "a hall has 1 to 16 desks",
     2: "a desk has 1 to 4 screens",
@@ -36,8 +36,8 @@ REASONS = {
     12: "the desk must first retire the session it owes",
     13: "the desk owes no session",
     14: "the desk's list is full; it must collect first",
-    15: "the sheet stops before this number is whole",
+    15: "the sheet ends before this number is complete",
     16: "a number must end within three bytes and be at most 65,535",
-    17: "there is no step with this code; they are 1 to 5",
+    17: "no step has this code; the codes are 1 to 5",
     18: "a sheet has at most 65,536 bytes",
 }

@@ -1,4 +1,4 @@
-"""Just enough SVG: rectangles, lines and words, with three fills that differ without colour."""
+"""A minimal SVG writer: rectangles, lines and words, with three fills that can be told apart without colour."""
 
 from html import escape
 
@@ -6,7 +6,7 @@ INK = "#1a1a1a"
 SOFT = "#8a8a8a"
 FAINT = "#d9d9d9"
 
-# The width of a letter of plain words, roughly: it keeps words within the picture.
+# The approximate width of a letter: it keeps words within the picture.
 LETTER = 6.2
 
 STYLE = """
@@ -47,7 +47,7 @@ class Drawing:
         self.parts.append(f'<circle cx="{x:g}" cy="{y:g}" r="{radius:g}" fill="{INK}"/>')
 
     def words(self, x, y, words, look="", anchor="start"):
-        """Words whose foot is at y; the anchor says which end, or the middle, is at x."""
+        """Words with their baseline at y; the anchor says which end, or the middle, is at x."""
         self.parts.append(f'<text x="{x:g}" y="{y:g}" class="{look}" text-anchor="{anchor}">{plain(words)}</text>')
         self.height = max(self.height, y + 4)
         if anchor == "start":
@@ -66,7 +66,7 @@ class Drawing:
 
 
 def plain(words):
-    """Words as XML has them; what cannot be printed, as in an odd file name, becomes '?'."""
+    """Words escaped for XML; what cannot be printed, as in an odd file name, becomes '?'."""
     return escape("".join(letter if letter.isprintable() else "?" for letter in words), quote=False)
 
 

@@ -1,6 +1,6 @@
 """The text form of a sheet: the hall, then one record a line."""
 
-from .complaint import Complaint, plural
+from .errors import UserError, plural
 from .reading import number_bytes
 from .steps import CODES, HALL_FIELDS, MAX_BYTES, MAX_NUMBER, REASONS, STEPS
 
@@ -8,7 +8,7 @@ HALL_LINE = "'hall DESKS SCREENS POSITIONS'"
 
 
 def encode(text, name):
-    """The bytes of a text; a complaint names the line."""
+    """The bytes of a text; an error names the line."""
     data = bytearray()
     opened = False
     for number, line in enumerate(text.split("\n"), start=1):
@@ -16,13 +16,13 @@ def encode(text, name):
         if words:
             try:
                 data += line_bytes(words, opened)
-            except Complaint as complaint:
-                raise Complaint(f"{name}:{number}: {complaint}") from None
+            except UserError as error:
+                raise UserError(f"{name}:{number}: {error}") from None
             opened = True
             if len(data) > MAX_BYTES:
-                raise Complaint(f"{name}:{number}: the sheet is longer than 65,536 bytes with this record (reply number 18)")
+                raise UserError(f"{name}:{number}: the sheet is longer than 65,536 bytes with this record (reply number 18)")
     if not opened:
-        raise Complaint(f"{name}: there is no line {HALL_LINE}, and every sheet begins with one")
+        raise UserError(f"{name}: no line {HALL_LINE}; every sheet starts with one")
     return bytes(data)
 
 
@@ -31,40 +31,40 @@ def line_bytes(words, opened):
     word, rest = words[0], words[1:]
     if not opened:
         if word != "hall":
-            raise Complaint(f"the first line must be {HALL_LINE}, not '{shown(word)}'")
+            raise UserError(f"the first line must be {HALL_LINE}, not '{shown(word)}'")
         return numbers_bytes(word, HALL_FIELDS, rest)
     if word == "hall":
-        raise Complaint("the hall stands on the first line alone")
+        raise UserError("only the first line may be 'hall'")
     if word not in CODES:
-        raise Complaint(f"there is no step '{shown(word)}'; the steps are {', '.join(CODES)}")
+        raise UserError(f"no step '{shown(word)}'; the steps are {', '.join(CODES)}")
     code = CODES[word]
     return number_bytes(code) + numbers_bytes(word, STEPS[code].fields, rest)
 
 
 def numbers_bytes(word, fields, words):
     if len(words) != len(fields):
-        raise Complaint(f"'{word}' has {plural(len(fields), 'number')} ({', '.join(fields)}), here it has {len(words)}")
+        raise UserError(f"'{word}' has {plural(len(fields), 'number')} ({', '.join(fields)}), here it has {len(words)}")
     return b"".join(number_bytes(number(field, given)) for field, given in zip(fields, words))
 
 
 def number(field, word):
-    """Plain decimal digits, 0 to 65,535. Whether the hall has such a desk is for the board to say."""
+    """Plain decimal digits, 0 to 65,535. The board decides whether the hall has such a desk."""
     if not (word.isascii() and word.isdigit()):
-        raise Complaint(f"{field}: '{shown(word)}' is not a number")
+        raise UserError(f"{field}: '{shown(word)}' is not a number")
     digits = word.lstrip("0") or "0"
     if len(digits) > 5 or int(digits) > MAX_NUMBER:
-        raise Complaint(f"{field}: {shown(word)} is over 65,535 (reply number 16)")
+        raise UserError(f"{field}: {shown(word)} is over 65,535 (reply number 16)")
     return int(digits)
 
 
 def shown(word):
-    """A word of the text in a message: printable, and not too long."""
+    """A word of the text for a message: printable, and not too long."""
     printable = "".join(letter if letter.isprintable() else "?" for letter in word[:20])
     return printable if len(word) <= 20 else printable + "..."
 
 
 def decode(sheet):
-    """The text of a sheet, as far as it could be read."""
+    """The text of the part of a sheet that could be read."""
     if sheet.hall is None:
         return ""
     lines = ["hall " + " ".join(map(str, sheet.hall))]

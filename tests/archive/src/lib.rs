@@ -1,5 +1,5 @@
-//! The six calls of the archive, as the header has them, made safe: a slice
-//! always points to as many bytes as it says.
+//! The six calls of the archive as safe functions: a slice always points to as
+//! many bytes as its length says.
 
 mod c {
     extern "C" {

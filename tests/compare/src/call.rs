@@ -30,7 +30,7 @@ impl Function {
         }
     }
 
-    /// How many numbers a call has beside the table.
+    /// How many numbers a call has besides the table.
     pub fn fields(self) -> usize {
         match self {
             Open | Take | Swap => 3,
@@ -52,7 +52,7 @@ impl Function {
     }
 }
 
-/// A function and its numbers; those it lacks are 0.
+/// A function and its numbers; those it does not have are 0.
 #[derive(Clone, Copy, Debug, PartialEq, Eq)]
 pub struct Call {
     pub function: Function,

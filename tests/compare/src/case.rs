@@ -1,4 +1,4 @@
-//! A case: a table and the calls sent to it, one after the other.
+//! A case: a table and the calls made on it, one after the other.
 
 use crate::call::Call;
 use std::fmt;
@@ -9,13 +9,13 @@ const GUARD: usize = 64;
 
 #[derive(Clone, Debug, PartialEq, Eq)]
 pub struct Case {
-    /// The table stands at an address that leaves this remainder by 8.
+    /// The address of the table, modulo 8.
     pub align: usize,
     pub table: Vec<u8>,
     pub calls: Vec<Call>,
 }
 
-/// Where the two boards parted.
+/// Where the two boards differ first.
 #[derive(Debug)]
 pub struct Difference {
     /// Calls before the one that differs.
@@ -28,7 +28,7 @@ pub struct Difference {
 }
 
 impl Case {
-    /// Sends every call to both boards until they differ in the answer or in
+    /// Makes every call on both boards until they differ in the answer or in
     /// any byte of the table or its guards. `seen` gets each answer compared.
     pub fn run(&self, mut seen: impl FnMut(Call, u32)) -> Option<Difference> {
         let mut of_reference = Guarded::new(&self.table, self.align);
@@ -62,7 +62,7 @@ impl Guarded {
         let length = table.len();
         let mut memory = vec![0; length + 2 * GUARD + 8];
         let start = GUARD + align.wrapping_sub(memory.as_ptr() as usize) % 8;
-        // No two neighbours alike, and none 0: a stray write hardly fits in.
+        // No two neighbours alike, and none 0: a stray write is unlikely to match.
         for at in 0..GUARD {
             memory[start - GUARD + at] = at as u8 + 1;
             memory[start + length + at] = 255 - at as u8;

@@ -35,7 +35,7 @@ fn header_out_of_range(rng: &mut Rng, table: &mut [u8]) {
     set_word(table, at, value);
 }
 
-/// Its words no longer stand where the header says, or are too few.
+/// The header is changed: the words are elsewhere, or too few.
 fn header_of_another_hall(rng: &mut Rng, table: &mut [u8]) {
     let at = rng.below(3);
     let most = [16, 4, 64][at];
@@ -52,7 +52,7 @@ fn places(record: &[u8]) -> usize {
     record.len() / 2 - place::LIST
 }
 
-/// Every place holds a session, and the counts sum to one more than these.
+/// Every place is used, and the counts sum to one more than there are places.
 fn one_too_many(rng: &mut Rng, record: &mut [u8]) {
     let missing = places(record) + 1 - used(record);
     let more = rng.pick(&[missing, missing, missing + 255, missing - 1]);
@@ -68,7 +68,7 @@ fn one_too_many(rng: &mut Rng, record: &mut [u8]) {
     }
 }
 
-/// Two counts changed so that their sum in 16 bits stays what it was.
+/// Two counts are changed so that their sum in 16 bits stays the same.
 fn sum_that_wraps(rng: &mut Rng, record: &mut [u8]) {
     let first = rng.below(3);
     let (up, down) = (COUNTS[first], COUNTS[(first + rng.within(1, 2)) % 3]);
@@ -109,7 +109,7 @@ fn mark_past_tested(rng: &mut Rng, hall: &Hall, record: &mut [u8]) {
     }
 }
 
-/// Screens read that are odd, none, or all and more.
+/// A number of screens read that is odd, 0, or S and more.
 fn read_so_far(rng: &mut Rng, hall: &Hall, record: &mut [u8]) {
     let all = hall.all_screens() as u16;
     if let Some((scanned, _)) = reading_record(rng, hall, record) {
@@ -128,7 +128,7 @@ fn too_many_marks(rng: &mut Rng, hall: &Hall, record: &mut [u8]) {
     }
 }
 
-/// What was tested waits, but the reading goes on.
+/// The tested sessions become waiting, but k is not 0.
 fn read_with_nothing_tested(rng: &mut Rng, record: &mut [u8]) {
     let waiting = word(record, place::WAITING) + word(record, place::TESTED);
     set_word(record, place::WAITING, waiting);

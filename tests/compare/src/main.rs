@@ -6,11 +6,11 @@
 
 mod call;
 mod case;
+mod crash;
 mod damage;
 mod make;
 mod rng;
 mod shrink;
-mod stopped;
 mod tables;
 mod tally;
 
@@ -71,9 +71,9 @@ fn compare_many(options: &Options) -> ExitCode {
     let begun = Instant::now();
     let mut tally = Tally::default();
     let mut number = 0;
-    stopped::watch(options.seed);
+    crash::watch(options.seed);
     while tally.calls < options.calls && begun.elapsed() < Duration::from_secs(options.seconds) {
-        stopped::now_at(number);
+        crash::now_at(number);
         let case = make::case(options.seed, number);
         if case.run(|call, answer| tally.count(call, answer)).is_some() {
             explain_case(options.seed, number, case);
@@ -87,7 +87,7 @@ fn compare_many(options: &Options) -> ExitCode {
     judge(&tally)
 }
 
-/// No case differed; but a reply that never came was never compared.
+/// No case differed; but a reply that never occurred was never compared.
 fn judge(tally: &Tally) -> ExitCode {
     let missing = tally.missing();
     for (function, reply) in &missing {
@@ -126,8 +126,8 @@ fn compare_one(case: &Case) -> ExitCode {
     }
 }
 
-/// A case smaller than this one among those after it. A board that is wrong in
-/// one case is mostly wrong in more, and one of those may be simpler.
+/// A smaller case among those after this one. A board that is wrong in one case
+/// is usually wrong in more, and one of those may be simpler.
 fn smaller_after(seed: u64, number: u64, case: &Case) -> Option<Case> {
     let begun = Instant::now();
     let mut smallest = None;
@@ -135,7 +135,7 @@ fn smaller_after(seed: u64, number: u64, case: &Case) -> Option<Case> {
         if begun.elapsed() > Duration::from_secs(2) {
             break;
         }
-        stopped::now_at(later);
+        crash::now_at(later);
         let other = make::case(seed, later);
         if other.differs() {
             let other = shrink(other);

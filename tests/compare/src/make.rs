@@ -1,4 +1,5 @@
-//! Cases: openings, histories, sound tables, damaged ones, cut and long ones.
+//! Cases: openings, histories, and tables that are sound, damaged, truncated or
+//! too long.
 
 use crate::call::{Call, Function, Function::*};
 use crate::case::Case;
@@ -25,7 +26,7 @@ fn case_of(rng: &mut Rng, table: Vec<u8>, calls: Vec<Call>) -> Case {
     Case { align: rng.below(8), table, calls }
 }
 
-/// Openings of all shapes, over whatever stood in the table.
+/// Openings of all kinds, on tables with any content.
 fn openings(rng: &mut Rng) -> Case {
     let numbers = |rng: &mut Rng| {
         [limited(rng, MAX_DESKS), limited(rng, MAX_SCREENS), limited(rng, MAX_POSITIONS)]
@@ -48,7 +49,7 @@ fn limited(rng: &mut Rng, most: u16) -> u16 {
     }
 }
 
-/// A length in bytes near a need, or next to nothing, or anything.
+/// A length in bytes: near a need, near 0, or any.
 fn around(rng: &mut Rng, need: usize) -> usize {
     match rng.below(8) {
         0 => rng.below(6),
@@ -57,8 +58,8 @@ fn around(rng: &mut Rng, need: usize) -> usize {
     }
 }
 
-/// A history from an opening that presses the lists to their bound: a few
-/// desks retire and collect, all of them take and drop, few sessions serve.
+/// A history from an opening that fills the lists to their bound: a few desks
+/// retire and collect, all of them take and drop, and there are few sessions.
 fn history(rng: &mut Rng) -> Case {
     let hall = any_hall(rng);
     let sessions = Sessions::any(rng);
@@ -96,7 +97,7 @@ fn history(rng: &mut Rng) -> Case {
     case_of(rng, table, calls)
 }
 
-/// Steps on a sound table, which need not be one that a history reaches.
+/// Steps on a sound table, which need not be reachable from an opening.
 fn from_sound_table(rng: &mut Rng) -> Case {
     let hall = any_hall(rng);
     let sessions = Sessions::any(rng);
@@ -115,7 +116,7 @@ fn from_damaged_table(rng: &mut Rng) -> Case {
     case_of(rng, table, calls)
 }
 
-/// Steps on a sound table that is cut short, or that garbage follows.
+/// Steps on a sound table that is truncated, or followed by garbage.
 fn from_cut_or_long_table(rng: &mut Rng) -> Case {
     let hall = any_hall(rng);
     let sessions = Sessions::any(rng);
@@ -141,7 +142,7 @@ fn from_any_bytes(rng: &mut Rng) -> Case {
     let length = around(rng, 2 * hall.need());
     let mut table = any_bytes(rng, length);
     if rng.one_in(2) {
-        // A header within the limits lets the rest be looked at.
+        // With a header within the limits, the board reads the rest.
         let header = [hall.desks as u8, 0, hall.screens as u8, 0, hall.positions as u8, 0];
         for (byte, with) in table.iter_mut().zip(header) {
             *byte = with;
@@ -179,7 +180,7 @@ fn one_of(rng: &mut Rng, most: u16) -> u16 {
     rng.within(1, usize::from(most)) as u16
 }
 
-/// Mostly 1 to most; now and then outside.
+/// Usually 1 to most; sometimes outside.
 fn number(rng: &mut Rng, most: u16) -> u16 {
     if rng.one_in(16) {
         let within = one_of(rng, most);
@@ -189,7 +190,7 @@ fn number(rng: &mut Rng, most: u16) -> u16 {
     }
 }
 
-/// A number out of range, or one that is only if its high byte is looked at.
+/// A number out of range, perhaps only because of its high byte.
 fn wild(rng: &mut Rng, within: u16, most: u16) -> u16 {
     match rng.below(6) {
         0 | 1 => 0,

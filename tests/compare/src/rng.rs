@@ -1,9 +1,9 @@
-//! A small source of numbers (splitmix64), the same on every machine.
+//! A small random number generator (splitmix64), the same on every machine.
 
 pub struct Rng(u64);
 
 impl Rng {
-    /// The numbers of one case: they depend on the seed and the case alone.
+    /// The numbers of one case: they depend only on the seed and the case.
     pub fn of_case(seed: u64, case: u64) -> Rng {
         let mut rng = Rng(seed ^ case.wrapping_mul(0xD134_2543_DE82_EF95));
         rng.next();
@@ -31,7 +31,7 @@ impl Rng {
         self.next() as u16
     }
 
-    /// True once in so many times.
+    /// True with probability 1 / times.
     pub fn one_in(&mut self, times: usize) -> bool {
         self.below(times) == 0
     }

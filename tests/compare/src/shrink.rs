@@ -5,7 +5,7 @@ use crate::call::{Call, Function};
 use crate::case::Case;
 use reference::{place, set_word, word, Hall};
 
-/// Tries ever smaller cases until none of them differs any more.
+/// Tries smaller and smaller cases until none of them differs.
 pub fn shrink(case: Case) -> Case {
     let mut smallest = case;
     cut_after_difference(&mut smallest);
@@ -23,7 +23,7 @@ pub fn shrink(case: Case) -> Case {
     }
 }
 
-/// Calls first, then length, then what stands in it.
+/// Calls first, then the table's length, then its content.
 pub fn size(case: &Case) -> (usize, usize, u64) {
     let words = (0..case.table.len() / 2).map(|at| u64::from(word(&case.table, at)));
     let numbers = case.calls.iter().flat_map(|call| call.numbers).map(u64::from);
@@ -73,7 +73,7 @@ fn has_opening(case: &Case) -> bool {
 }
 
 /// Starts at the table that the first call leaves. A history from an opening
-/// keeps its opening: it says more than a table that comes from nowhere.
+/// keeps its opening: it is easier to understand than a table without a history.
 fn later_start(smallest: &mut Case) {
     while smallest.calls.len() > 1 && !has_opening(smallest) {
         let mut other = smallest.clone();
@@ -106,7 +106,7 @@ fn emptier_records(smallest: &mut Case) {
     }
 }
 
-/// The record without this list place, and one less in this count.
+/// The record without this list place, and with this count reduced by one.
 fn leave_out(record: &mut [u8], at: usize, count: usize) {
     let list = &mut record[2 * place::LIST..];
     let end = list.len() - 2;
@@ -153,7 +153,7 @@ fn hall_of(case: &Case) -> Option<Hall> {
     Hall::new(desks, screens, positions).ok()
 }
 
-/// The same case in a smaller hall, as far as it goes.
+/// The same case in a smaller hall, as far as possible.
 fn moved(case: &Case, from: &Hall, to: &Hall, skipped: u16) -> Case {
     let spare = case.table.len().saturating_sub(2 * from.need());
     let mut table = vec![0; 2 * to.need() + spare];
@@ -171,7 +171,7 @@ fn moved(case: &Case, from: &Hall, to: &Hall, skipped: u16) -> Case {
     Case { align: case.align, table, calls }
 }
 
-/// Which word of the one hall becomes which word of the other.
+/// The words of one hall, mapped to the words of the other.
 fn pairs_of_words(from: &Hall, to: &Hall, skipped: u16) -> Vec<(usize, usize)> {
     let mut pairs: Vec<_> =
         (1..=to.positions).map(|p| (from.position(p), to.position(p))).collect();
@@ -184,7 +184,7 @@ fn pairs_of_words(from: &Hall, to: &Hall, skipped: u16) -> Vec<(usize, usize)> {
     pairs
 }
 
-/// Numbers within the old hall are brought within the new one.
+/// Numbers within the old hall are mapped into the new one.
 fn moved_call(call: &Call, from: &Hall, to: &Hall, skipped: u16) -> Call {
     let fold = |number: u16, old: u16, new: u16| {
         if (1..=old).contains(&number) {

@@ -8,7 +8,7 @@ pub struct Sessions(Vec<u16>);
 
 impl Sessions {
     pub fn any(rng: &mut Rng) -> Sessions {
-        // Some share a byte: a board that compares bytes would mix them up.
+        // Some share a byte: a board that compares bytes would confuse them.
         let sets: [&[u16]; 5] = [
             &[5],
             &[5, 6],
@@ -22,7 +22,7 @@ impl Sessions {
         }
     }
 
-    /// One of them, now and then none.
+    /// One of them, sometimes none.
     pub fn pick(&self, rng: &mut Rng) -> u16 {
         if rng.one_in(8) {
             0
@@ -36,7 +36,7 @@ impl Sessions {
     }
 }
 
-/// Halls of all sizes, the smallest and the largest among them.
+/// Halls of all sizes, including the smallest and the largest.
 pub fn any_hall(rng: &mut Rng) -> Hall {
     let (least, most) = match rng.below(16) {
         0 => ([1, 1, 1], [1, 1, 1]),
@@ -61,7 +61,7 @@ pub fn any_words(rng: &mut Rng, length: usize) -> Vec<u8> {
     (0..length).map(|_| rng.word() as u8).collect()
 }
 
-/// A sound table of exactly the need, arbitrary in all that soundness leaves.
+/// A sound table of exactly the need, otherwise arbitrary.
 pub fn sound_table(rng: &mut Rng, hall: &Hall, sessions: &Sessions) -> Vec<u8> {
     let mut table = vec![0; 2 * hall.need()];
     set_word(&mut table, 0, hall.desks);
@@ -81,7 +81,7 @@ pub fn sound_table(rng: &mut Rng, hall: &Hall, sessions: &Sessions) -> Vec<u8> {
 /// How many are ready, tested and waiting.
 type Lengths = [usize; 3];
 
-/// None, all places or any number of them used, parted anyhow.
+/// None, all or any number of places used, divided in any way.
 fn any_lengths(rng: &mut Rng, all_screens: usize) -> Lengths {
     let places = 2 * all_screens;
     let used = match rng.below(4) {
@@ -125,7 +125,7 @@ fn sound_record(
     }
 }
 
-/// So many marks among the first so many places.
+/// This many marks among the first places.
 pub fn any_marks(rng: &mut Rng, places: usize, marked: usize) -> u128 {
     let mut marks = 0;
     let mut left = marked;
@@ -142,7 +142,7 @@ pub fn set_marks(record: &mut [u8], marks: u128) {
     record[2 * place::MARKS..2 * place::LIST].copy_from_slice(&marks.to_le_bytes());
 }
 
-/// A record in mid-reading, for the damages that need one; `None` where the
+/// A record during a reading, for the damages that need one; `None` where the
 /// hall is too small for it.
 pub fn reading_record(rng: &mut Rng, hall: &Hall, record: &mut [u8]) -> Option<(usize, usize)> {
     let all_screens = hall.all_screens();

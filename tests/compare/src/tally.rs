@@ -24,7 +24,7 @@ impl Tally {
         self.calls += 1;
     }
 
-    /// The replies that never came although document 01 has them.
+    /// The replies of document 01 that never occurred.
     pub fn missing(&self) -> Vec<(Function, usize)> {
         let never = |&(function, number): &(Function, usize)| {
             self.by_number[function as usize][number] == 0

@@ -1,4 +1,4 @@
-//! The hall: its three numbers, and where in the table each part stands.
+//! The hall: its three numbers, and the location of each part in the table.
 
 use super::{ask, Refusal};
 use std::ops::Range;
@@ -19,7 +19,7 @@ pub struct Hall {
 }
 
 impl Hall {
-    /// The hall of these numbers, asked in the order of the opening.
+    /// The hall of these numbers, checked in the order of the opening.
     pub fn new(desks: u16, screens: u16, positions: u16) -> Result<Hall, Refusal> {
         ask((1..=MAX_DESKS).contains(&desks), Refusal::BadDesks)?;
         ask((1..=MAX_SCREENS).contains(&screens), Refusal::BadScreens)?;

@@ -1,8 +1,8 @@
 //! The session board in plain Rust, written from document 01 alone.
 //!
-//! It is what the board is compared with, so it shares no line with it. The
-//! table is a slice of bytes, two to a word, low byte first; an odd last byte
-//! is no part of it.
+//! The board is compared with it, so the two share no code. The table is a
+//! slice of bytes, two to a word, low byte first; an odd last byte is not part
+//! of it.
 
 mod hall;
 mod record;
@@ -41,7 +41,7 @@ pub enum Refusal {
 /// The session of an accepted call, or the refusal.
 pub type Reply = Result<u16, Refusal>;
 
-/// The one number a host gets: the reply number times 65,536, plus the session.
+/// The answer to a host: the reply number times 65,536, plus the session.
 pub fn answer(reply: Reply) -> u32 {
     match reply {
         Ok(session) => u32::from(session),
@@ -73,7 +73,7 @@ pub fn take(desk: u16, screen: u16, position: u16, table: &mut [u8]) -> Reply {
     Ok(session)
 }
 
-/// The screen shows nothing any more.
+/// The screen no longer shows anything.
 pub fn drop(desk: u16, screen: u16, table: &mut [u8]) -> Reply {
     let hall = hall_with_desk(table, desk)?;
     ask_screen(&hall, screen)?;
@@ -108,7 +108,7 @@ pub fn retire(desk: u16, table: &mut [u8]) -> Reply {
     Ok(record.retire())
 }
 
-/// One more part of a reading of the hall, and at most one session handed back.
+/// Reads the next screens of the hall, and hands back at most one session.
 pub fn collect(desk: u16, table: &mut [u8]) -> Reply {
     let hall = hall_with_desk(table, desk)?;
     let (screens, mut record) = screens_and_record(&hall, desk, table);

@@ -1,4 +1,4 @@
-//! A desk's record: what it owes, and its list with the reading under way.
+//! A desk's record: what it owes, and its list with the current reading.
 
 use super::words::{set_word, word};
 
@@ -73,7 +73,7 @@ impl<'a> Record<'a> {
         }
     }
 
-    /// All waiting become tested. They stand behind the ready ones already.
+    /// All waiting become tested. They are already behind the ready ones.
     fn begin_reading(&mut self) {
         self.set(place::TESTED, self.waiting());
         self.set(place::WAITING, 0);
@@ -89,7 +89,7 @@ impl<'a> Record<'a> {
     }
 
     /// Marks the first unmarked tested place with this session, if there is
-    /// one. A screen that shows 0 finds none, for no used place is 0.
+    /// one. A screen that shows 0 marks none, because no used place is 0.
     fn mark(&mut self, session: u16) {
         let marks = marks(self.bytes);
         let ready = self.ready();
@@ -99,8 +99,8 @@ impl<'a> Record<'a> {
         }
     }
 
-    /// The reading is done. Unmarked places are ready, marked ones wait again:
-    /// with the unmarked put before the marked, only the counts have to move.
+    /// The reading is complete. Unmarked places become ready, marked ones wait
+    /// again: once the unmarked are before the marked, only the counts change.
     fn settle(&mut self) {
         let marks = marks(self.bytes);
         let (ready, tested) = (self.ready(), self.tested());

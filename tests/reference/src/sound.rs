@@ -1,4 +1,4 @@
-//! Soundness, clause by clause as document 01 has it, and nothing more.
+//! Soundness, clause by clause as in document 01, and nothing more.
 
 use super::record::{marks, place};
 use super::words::{bytes, count, word};
@@ -18,7 +18,7 @@ pub fn sound_hall(table: &[u8]) -> Option<Hall> {
     sound.then_some(hall)
 }
 
-/// The ranges come first: only numbers within them give a need.
+/// The ranges are checked first: the need is defined only within them.
 fn header(table: &[u8]) -> Option<Hall> {
     if count(table) < 3 {
         return None;
@@ -38,8 +38,8 @@ fn sound_record(record: &[u8], all_screens: usize) -> bool {
         && marks(record).count_ones() as usize <= number(place::SCANNED)
 }
 
-/// Used places are not 0, unused ones are. Both loops go to their end: without
-/// a way out in the middle they can take many places at a time.
+/// Used places are not 0, unused ones are. Neither loop exits early, so the
+/// compiler can vectorise them.
 fn sound_list(list: &[u8], used: usize) -> bool {
     let (used, unused) = list.split_at(2 * used);
     let none_is_zero = used.chunks_exact(2).fold(true, |none, place| none & (word(place, 0) != 0));

@@ -2,7 +2,7 @@
 
 use std::ops::Range;
 
-/// How many whole words the bytes hold.
+/// How many whole words there are in the bytes.
 pub fn count(bytes: &[u8]) -> usize {
     bytes.len() / 2
 }

@@ -1,5 +1,5 @@
-//! The day sheet: case D whole, case L, the empty sheet, and each way in which
-//! a reading ends.
+//! The day sheet: whole case D, case L, the empty sheet, and each way in which
+//! a reading can end.
 
 use reference::sheet::{printed, Fault, Reader, MAX_BYTES};
 
@@ -15,7 +15,8 @@ fn lines(sheet: &[u8]) -> String {
     String::from_utf8(printed(sheet)).expect("plain text")
 }
 
-/// The lines of a sheet that opens the smallest hall and goes on so.
+/// The lines of a sheet that opens the smallest hall and continues with these
+/// bytes.
 fn lines_after_opening(rest: &[u8]) -> String {
     let lines = lines(&[&SMALLEST, rest].concat());
     lines.strip_prefix("0 0 0 0\n").expect("an accepted opening").to_string()
@@ -110,7 +111,7 @@ fn fields_that_end_the_reading() {
     }
 }
 
-/// A desk that does not exist is asked for only once the record is whole.
+/// The desk is checked only once the whole record is read.
 #[test]
 fn all_fields_are_read_before_the_step_asks() {
     assert_eq!(lines_after_opening(&[1, 9, 9]), "1 1 15 0\nend 0 0 0\n");
@@ -137,7 +138,7 @@ fn what_is_handed_back() {
     assert_eq!(lines, "1 3 0 0\n2 3 0 5\n3 4 0 5\n4 5 0 5\n5 5 0 0\nend 5 0 1\n");
 }
 
-/// A sheet of so many bytes: the smallest hall, then collects by desk 5.
+/// A sheet of `bytes` bytes: the smallest hall, then collects by desk 5.
 fn long_sheet(bytes: usize) -> Vec<u8> {
     let mut sheet = vec![5; bytes];
     sheet[..3].copy_from_slice(&SMALLEST);

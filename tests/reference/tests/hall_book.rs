@@ -5,7 +5,7 @@ mod board;
 use board::{list, Board};
 use reference::{answer, Hall, Refusal};
 
-/// The answer of opening this hall in a table of so many words.
+/// The answer to opening this hall in a table of `words` words.
 fn open(desks: u16, screens: u16, positions: u16, words: usize) -> u32 {
     let mut table = vec![0xAA; 2 * words];
     answer(reference::open(desks, screens, positions, &mut table))

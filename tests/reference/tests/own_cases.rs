@@ -1,5 +1,5 @@
-//! Cases of our own beside the hall book. Each tells the right board from one
-//! that is wrong in the way its comment names.
+//! Cases of our own in addition to the hall book. Each distinguishes the right
+//! board from the wrong one that its comment describes.
 
 mod board;
 
@@ -165,7 +165,7 @@ fn a_collect_reads_two_screens() {
     assert_eq!(board.list(1), list(0, 0, 1, &[5]));
 }
 
-/// The largest hall fills all 128 places and all eight mark words take part.
+/// In the largest hall all 128 places and all eight mark words are used.
 #[test]
 fn the_largest_list_is_read_and_settled() {
     let mut board = Board::open(16, 4, 64);

@@ -103,7 +103,7 @@ fn short_tables_are_unsound() {
     }
 }
 
-/// A hall of 5 screens, desk 2 in mid-reading: its list holds 2 ready, 3
+/// A hall of 5 screens, desk 2 during a reading: its list has 2 ready, 3
 /// tested and 1 waiting; 2 screens read, tested places 0 and 2 marked.
 fn reading() -> Board {
     let mut board = Board::open(5, 1, 2);
@@ -179,7 +179,7 @@ fn marked_places_are_at_most_those_read() {
     assert!(sound_with(&[(place::MARKS, 0b111), (place::SCANNED, 4)]));
 }
 
-/// No marks, which would ask for screens read themselves.
+/// No marks: with marks, k would have a lower bound.
 #[test]
 fn screens_read_so_far() {
     let sound = |scanned| sound_with(&[(place::SCANNED, scanned), (place::MARKS, 0)]);
@@ -197,7 +197,7 @@ fn nothing_tested_nothing_read() {
     assert!(!sound_with(&[&none[..], &[(place::MARKS, 1), (place::SCANNED, 0)]].concat()));
 }
 
-/// With one or two screens no number of screens read fits a tested place.
+/// With one or two screens no k is valid while something is tested.
 #[test]
 fn small_halls_test_nothing_between_steps() {
     for desks in [1, 2] {

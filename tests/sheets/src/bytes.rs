@@ -1,9 +1,9 @@
-//! Numbers as a sheet has them, and sheets as people read them.
+//! Encodes the numbers of a sheet, and formats sheets in hex.
 
 /// The largest number of three groups.
 pub const MAX_IN_THREE: u32 = (1 << 21) - 1;
 
-/// Appends a number: groups of seven bits, lowest first, at least so many.
+/// Appends a number: groups of seven bits, lowest first, at least `least_groups`.
 pub fn put(sheet: &mut Vec<u8>, number: u32, least_groups: usize) {
     let mut rest = number;
     let mut groups = 1;

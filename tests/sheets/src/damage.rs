@@ -2,7 +2,7 @@
 
 use crate::rng::Rng;
 
-/// The sheet up to any place of it.
+/// A prefix of the sheet.
 pub fn cut(rng: &mut Rng, mut sheet: Vec<u8>) -> Vec<u8> {
     let length = rng.within(0, sheet.len());
     sheet.truncate(length);

@@ -1,28 +1,28 @@
-//! A sheet that differs, told to a person.
+//! Prints a sheet that differs.
 
 use crate::bytes::hex;
 use crate::pair::Pair;
-use crate::program::{Printed, Way};
+use crate::program::{InputMode, Printed};
 use crate::shrink::shrink;
 use std::process::ExitCode;
 
 /// The smallest sheet that differs, where it does, and how to run it again.
-pub fn explain_smallest(pair: &Pair, sheet: Vec<u8>, way: Way) -> ExitCode {
-    let sheet = shrink(pair, sheet, way);
-    println!("smallest sheet found: {} bytes, {}", sheet.len(), by(way));
+pub fn explain_smallest(pair: &Pair, sheet: Vec<u8>, mode: InputMode) -> ExitCode {
+    let sheet = shrink(pair, sheet, mode);
+    println!("smallest sheet found: {} bytes, {}", sheet.len(), by(mode));
     println!("  {}", if sheet.is_empty() { "(no bytes)".into() } else { hex(&sheet) });
-    let (program, reference) = pair.run(&sheet, way);
+    let (program, reference) = pair.run(&sheet, mode);
     explain(&program, &reference);
     println!("replay: sheets {pair} --hex '{}'", hex(&sheet));
     println!("sheets: 1 difference");
     ExitCode::FAILURE
 }
 
-fn by(way: Way) -> &'static str {
-    match way {
-        Way::File => "from a file",
-        Way::Pipe => "by a pipe",
-        Way::Pieces => "by a pipe, in two pieces",
+fn by(mode: InputMode) -> &'static str {
+    match mode {
+        InputMode::File => "from a file",
+        InputMode::Pipe => "by a pipe",
+        InputMode::Pieces => "by a pipe, in two pieces",
     }
 }
 

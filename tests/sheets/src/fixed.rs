@@ -1,5 +1,5 @@
-//! The sheets that every run begins with, small ones first: a program that is
-//! plainly wrong is caught by a sheet that a person can read.
+//! The sheets that every run starts with, small ones first: an obviously wrong
+//! program is caught by a sheet that is easy to read.
 
 use crate::bytes::{put, MAX_IN_THREE};
 
@@ -70,7 +70,7 @@ fn codes() -> Vec<Vec<u8>> {
     sheets
 }
 
-/// Each step, accepted and refused, all numbers in so many groups.
+/// Each step, accepted and refused, with all numbers in at least `least_groups` groups.
 fn every_step(least_groups: usize) -> Vec<u8> {
     let records: [&[u32]; 16] = [
         &[2, 2, 2],
@@ -114,7 +114,7 @@ fn long() -> Vec<Vec<u8>> {
     sheets
 }
 
-/// A beginning, then the same bytes again and again up to this length.
+/// A prefix, then the same bytes repeated up to this length.
 fn filled(beginning: &[u8], again: &[u8], bytes: usize) -> Vec<u8> {
     beginning.iter().chain(again.iter().cycle()).copied().take(bytes).collect()
 }

@@ -19,9 +19,9 @@ mod tally;
 
 use bytes::from_hex;
 use explain::explain_smallest;
-use many::{run_all, way, Sheets};
+use many::{input_mode, run_all, Sheets};
 use pair::Pair;
-use program::{Way, WAYS};
+use program::{InputMode, INPUT_MODES};
 use std::path::{Path, PathBuf};
 use std::process::ExitCode;
 use std::time::Instant;
@@ -54,8 +54,8 @@ fn main() -> ExitCode {
     result
 }
 
-/// For the sheets and the lines. In memory if it can be: the files are many,
-/// and small.
+/// For the sheets and the lines. In memory if possible: there are many small
+/// files.
 fn folder() -> PathBuf {
     let name = format!("sheets-{}", process::id());
     let in_memory = Path::new("/dev/shm").join(&name);
@@ -91,9 +91,9 @@ fn compare(options: &Options, folder: &Path) -> ExitCode {
     let pair = Pair::new(&options.program, &options.reference, folder.to_path_buf());
     let all = Sheets::new(options.seed);
     if let Some(sheet) = &options.bytes {
-        compare_one(&pair, sheet, &WAYS)
+        compare_one(&pair, sheet, &INPUT_MODES)
     } else if let Some(number) = options.sheet {
-        compare_one(&pair, &all.sheet(number), &[way(number)])
+        compare_one(&pair, &all.sheet(number), &[input_mode(number)])
     } else {
         compare_many(&pair, &all, options.count)
     }
@@ -110,12 +110,12 @@ fn compare_many(pair: &Pair, all: &Sheets, count: u64) -> ExitCode {
         Err(number) => {
             println!("sheet {number} of seed {} differs", all.seed);
             println!("again: sheets {pair} --seed {} --sheet {number}", all.seed);
-            explain_smallest(pair, all.sheet(number), way(number))
+            explain_smallest(pair, all.sheet(number), input_mode(number))
         }
     }
 }
 
-/// No sheet differed; but a reply that never came was never compared.
+/// No sheet differed; but a reply that never occurred was never compared.
 fn judge(tally: &Tally) -> ExitCode {
     let missing = tally.missing();
     for (name, reply) in &missing {
@@ -131,9 +131,9 @@ fn judge(tally: &Tally) -> ExitCode {
     }
 }
 
-fn compare_one(pair: &Pair, sheet: &[u8], ways: &[Way]) -> ExitCode {
-    match ways.iter().find(|&&way| pair.differs(sheet, way)) {
-        Some(&way) => explain_smallest(pair, sheet.to_vec(), way),
+fn compare_one(pair: &Pair, sheet: &[u8], modes: &[InputMode]) -> ExitCode {
+    match modes.iter().find(|&&mode| pair.differs(sheet, mode)) {
+        Some(&mode) => explain_smallest(pair, sheet.to_vec(), mode),
         None => {
             println!("sheets: 1 sheet, 0 differences");
             ExitCode::SUCCESS

@@ -1,5 +1,5 @@
-//! Sheets at random: histories that press the board to its refusals, the same
-//! written with zero groups, cut or damaged, and bytes of no meaning.
+//! Random sheets: histories that lead to all refusals; the same with zero
+//! groups, truncated or damaged; and random bytes.
 
 use crate::bytes::{put, MAX_IN_THREE};
 use crate::damage::{cut, damage};
@@ -63,7 +63,7 @@ fn padded_or_plain(rng: &mut Rng) -> Vec<u8> {
     }
 }
 
-/// Halls of all sizes, mostly small: there a few steps meet each other.
+/// Halls of all sizes, mostly small: there a few steps are enough to interact.
 fn any_hall(rng: &mut Rng) -> Hall {
     let most = match rng.below(16) {
         0 => [1, 1, 1],
@@ -75,8 +75,8 @@ fn any_hall(rng: &mut Rng) -> Hall {
     Hall { desks, screens, positions }
 }
 
-/// A header and records. Few desks and few sessions serve, and each sheet has
-/// its own mixture of steps, so that lists run full and copies are marked.
+/// A header and records. There are few desks and few sessions, and each sheet
+/// has its own mixture of steps, so that lists become full and copies marked.
 fn history(rng: &mut Rng) -> Numbers {
     let hall = any_hall(rng);
     let desks: Vec<u32> = (0..rng.within(1, 3)).map(|_| one_of(rng, hall.desks)).collect();
@@ -107,7 +107,7 @@ fn history(rng: &mut Rng) -> Numbers {
     numbers
 }
 
-/// Any step, now and then with a number that the hall does not have.
+/// Any step, sometimes with a number that the hall does not have.
 fn any_record(rng: &mut Rng, hall: &Hall, session: u32) -> Vec<u32> {
     let desk = number(rng, hall.desks);
     match rng.within(1, 5) {
@@ -122,7 +122,7 @@ fn one_of(rng: &mut Rng, most: u32) -> u32 {
     rng.within(1, most as usize) as u32
 }
 
-/// Mostly 1 to most; else out of range, or so only in its high byte.
+/// Usually 1 to most; else out of range, perhaps only because of its high byte.
 fn number(rng: &mut Rng, most: u32) -> u32 {
     let within = one_of(rng, most);
     match rng.below(16) {
@@ -134,7 +134,7 @@ fn number(rng: &mut Rng, most: u32) -> u32 {
     }
 }
 
-/// Where one number of a history stands.
+/// The offset of one number of a history.
 fn any_place(rng: &mut Rng, numbers: &Numbers) -> (usize, usize) {
     let record = rng.below(numbers.len());
     (record, rng.below(numbers[record].len()))

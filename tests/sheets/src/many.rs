@@ -1,7 +1,7 @@
-//! Many sheets, shared out among threads.
+//! Many sheets, distributed among threads.
 
 use crate::pair::{differ, Pair};
-use crate::program::Way;
+use crate::program::InputMode;
 use crate::tally::Tally;
 use crate::{fixed, make};
 use std::sync::atomic::{AtomicU64, Ordering::Relaxed};
@@ -26,12 +26,12 @@ impl Sheets {
     }
 }
 
-/// How a sheet goes in. Pieces are seldom, for they take their time.
-pub fn way(number: u64) -> Way {
+/// How a sheet is delivered. Pieces are rare, because they are slow.
+pub fn input_mode(number: u64) -> InputMode {
     match number % 64 {
-        63 => Way::Pieces,
-        number if number % 2 == 0 => Way::File,
-        _ => Way::Pipe,
+        63 => InputMode::Pieces,
+        number if number % 2 == 0 => InputMode::File,
+        _ => InputMode::Pipe,
     }
 }
 
@@ -42,7 +42,7 @@ pub fn run_all(pair: &Pair, all: &Sheets, count: u64) -> Result<Tally, u64> {
     let (next, differs) = (&next, &differs);
     let mut tally = Tally::default();
     thread::scope(|threads| {
-        // Two for each core: one waits while the program of the other runs.
+        // Two per core: one waits while the program of the other runs.
         let cores = thread::available_parallelism().map_or(1, usize::from);
         let share = |at: usize| {
             let pair = pair.for_thread(at);
@@ -71,7 +71,7 @@ fn run_share(
         if number >= count || number > differs.load(Relaxed) {
             return tally;
         }
-        let (program, reference) = pair.run(&all.sheet(number), way(number));
+        let (program, reference) = pair.run(&all.sheet(number), input_mode(number));
         if differ(&program, &reference) {
             differs.fetch_min(number, Relaxed);
         } else if let Ok(lines) = reference {

@@ -1,6 +1,6 @@
 //! The two programs that are compared.
 
-use crate::program::{run, Printed, Way};
+use crate::program::{run, InputMode, Printed};
 use std::fmt;
 use std::fs::create_dir_all;
 use std::path::{Path, PathBuf};
@@ -24,27 +24,27 @@ impl Pair {
     }
 
     /// What the program and the reference printed.
-    pub fn run(&self, sheet: &[u8], way: Way) -> (Printed, Printed) {
+    pub fn run(&self, sheet: &[u8], mode: InputMode) -> (Printed, Printed) {
         (
-            run(&self.program, sheet, way, &self.folder),
-            run(&self.reference, sheet, way, &self.folder),
+            run(&self.program, sheet, mode, &self.folder),
+            run(&self.reference, sheet, mode, &self.folder),
         )
     }
 
-    pub fn differs(&self, sheet: &[u8], way: Way) -> bool {
-        let (program, reference) = self.run(sheet, way);
+    pub fn differs(&self, sheet: &[u8], mode: InputMode) -> bool {
+        let (program, reference) = self.run(sheet, mode);
         differ(&program, &reference)
     }
 }
 
-/// As they are named to the comparison.
+/// As on the command line of the comparison.
 impl fmt::Display for Pair {
     fn fmt(&self, out: &mut fmt::Formatter) -> fmt::Result {
         write!(out, "{} {}", self.program.display(), self.reference.display())
     }
 }
 
-/// A program that ends in another way than with its lines is never right.
+/// A program that fails is never right.
 pub fn differ(program: &Printed, reference: &Printed) -> bool {
     program.is_err() || program != reference
 }

@@ -13,34 +13,39 @@ const MAX_TIME: Duration = Duration::from_secs(10);
 /// The lines of the longest sheet are less than a fifth of this.
 const MAX_PRINTED: u64 = 4 << 20;
 
-/// Between the pieces of a sheet: the program is waiting for more by then.
+/// Between the pieces of a sheet: by then the program waits for more.
 const PAUSE: Duration = Duration::from_millis(3);
 
-/// How a sheet comes to standard input.
+/// How a sheet is delivered on standard input.
 #[derive(Clone, Copy, Debug, PartialEq, Eq)]
-pub enum Way {
+pub enum InputMode {
     File,
     Pipe,
-    /// A pipe that gives one part first and the rest a while later.
+    /// A pipe that delivers one half first and the rest after a pause.
     Pieces,
 }
 
-pub const WAYS: [Way; 3] = [Way::File, Way::Pipe, Way::Pieces];
+pub const INPUT_MODES: [InputMode; 3] = [InputMode::File, InputMode::Pipe, InputMode::Pieces];
 
 /// What the program printed, or how else it ended.
 pub type Printed = Result<Vec<u8>, String>;
 
-pub fn run(program: &Path, sheet: &[u8], way: Way, folder: &Path) -> Printed {
-    start_and_wait(program, sheet, way, folder)
+pub fn run(program: &Path, sheet: &[u8], mode: InputMode, folder: &Path) -> Printed {
+    start_and_wait(program, sheet, mode, folder)
         .unwrap_or_else(|error| Err(format!("cannot be run: {error}")))
 }
 
 /// The lines go to a file, so that the program never waits for a reader.
-fn start_and_wait(program: &Path, sheet: &[u8], way: Way, folder: &Path) -> io::Result<Printed> {
+fn start_and_wait(
+    program: &Path,
+    sheet: &[u8],
+    mode: InputMode,
+    folder: &Path,
+) -> io::Result<Printed> {
     let lines = folder.join("lines");
-    let stdin = match way {
-        Way::File => Stdio::from(File::open(written(sheet, folder)?)?),
-        Way::Pipe | Way::Pieces => Stdio::piped(),
+    let stdin = match mode {
+        InputMode::File => Stdio::from(File::open(written(sheet, folder)?)?),
+        InputMode::Pipe | InputMode::Pieces => Stdio::piped(),
     };
     let mut child = Command::new(program)
         .stdin(stdin)
@@ -49,9 +54,9 @@ fn start_and_wait(program: &Path, sheet: &[u8], way: Way, folder: &Path) -> io::
         .spawn()?;
     let ended = match child.stdin.take() {
         None => wait(&mut child, &lines)?,
-        // Beside the waiting: a program that does not read is not waited for.
+        // In a thread: a program that does not read must not block the wait.
         Some(pipe) => scope(|threads| {
-            threads.spawn(|| feed(pipe, sheet, way));
+            threads.spawn(|| feed(pipe, sheet, mode));
             wait(&mut child, &lines)
         })?,
     };
@@ -67,10 +72,10 @@ fn written(sheet: &[u8], folder: &Path) -> io::Result<PathBuf> {
     Ok(path)
 }
 
-/// A program need not read a sheet that is too long to its end, so it may well
-/// close the pipe early.
-fn feed(mut pipe: ChildStdin, sheet: &[u8], way: Way) {
-    let first = if way == Way::Pieces { sheet.len() / 2 } else { sheet.len() };
+/// A program need not read a sheet that is too long to its end, so it may close
+/// the pipe early.
+fn feed(mut pipe: ChildStdin, sheet: &[u8], mode: InputMode) {
+    let first = if mode == InputMode::Pieces { sheet.len() / 2 } else { sheet.len() };
     let _ = pipe.write_all(&sheet[..first]);
     if first < sheet.len() {
         sleep(PAUSE);
@@ -78,7 +83,7 @@ fn feed(mut pipe: ChildStdin, sheet: &[u8], way: Way) {
     }
 }
 
-/// A program that does not end, or goes on printing, is ended.
+/// Kills a program that does not end, or that prints without end.
 fn wait(child: &mut Child, lines: &Path) -> io::Result<Result<(), String>> {
     let begun = Instant::now();
     let mut pause = Duration::from_micros(200);

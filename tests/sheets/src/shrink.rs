@@ -1,16 +1,16 @@
 //! The smallest sheet that still differs: fewest bytes, then the smallest.
 
 use crate::pair::Pair;
-use crate::program::Way;
+use crate::program::InputMode;
 use std::time::{Duration, Instant};
 
-/// A sheet that differs by its length alone cannot be made shorter; it is not
-/// tried for ever.
+/// A sheet that differs only because of its length cannot be made shorter; the
+/// search is limited in time.
 const MAX_TIME: Duration = Duration::from_secs(20);
 
-/// Tries ever smaller sheets until none of them differs any more.
-pub fn shrink(pair: &Pair, sheet: Vec<u8>, way: Way) -> Vec<u8> {
-    let mut search = Search { pair, way, smallest: sheet, begun: Instant::now() };
+/// Tries smaller and smaller sheets until none of them differs.
+pub fn shrink(pair: &Pair, sheet: Vec<u8>, mode: InputMode) -> Vec<u8> {
+    let mut search = Search { pair, mode, smallest: sheet, begun: Instant::now() };
     loop {
         let before = size(&search.smallest);
         search.shorter_end();
@@ -29,7 +29,7 @@ fn size(sheet: &[u8]) -> (usize, u64) {
 
 struct Search<'a> {
     pair: &'a Pair,
-    way: Way,
+    mode: InputMode,
     smallest: Vec<u8>,
     begun: Instant,
 }
@@ -43,7 +43,7 @@ impl Search<'_> {
     fn try_other(&mut self, other: Vec<u8>) -> bool {
         let better = !self.is_late()
             && size(&other) < size(&self.smallest)
-            && self.pair.differs(&other, self.way);
+            && self.pair.differs(&other, self.mode);
         if better {
             self.smallest = other;
         }
@@ -60,8 +60,8 @@ impl Search<'_> {
         }
     }
 
-    /// Leaves out runs of bytes, long ones first: records among them. Of a
-    /// long sheet the runs are tried end to end, of a short one at each place.
+    /// Leaves out runs of bytes, long ones first; records are among them. In a
+    /// long sheet the runs are tried end to end, in a short one at each offset.
     fn fewer_bytes(&mut self) {
         let mut length = self.smallest.len() / 2;
         while length > 0 && !self.is_late() {

@@ -5,7 +5,7 @@ use std::fmt;
 const NUMBERS: usize = 19;
 
 /// What a line answers, with the reply numbers that document 01 gives it. An
-/// opening is never 4, for the program lends enough; no step is ever 5.
+/// opening is never 4, because the program lends enough; no step is ever 5.
 const COLUMNS: [(&str, &[usize]); 8] = [
     ("header", &[0, 1, 2, 3, 15, 16, 18]),
     ("take", &[0, 6, 7, 8, 9, 10, 15, 16]),
@@ -27,8 +27,8 @@ pub struct Tally {
 }
 
 impl Tally {
-    /// Counts the lines of the reference. Anything else than lines of four
-    /// numbers leaves a column empty, and that is a failure.
+    /// Counts the lines of the reference. Other output leaves a column empty,
+    /// which is a failure.
     pub fn count(&mut self, printed: &[u8]) {
         self.sheets += 1;
         for line in printed.split(|&byte| byte == b'\n') {
@@ -49,7 +49,7 @@ impl Tally {
         }
     }
 
-    /// The replies that never came although a sheet can have them.
+    /// The replies that a sheet can get, but that never occurred.
     pub fn missing(&self) -> Vec<(&'static str, usize)> {
         let mut missing = Vec::new();
         for ((name, numbers), lines) in COLUMNS.iter().zip(&self.lines) {

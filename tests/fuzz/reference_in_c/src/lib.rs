@@ -1,5 +1,5 @@
-//! The reference under C names of its own, so that a harness in C can send the
-//! same call to it and to the archive. The header is ../reference_in_c.h.
+//! The reference under C names of its own, so that a harness in C can make the
+//! same call on it and on the archive. The header is ../reference_in_c.h.
 
 use reference::{answer, sheet};
 use std::slice;
@@ -29,8 +29,8 @@ pub unsafe extern "C" fn reference_call(
     })
 }
 
-/// The lines of a sheet, in memory of this library that the next sheet takes
-/// again; their length goes to `length`.
+/// The lines of a sheet, valid until the next call; their length goes to
+/// `length`.
 ///
 /// # Safety
 /// `sheet` points to `bytes` bytes; one thread calls this.

@@ -14,7 +14,7 @@ fn main() -> ExitCode {
     }
 }
 
-/// One byte more than the longest sheet is enough to know that it is too long.
+/// One byte more than the longest sheet is enough to tell that it is too long.
 fn run() -> io::Result<()> {
     let mut sheet = Vec::with_capacity(MAX_BYTES + 1);
     io::stdin().take(MAX_BYTES as u64 + 1).read_to_end(&mut sheet)?;

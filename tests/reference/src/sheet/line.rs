@@ -18,8 +18,8 @@ pub fn print_end(text: &mut Vec<u8>, tally: &Tally) {
     print(text, tally.handed_back, b'\n');
 }
 
-/// A number and what follows it. There may be 130,000 of them in a sheet's
-/// lines, so the formatting machinery of the library is left out.
+/// A number and what follows it. A sheet's lines may have 130,000 of them, so
+/// this does not use the library's formatting.
 fn print(text: &mut Vec<u8>, number: u32, then: u8) {
     let mut digits = [0; 11];
     let mut at = digits.len() - 1;

@@ -1,5 +1,5 @@
 //! The day sheet, from document 01 alone: a hall, then one record per step,
-//! each run as soon as it is read. What is printed is made here too.
+//! each run as soon as it is read; and the printed lines.
 
 mod line;
 mod number;
@@ -30,8 +30,8 @@ pub fn printed(sheet: &[u8]) -> Vec<u8> {
     run.text
 }
 
-/// What ends a reading before the sheet does: its number, and the code of the
-/// record in hand, 0 if that was not read.
+/// What ends a reading before the end of the sheet: its number, and the code of
+/// the current record, 0 if it was not read.
 struct Stop {
     code: u16,
     number: u32,
@@ -41,10 +41,10 @@ fn stop_at(code: u16) -> impl Fn(Fault) -> Stop {
     move |fault| Stop { code, number: fault as u32 }
 }
 
-/// A sheet in the course of its reading.
+/// The state of reading a sheet.
 struct Run {
     table: [u8; TABLE_BYTES],
-    /// The record in hand; the header is record 0.
+    /// The current record; the header is record 0.
     record: u32,
     tally: Tally,
     text: Vec<u8>,

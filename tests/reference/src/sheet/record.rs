@@ -9,7 +9,7 @@ pub const SWAP: u16 = 3;
 pub const RETIRE: u16 = 4;
 pub const COLLECT: u16 = 5;
 
-/// Desk, screen, position, session; those a code lacks are 0.
+/// Desk, screen, position, session; those that a code does not have are 0.
 pub type Fields = [u16; 4];
 
 /// Which of desk, screen, position and session follow each code.
@@ -34,7 +34,7 @@ pub fn read_fields(code: u16, reader: &mut Reader) -> Result<Fields, Fault> {
     Ok(fields)
 }
 
-/// Sends the step to the board. The code is one of the five.
+/// Does the step on the board. Precondition: the code is 1 to 5.
 pub fn step(code: u16, [desk, screen, position, session]: Fields, table: &mut [u8]) -> Reply {
     match code {
         TAKE => take(desk, screen, position, table),

@@ -1,4 +1,4 @@
-//! A board with its table, and the small histories that cases start from.
+//! A board with its table, and small histories as the start of cases.
 
 #![allow(dead_code)] // each test file uses its own part of this
 
@@ -23,7 +23,7 @@ pub fn list(ready: u16, tested: u16, waiting: u16, sessions: &[u16]) -> List {
 }
 
 impl Board {
-    /// A hall fresh from its opening, in a table of exactly the need.
+    /// A hall after its opening, in a table of exactly the need.
     pub fn open(desks: u16, screens: u16, positions: u16) -> Board {
         let hall = Hall::new(desks, screens, positions).expect("a hall within the limits");
         let mut table = vec![0xAA; 2 * hall.need()];
@@ -51,7 +51,7 @@ impl Board {
         self.step(|table| reference::collect(desk, table))
     }
 
-    /// Every step from a sound table leaves it sound; a refusal leaves it be.
+    /// Every step leaves a sound table sound; a refusal leaves it unchanged.
     fn step(&mut self, step: impl FnOnce(&mut [u8]) -> Reply) -> Reply {
         let before = self.table.clone();
         let reply = step(&mut self.table);
@@ -62,7 +62,7 @@ impl Board {
         reply
     }
 
-    /// The sessions of so many collects, one after the other.
+    /// The sessions of `times` collects, one after the other.
     pub fn collects(&mut self, desk: u16, times: usize) -> Vec<u16> {
         (0..times).map(|_| self.collect(desk).expect("an accepted collect")).collect()
     }
@@ -76,7 +76,7 @@ impl Board {
         }
     }
 
-    /// The screen shows the session; it stands at the hall's last position.
+    /// The screen shows the session; it is at the hall's last position.
     pub fn show(&mut self, desk: u16, screen: u16, session: u16) {
         let last = self.hall.positions;
         assert!(last > 1, "position 1 is for wait");

@@ -31,11 +31,11 @@ fn main() {
     }
 }
 
-/// As the head of fuzz_calls.c says it.
+/// In the format at the head of fuzz_calls.c.
 fn input(case: &Case) -> Vec<u8> {
-    let mut input = vec![case.align as u8 + 2]; // places 0 and 1 are those at the pages
+    let mut input = vec![case.align as u8 + 2]; // places 0 and 1 are next to the inaccessible pages
     let length = (case.table.len() as u16).to_le_bytes();
-    // Zeros at the end are not written but filled in.
+    // Zeros at the end are left to the fill byte.
     let given = case.table.iter().rposition(|&byte| byte != 0).map_or(0, |last| last + 1);
     input.extend(length);
     input.extend((given as u16).to_le_bytes());

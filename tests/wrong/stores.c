@@ -1,7 +1,7 @@
 /*
- * Wrong boards for the self-test: a right one, with a store in one call that
- * the call does not name. All but one store what stood there already, so that
- * answers and words stay right. Link with --wrap=board_CALL.
+ * Wrong boards for the self-test: the right board, with a store outside the
+ * footprint in one call. All but one store the old value, so that answers and
+ * words stay right. Link with --wrap=board_CALL.
  */
 #include "session_board.h"
 

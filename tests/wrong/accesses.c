@@ -1,7 +1,7 @@
 /*
- * A board with a stray access in one call, for the self-test: the right board,
- * whose drop has the name right_drop, and this one before it. Answers and
- * all words up to the need are right.
+ * Boards with a stray access in one call, for the self-test: this drop calls
+ * right_drop, the drop of the right board under another name. Answers and all
+ * words up to the need are right.
  */
 #include "session_board.h"
 
@@ -9,7 +9,7 @@
 
 uint32_t right_drop(uint16_t desk, uint16_t screen, uint8_t *table, size_t bytes);
 
-/* Not static, so that what is put here counts. */
+/* Not static, so that the compiler keeps the stores to it. */
 uint8_t board_drop_copy[1 << 16];
 
 uint32_t board_drop(uint16_t desk, uint16_t screen, uint8_t *table, size_t bytes)

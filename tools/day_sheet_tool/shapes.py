@@ -1,4 +1,4 @@
-"""The pieces of a picture: a row of bars, a desk's list, a boxed reply."""
+"""The shapes of a picture: a row of bars, a desk's list, a boxed reply."""
 
 from itertools import groupby
 
@@ -9,13 +9,13 @@ LEFT = 122  # room for the names of the rows
 MARGIN = 16
 ROW = 18
 CELL = 15
-MAX_CELLS = 10  # of a list; more are counted
+MAX_CELLS = 10  # of a list; the rest is shown as a count
 
 SCREEN = "#bcd9ee"
 REFUSED = {"fill": INK, "stroke": INK}
 HANDED_BACK = {"fill": "#ffffff", "stroke": INK, "stroke_width": 2}
 
-# They differ without colour, and each cell has its letter.
+# They can be told apart without colour, and each cell has a letter.
 KINDS = {
     "ready": {"fill": "#ffffff", "stroke": INK, "stroke_width": 2},
     "tested": {"fill": "url(#hatch)", "stroke": INK, "stroke_width": 1},
@@ -30,7 +30,7 @@ def boxed(drawing, x, y, words, **style):
 
 
 def bars(drawing, name, sessions, y, **style):
-    """A row: a bar as long as the same session stands there, with its number."""
+    """A row: a bar for each run of columns with the same session, with its number."""
     drawing.words(LEFT - 6, y + 12, name, "soft", "end")
     drawing.line(LEFT, y + 8, LEFT + len(sessions) * COLUMN, y + 8, stroke=FAINT, stroke_width=1)
     start = 0
@@ -44,7 +44,7 @@ def bars(drawing, name, sessions, y, **style):
 
 
 def listed(drawing, state, x, y):
-    """The list from its front: ready, tested, waiting. More than fit are counted."""
+    """The list from its front: ready, tested, waiting. What does not fit is shown as a count."""
     cells = [("ready", session, False) for session in state.ready]
     cells += [("tested", session, marked) for session, marked in zip(state.tested, state.marks)]
     cells += [("waiting", session, False) for session in state.waiting]

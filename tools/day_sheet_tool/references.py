@@ -1,12 +1,12 @@
-"""Where sessions stand, by the steps that were accepted. A session that stands at no position, is owed by no desk and is on no
-desk's list is shown on no screen: that is a theorem about the board, and the rule by which a session may be closed."""
+"""Where sessions are referenced, from the accepted steps. A session that is at no position, owed by no desk and on no desk's list is
+shown on no screen: this is a theorem about the board, and the rule by which a session may be closed."""
 
 from collections import Counter
 
 from .steps import STEPS
 
 
-class Standing:
+class References:
     def __init__(self):
         self.positions = {}  # position -> session
         self.owed = {}  # desk -> session
@@ -27,13 +27,13 @@ class Standing:
             listed[session] -= 1
 
     def where(self, session):
-        """One place where the session stands, in words, or None."""
+        """One place that references the session, in words, or None."""
         for position, held in sorted(self.positions.items()):
             if held == session:
                 return f"at position {position}"
         for desk, owed in sorted(self.owed.items()):
             if owed == session:
-                return f"in what desk {desk} owes"
+                return f"owed by desk {desk}"
         for desk, listed in sorted(self.lists.items()):
             if listed[session] > 0:
                 return f"on desk {desk}'s list"

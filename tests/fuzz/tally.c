@@ -1,28 +1,6 @@
-#include "call.h"
+#include "tally.h"
 
 #include <stdio.h>
-
-static const char *const names[FUNCTIONS] = {"open", "take", "drop", "swap", "retire", "collect"};
-static const int fields[FUNCTIONS] = {3, 3, 2, 3, 1, 1};
-
-uint32_t to_archive(const struct call *call, uint8_t *table, size_t bytes)
-{
-    uint16_t a = call->numbers[0], b = call->numbers[1], c = call->numbers[2];
-    switch (call->function) {
-    case OPEN:
-        return board_open(a, b, c, table, bytes);
-    case TAKE:
-        return board_take(a, b, c, table, bytes);
-    case DROP:
-        return board_drop(a, b, table, bytes);
-    case SWAP:
-        return board_swap(a, b, c, table, bytes);
-    case RETIRE:
-        return board_retire(a, table, bytes);
-    default:
-        return board_collect(a, table, bytes);
-    }
-}
 
 /* A bit for each reply number. */
 static const unsigned answers[FUNCTIONS] = {
@@ -60,7 +38,7 @@ void print_tally(void)
     unsigned long calls = 0;
     printf("%-12s", "reply");
     for (int function = 0; function < FUNCTIONS; function++)
-        printf("%12s", names[function]);
+        printf("%12s", function_names[function]);
     printf("\n");
     for (int number = 0; number <= BOARD_NO_ROOM; number++) {
         unsigned long row[FUNCTIONS];
@@ -80,9 +58,8 @@ void print_case(unsigned align, const uint8_t *table, size_t bytes,
     for (size_t at = 0; at < bytes; at++)
         printf(" %02X", table[at]);
     for (size_t i = 0; i < count; i++) {
-        printf("%s %s", i == 0 ? " |" : ";", names[calls[i].function]);
-        for (int field = 0; field < fields[calls[i].function]; field++)
-            printf(" %u", calls[i].numbers[field]);
+        printf("%s ", i == 0 ? " |" : ";");
+        print_call(&calls[i]);
     }
     printf("'\n");
 }

@@ -1,6 +1,5 @@
-//! A board that stops the program, or never answers, leaves no time to explain
-//! the case. This names it at least: on a fault, and when the run is ended
-//! from outside, the seed and number of the case in hand are printed.
+//! A board may crash the program, or never answer. On a fault, and on SIGTERM,
+//! this prints the seed and the number of the current case.
 
 use std::sync::atomic::{AtomicU64, Ordering::Relaxed};
 
@@ -13,7 +12,7 @@ extern "C" {
     fn _exit(status: i32) -> !;
 }
 
-/// Ended, illegal instruction, abort, bus error, arithmetic, stray access.
+/// SIGTERM, SIGILL, SIGABRT, SIGBUS, SIGFPE, SIGSEGV.
 const SIGNALS: [i32; 6] = [15, 4, 6, 7, 8, 11];
 
 pub fn watch(seed: u64) {
@@ -27,9 +26,9 @@ pub fn now_at(case: u64) {
     CASE.store(case, Relaxed);
 }
 
-/// Nothing here may allocate: the fault may have come from anywhere.
+/// A signal handler must not allocate.
 extern "C" fn on_signal(_: i32) {
-    print(b"stopped, again: compare --seed ");
+    print(b"crash, again: compare --seed ");
     print_number(SEED.load(Relaxed));
     print(b" --case ");
     print_number(CASE.load(Relaxed));

@@ -1,0 +1,34 @@
+/* The words of a table by document 01's layout, and the bytes that an accepted
+ * call may write. Indices count words from the start of the table. */
+#ifndef LAYOUT_H
+#define LAYOUT_H
+
+#include "calls.h"
+
+#include <stdbool.h>
+
+/* Offsets in a desk's record. */
+enum { OWED = 0, SCANNED = 1, READY = 2, TESTED = 3, WAITING = 4, MARKS = 5, LIST = 13 };
+
+uint16_t read_word(const uint8_t *table, size_t index);
+void write_word(uint8_t *table, size_t index, unsigned value);
+
+/* These read the hall from the table's header. */
+size_t all_screens(const uint8_t *table);
+size_t position_index(uint16_t position);
+size_t screen_index(const uint8_t *table, uint16_t desk, uint16_t screen);
+size_t record_index(const uint8_t *table, uint16_t desk);
+
+/* Ranges of bytes of the table, the end excluded. */
+struct footprint {
+    size_t count;
+    struct range {
+        size_t first, past;
+    } ranges[3];
+};
+
+/* What a call writes if it is accepted, given the table before the call. */
+struct footprint footprint_of(const struct call *call, const uint8_t *table);
+bool in_footprint(const struct footprint *footprint, size_t byte);
+
+#endif

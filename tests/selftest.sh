@@ -1,0 +1,292 @@
+#!/bin/sh
+# Shows that the tests can fail. Each must pass on a right board or program, and
+# must catch each wrong one of tests/wrong:
+#
+#     tests/selftest.sh KIND [NAME...]      all of a kind, or those named
+#
+#     KIND       what must catch them     the wrong ones
+#     boards     compare                  wrong/boards: patches of the reference, which replaces the archive
+#     programs   sheets                   wrong/programs: patches of the reference, which replaces the program
+#     stores     stores and host_test     wrong/stores.c: right answers, but a store outside the call's footprint
+#     fuzz       fuzz_calls, fuzz_sheets  some of wrong/boards and wrong/programs, and wrong/accesses.c
+#
+# A test that catches a wrong one prints how to run the case again; that must
+# fail too. A patch may name a test of the reference ("Case:"), which must fail
+# on the patched reference.
+set -eu
+
+tests=$(cd "$(dirname "$0")" && pwd)
+root=$(dirname "$tests")
+work=$(mktemp -d)
+trap 'rm -rf "$work"' EXIT
+export RUSTFLAGS=-Awarnings # a patch can leave a function unused
+
+fail() {
+    echo "selftest: $1"
+    exit 1
+}
+
+# ---- building -------------------------------------------------------------
+
+# build CRATE TARGET: a crate's folder, into $work/TARGET. Right and wrong copies
+# of a crate have different targets: cargo would take one for the other.
+build() {
+    CARGO_TARGET_DIR=$work/$2 cargo build --quiet --offline --release --manifest-path "$1/Cargo.toml"
+}
+
+# patched KIND NAME: copies the crates to $work/tests, and patches the reference.
+# The copies get new times, so that cargo builds all of them again.
+patched() {
+    rm -rf "$work/tests"
+    mkdir -p "$work/tests/fuzz"
+    for crate in reference fake_archive fuzz/reference_in_c; do
+        mkdir "$work/tests/$crate"
+        (cd "$tests/$crate" && tar -cf - --exclude=target .) | tar -xmf - -C "$work/tests/$crate"
+    done
+    patch --quiet -d "$work/tests/reference" -p1 <"$tests/wrong/$1/$2.patch" || fail "$2: the patch does not apply"
+}
+
+# case_fails KIND NAME: the patched reference fails the test that the patch names.
+case_fails() {
+    set -- "$2" $(sed -n 's/^Case: //p' "$tests/wrong/$1/$2.patch")
+    [ $# -eq 3 ] || return 0
+    if CARGO_TARGET_DIR=$work/case cargo test --quiet --offline --release \
+        --manifest-path "$work/tests/reference/Cargo.toml" --test "$2" -- --exact "$3" \
+        >"$work/out.case" 2>&1; then fail "$1: case $3 passes"; fi
+    grep -q "^test result: FAILED" "$work/out.case" || fail "$1: case $3 did not run"
+}
+
+# The names of the patches of a kind.
+patches() {
+    (cd "$tests/wrong/$1" && ls | sed 's/\.patch$//')
+}
+
+# ---- boards ---------------------------------------------------------------
+
+# build_compare TARGET: the comparison, with the archive in $work/TARGET
+build_compare() {
+    SESSION_BOARD_LIB=$work/$1/release build "$tests/compare" compare
+}
+
+compare() {
+    timeout 120 "$work/compare/release/compare" "$@"
+}
+
+# The last match of the first pattern, or else of the second: after a crash only
+# the number of the case is known.
+last_match() {
+    sed -n "$1" "$work/out" | tail -n 1 | grep . || sed -n "$2" "$work/out"
+}
+
+boards_all() {
+    patches boards
+}
+
+boards_right() {
+    build "$tests/fake_archive" right
+    build_compare right
+    compare >"$work/out" || fail "the right board differs: $(tail -n 1 "$work/out")"
+    echo "right board: $(tail -n 1 "$work/out")"
+}
+
+boards_wrong() {
+    patched boards "$1"
+    build "$work/tests/fake_archive" wrong
+    build_compare wrong
+    if compare >"$work/out" 2>"$work/err"; then fail "$1: not caught"; fi
+    again=$(last_match 's/^replay: compare //p' 's/^crash, again: compare //p')
+    [ -n "$again" ] || fail "$1: no replay line"
+    if eval "compare $again" >"$work/out.again" 2>&1; then fail "$1: the replay does not differ"; fi
+    grep -q '^Case: ' "$tests/wrong/boards/$1.patch" || fail "$1: the patch names no case"
+    case_fails boards "$1"
+    echo "$1: caught, $(last_match 's/^smallest case so far: //p' 's/^crash.*/crash/p')"
+}
+
+# ---- programs -------------------------------------------------------------
+
+# sheets PROGRAM [OPTION...]: PROGRAM against the reference
+sheets() {
+    program=$1
+    shift
+    timeout 300 "$work/sheets/release/sheets" "$program" "$work/right/release/day_sheet_reference" "$@"
+}
+
+programs_all() {
+    patches programs
+}
+
+programs_start() {
+    build "$tests/sheets" sheets
+    build "$tests/reference" right
+}
+
+programs_right() {
+    sheets "$work/right/release/day_sheet_reference" >"$work/out" ||
+        fail "the right program differs: $(tail -n 1 "$work/out")"
+    echo "right program: $(tail -n 1 "$work/out")"
+}
+
+programs_wrong() {
+    program=$work/wrong/release/day_sheet_reference
+    patched programs "$1"
+    build "$work/tests/reference" wrong
+    if sheets "$program" >"$work/out" 2>&1; then fail "$1: not caught"; fi
+    grep -q "^sheets: 1 difference" "$work/out" || fail "$1: $(tail -n 1 "$work/out")"
+    bytes=$(sed -n "s/^replay: .*--hex '\(.*\)'$/\1/p" "$work/out")
+    if sheets "$program" --hex "$bytes" >"$work/out.again" 2>&1; then fail "$1: the replay does not differ"; fi
+    case_fails programs "$1" # two patches name none: no test of the reference reads as they do
+    echo "$1: caught, $(sed -n 's/^smallest sheet found: //p' "$work/out")"
+}
+
+# ---- stores ---------------------------------------------------------------
+
+# The read-only pages cannot show this one: it is between two words of the
+# footprint, on their page.
+unseen_by_pages=RETIRE_REWRITES_K
+
+stores_all() {
+    grep -o 'defined [A-Z_]*' "$tests/wrong/stores.c" | sed 's/defined //' | sort -u
+}
+
+stores_start() {
+    . "$tests/stores/build.sh"
+    build "$tests/fake_archive" right
+    right=$work/right/release/libsession_board.a
+}
+
+stores_right() {
+    build_driver "$right" "$work/driver"
+    "$tests/stores/check.py" "$work/driver" >"$work/out" || fail "the right board fails: $(head -n 1 "$work/out")"
+    echo "right board: $(tail -n 1 "$work/out")"
+}
+
+# caught_by_pages NAME CALL
+caught_by_pages() {
+    gcc -O2 -I"$root/include" -I"$tests/c" -D"$1" "-Wl,--wrap=board_$2" "$tests/wrong/stores.c" \
+        "$tests/host/host_test.c" "$tests"/c/*.c "$right" -o "$work/host_test" 2>"$work/err" ||
+        fail "$1: $(cat "$work/err")"
+    if "$work/host_test" >"$work/out"; then
+        [ "$1" = "$unseen_by_pages" ] || fail "$1: not caught by host_test"
+    else
+        grep -q "^FAILED in .*: $2 .* a store to byte" "$work/out" || [ "$2" = open ] ||
+            fail "$1: caught by host_test, but not as a store"
+    fi
+}
+
+# The first word of the name is the call. The trace runs on the smallest hall.
+stores_wrong() {
+    call=$(echo "$1" | sed 's/_.*//' | tr A-Z a-z)
+    build_driver "$right" "$work/driver" -D"$1" -Wno-unused-function "-Wl,--wrap=board_$call" "$tests/wrong/stores.c"
+    if "$tests/stores/check.py" "$work/driver" small >"$work/out"; then fail "$1: not caught"; fi
+    found=$(sed -n 's/^stores: \(.* outside its footprint\)$/\1/p' "$work/out")
+    case $found in
+    "$call "*) ;;
+    *) fail "$1: not caught at $call, but: $(cat "$work/out")" ;;
+    esac
+    [ "$(echo "$found" | wc -l)" -eq 1 ] || fail "$1: caught at other calls too: $found"
+    caught_by_pages "$1" "$call"
+    echo "$1: caught, $found"
+}
+
+# ---- fuzz -----------------------------------------------------------------
+
+# Wrong boards that only the reference can tell.
+fuzz_boards="keeps-every-copy joins-in-mid-reading room-one-early position-before-screen newest-first"
+# Wrong boards that the header's promises rule out: the reference is patched too.
+fuzz_boards_and_reference="opening-clears-all opening-clears-odd-byte refused-swap-writes"
+fuzz_programs="reads-once two-groups stops-at-refusal counts-exchanged"
+
+fuzz_all() {
+    echo $fuzz_boards $fuzz_boards_and_reference
+    grep -o 'defined [A-Z_]*' "$tests/wrong/accesses.c" | sed 's/defined //'
+    echo $fuzz_programs
+}
+
+# What an access or a failed check is called.
+how() {
+    sed -n -e 's/^FAILED: /broken: /p' -e 's/^.*ERROR: AddressSanitizer: \([^ ]*\).*/\1/p' "$work/out" | head -n 1
+}
+
+# caught_by NAME HARNESS: within a minute, from no inputs, and again on the input that it saved
+caught_by() {
+    rm -rf "$work/found"
+    mkdir -p "$work/found"
+    begun=$(date +%s)
+    if "$2" -seed=1 -max_total_time=60 -max_len=4096 -timeout=20 \
+        -artifact_prefix="$work/found/" >"$work/out" 2>&1; then fail "$1: not caught"; fi
+    took=$(($(date +%s) - begun))
+    input=$(find "$work/found" -type f | head -n 1)
+    [ -n "$input" ] || fail "$1: no input saved, $(tail -n 1 "$work/out")"
+    if "$2" "$input" >"$work/out.again" 2>&1; then fail "$1: not caught again"; fi
+    echo "$1: caught after $took s, $(how)"
+}
+
+fuzz_start() {
+    build "$tests/fake_archive" right
+    build "$tests/reference" right
+    "$tests/fuzz/build.sh" "$work/right/release" "$work/harness"
+}
+
+# With nothing wrong, ten seconds pass.
+fuzz_right() {
+    DAY_SHEET=$work/right/release/day_sheet_reference
+    export DAY_SHEET
+    for harness in fuzz_calls fuzz_sheets; do
+        "$work/harness/$harness" -seed=1 -max_total_time=10 >"$work/out" 2>&1 ||
+            fail "$harness fails on what is right: $(how)"
+        echo "nothing wrong: $(tail -n 1 "$work/out"), none caught"
+    done
+}
+
+is_one_of() {
+    case " $2 " in *" $1 "*) ;; *) return 1 ;; esac
+}
+
+fuzz_wrong() {
+    if is_one_of "$1" "$fuzz_boards"; then
+        patched boards "$1"
+        build "$work/tests/fake_archive" wrong
+        "$tests/fuzz/build.sh" "$work/wrong/release" "$work/wrong_harness"
+        caught_by "$1" "$work/wrong_harness/fuzz_calls"
+    elif is_one_of "$1" "$fuzz_boards_and_reference"; then
+        patched boards "$1"
+        build "$work/tests/fake_archive" wrong
+        "$tests/fuzz/build.sh" "$work/wrong/release" "$work/both_wrong_harness" "$work/tests/fuzz/reference_in_c"
+        caught_by "$1, in the reference too" "$work/both_wrong_harness/fuzz_calls"
+    elif is_one_of "$1" "$fuzz_programs"; then
+        patched programs "$1"
+        build "$work/tests/reference" wrong_program
+        DAY_SHEET=$work/wrong_program/release/day_sheet_reference
+        export DAY_SHEET
+        caught_by "$1" "$work/harness/fuzz_sheets"
+    else
+        # The right board with the name right_drop, and the one of accesses.c, which calls it.
+        mkdir -p "$work/accesses"
+        objcopy --redefine-sym board_drop=right_drop "$work/harness/board.o" "$work/accesses/right.o"
+        gcc -O2 -D"$1" -I"$root/include" -c "$tests/wrong/accesses.c" -o "$work/accesses/accesses.o"
+        rm -f "$work/accesses/libsession_board.a"
+        ar crs "$work/accesses/libsession_board.a" "$work/accesses/right.o" "$work/accesses/accesses.o"
+        "$tests/fuzz/build.sh" "$work/accesses" "$work/wrong_harness"
+        caught_by "$1" "$work/wrong_harness/fuzz_calls"
+    fi
+}
+
+# ---- the kind asked for ---------------------------------------------------
+
+kind=${1:-}
+case $kind in
+boards | programs | stores | fuzz) shift ;;
+*)
+    echo "usage: $0 boards|programs|stores|fuzz [NAME...]" >&2
+    exit 2
+    ;;
+esac
+all=$("${kind}_all" | tr '\n' ' ')
+for name; do is_one_of "$name" "$all" || fail "no '$name' among the $kind"; done
+if [ $kind != boards ]; then "${kind}_start"; fi
+if [ $# -eq 0 ]; then
+    "${kind}_right"
+    set -- $all
+fi
+for name; do "${kind}_wrong" "$name"; done
+echo "selftest $kind: $# wrong ones, all caught"
