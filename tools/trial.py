@@ -63,6 +63,10 @@ def refusals(run, folder):
     return found
 
 
+# The prover's words where something that is cited was refused elsewhere.
+NOT_ADMITTED = 'was not admitted'
+
+
 # ---- Parts of a crate of specs.
 
 USE = re.compile(r'^use Rattle·(\w+)·specs\.specs\.([\w.]+)\.\{', re.M)
@@ -74,15 +78,20 @@ def used_by(text, crate):
     return [f'specs/{module.replace(".", "/")}.antt' for owner, module in USE.findall(text) if owner == crate]
 
 
-def part_of(folder, wanted, texts):
-    """The changes that leave of a crate only these files of its specs and what they use; `texts` has what is changed already."""
+def closure(folder, wanted, texts):
+    """These files of a crate's specs and all that they use; `texts` has what is changed already."""
     kept, todo = set(), list(wanted)
     while todo:
         path = todo.pop()
         if path not in kept:
             kept.add(path)
             todo += used_by(text_of(folder / path, texts), folder.name)
-    part = {}
+    return kept
+
+
+def part_of(folder, wanted, texts):
+    """The changes that leave of a crate only these files of its specs and what they use."""
+    kept, part = closure(folder, wanted, texts), {}
     for file in (folder / 'specs').rglob('*.antt'):
         path, text = str(file.relative_to(folder)), text_of(file, texts)
         if path in kept:
