@@ -113,15 +113,18 @@ width-of-words = (
 
 -- ---- Bytes. "two to a word, low byte first; an odd last byte is not part of the table"
 pub low-byte-first :
-    (wordsOfBytes (0x2C ∷ 0x01 ∷ 0xFF ∷ 0xFF ∷ 0x07 ∷ []) ≡ 300 ∷ 65535 ∷ [])
-    × (bytesOfWords (300 ∷ 65535 ∷ []) ≡ 0x2C ∷ 0x01 ∷ 0xFF ∷ 0xFF ∷ [])
+    (wordsOfBytes (0x2C ∷ 0x01 ∷ 0xFF ∷ 0xFF ∷ 0x00 ∷ 0xFF ∷ 0x07 ∷ []) ≡ 300 ∷ 65535 ∷ 65280 ∷ [])
+    × (bytesOfWords (300 ∷ 65535 ∷ 65280 ∷ []) ≡ 0x2C ∷ 0x01 ∷ 0xFF ∷ 0xFF ∷ 0x00 ∷ 0xFF ∷ [])
     × (overwriteWords (300 ∷ []) (9 ∷ 9 ∷ 8 ∷ 8 ∷ 7 ∷ []) ≡ 0x2C ∷ 0x01 ∷ 8 ∷ 8 ∷ 7 ∷ [])
 unfolding overwriteWords
 low-byte-first = (refl, refl, refl)
 
 -- "the reply number times 65,536, plus the session"
-pub packed-answers : (pack (record { number = 6; session = 300 }) ≡ 393516) × (unpack 393516 ≡ record { number = 6; session = 300 })
-packed-answers = (refl, refl)
+pub packed-answers :
+    (pack (record { number = 6; session = 300 }) ≡ 393516)
+    × (unpack 393516 ≡ record { number = 6; session = 300 })
+    × (unpack 393216 ≡ record { number = 6; session = 0 })
+packed-answers = (refl, refl, refl)
 
 -- A hall of 1, 1, 1 in 41 bytes: opened, and then with 300 at position 1. The odd last byte stays.
 abbrev oneDesk : ℕ → ℕ → List ℕ
@@ -135,16 +138,16 @@ pub swap-bytes : stepBytes hallLimits (oneDesk 0 0) (1 sends Swap 1 300) ≡ acc
 unfolding stepBytes stepTable overwriteWords sound recordSound encodeDesk decodeDesk
 swap-bytes = refl
 
--- A call on bytes agrees with the call on words, `accept 7 (3 ∷ 2 ∷ [])` on two words and an odd byte.
+-- A call on bytes agrees with the call on words, `accept 7 (3 ∷ 2 ∷ 4 ∷ [])` on three words and an odd byte.
 abbrev AgreesWith : Result (List ℕ) → Result (List ℕ) → Type 0
-AgreesWith = Agrees (1 ∷ 0 ∷ 2 ∷ 0 ∷ 9 ∷ [])
+AgreesWith = Agrees (1 ∷ 0 ∷ 2 ∷ 0 ∷ 4 ∷ 0 ∷ 9 ∷ [])
 
-pub agrees : AgreesWith (accept 7 (3 ∷ 0 ∷ 2 ∷ 0 ∷ 9 ∷ [])) (accept 7 (3 ∷ 2 ∷ []))
+pub agrees : AgreesWith (accept 7 (3 ∷ 0 ∷ 2 ∷ 0 ∷ 4 ∷ 0 ∷ 9 ∷ [])) (accept 7 (3 ∷ 2 ∷ 4 ∷ []))
 agrees = record {
   answer = refl;
   packs = refl;
   words = refl;
-  areBytes = each-below 255 (3 ∷ 0 ∷ 2 ∷ 0 ∷ 9 ∷ []) refl;
+  areBytes = each-below 255 (3 ∷ 0 ∷ 2 ∷ 0 ∷ 4 ∷ 0 ∷ 9 ∷ []) refl;
   sameLength = refl;
   lastByte = refl;
 }
@@ -152,11 +155,11 @@ agrees = record {
 -- not with another answer; not with one that 32 bits do not hold; not with other words; not with what are no bytes; not with another odd
 -- byte; and not with fewer bytes
 pub agrees-refuses :
-    (AgreesWith (accept 8 (3 ∷ 0 ∷ 2 ∷ 0 ∷ 9 ∷ [])) (accept 7 (3 ∷ 2 ∷ [])) → ⊥)
-    × (AgreesWith (accept 70000 (3 ∷ 0 ∷ 2 ∷ 0 ∷ 9 ∷ [])) (accept 70000 (3 ∷ 2 ∷ [])) → ⊥)
-    × (AgreesWith (accept 7 (4 ∷ 0 ∷ 2 ∷ 0 ∷ 9 ∷ [])) (accept 7 (3 ∷ 2 ∷ [])) → ⊥)
-    × (AgreesWith (accept 7 (300 ∷ 0 ∷ 2 ∷ 0 ∷ 9 ∷ [])) (accept 7 (300 ∷ 2 ∷ [])) → ⊥)
-    × (AgreesWith (accept 7 (3 ∷ 0 ∷ 2 ∷ 0 ∷ 8 ∷ [])) (accept 7 (3 ∷ 2 ∷ [])) → ⊥)
+    (AgreesWith (accept 8 (3 ∷ 0 ∷ 2 ∷ 0 ∷ 4 ∷ 0 ∷ 9 ∷ [])) (accept 7 (3 ∷ 2 ∷ 4 ∷ [])) → ⊥)
+    × (AgreesWith (accept 70000 (3 ∷ 0 ∷ 2 ∷ 0 ∷ 4 ∷ 0 ∷ 9 ∷ [])) (accept 70000 (3 ∷ 2 ∷ 4 ∷ [])) → ⊥)
+    × (AgreesWith (accept 7 (4 ∷ 0 ∷ 2 ∷ 0 ∷ 4 ∷ 0 ∷ 9 ∷ [])) (accept 7 (3 ∷ 2 ∷ 4 ∷ [])) → ⊥)
+    × (AgreesWith (accept 7 (300 ∷ 0 ∷ 2 ∷ 0 ∷ 4 ∷ 0 ∷ 9 ∷ [])) (accept 7 (300 ∷ 2 ∷ 4 ∷ [])) → ⊥)
+    × (AgreesWith (accept 7 (3 ∷ 0 ∷ 2 ∷ 0 ∷ 4 ∷ 0 ∷ 8 ∷ [])) (accept 7 (3 ∷ 2 ∷ 4 ∷ [])) → ⊥)
     × (Agrees (1 ∷ 0 ∷ 2 ∷ 0 ∷ []) (accept 7 (3 ∷ 0 ∷ [])) (accept 7 (3 ∷ [])) → ⊥)
 agrees-refuses = (
   λ both. omega (arith, ap (λ (answer : Answer). answer .session) (both .answer)),
