@@ -4,7 +4,7 @@
 use Prim.Native.Nat.{ℕ, zero, suc, _+_, _≤_, _<_}
 use native.Mathlib.Omega.{arith}
 use mathlib.Core.Path.{_≡_, refl, sym, ap, _∙_, subst}
-use mathlib.Core.Bool.{true}
+use mathlib.Core.Bool.{Bool, true}
 use mathlib.Core.List.{List, [], _∷_, _++_, map}
 use lib.ListN.{getD, length, replicate, take}
 use lib.Dec.{eqb}
@@ -13,9 +13,10 @@ use Rattle.rules.specs.Cases.{_⇒_, ok, refusedWith}
 use Rattle.rules.specs.Closing.{ClosingRule, HandBackCloses, PutFresh, ShownNowhere, StandsNowhere, Unreferenced, putAt}
 use Rattle.rules.specs.Demands.{Demand2, Demand3, Guarantee, HandedBackWithin, listOfDesk, sharperBound}
 use Rattle.rules.specs.Hall.{Hall, hallLimits, hallOf}
-use Rattle.rules.specs.History.{CollectsBetweenRetires, DroppedBefore, Effect, Linked, NextDrop, NextRetire, NextSwap, Shows, Unshown, _by_, collects}
-use Rattle.rules.specs.History.{collectsOf, drops, effectAt, effectOf, handBacks, handBacksOf, handsBack, isCollect, isRetireAttempt, isRetirementOf}
-use Rattle.rules.specs.History.{byDesk, noAction, numberAt, outOfRoom, retirements, retirementsOf, retires, swaps, takes}
+use Rattle.rules.specs.History.{Action, CollectsBetweenRetires, DroppedBefore, Effect, Linked, NextDrop, NextRetire, NextSwap, Shows, Unshown, _by_, collects}
+use Rattle.rules.specs.History.{collectsOf, drops, effectAt, effectOf, handBacks, handBacksOf, handsBack, isCollect, isHandBack, isHandBackOf, isRetireAttempt}
+use Rattle.rules.specs.History.{byDesk, isRetirement, isRetirementOf, noAction, numberAt, outOfRoom, retirements, retirementsOf, retires, swaps, takes}
+use Rattle.rules.specs.Lists.{toNat}
 use Rattle.rules.specs.Steps.{Answer, Call, Collect, Drop, Event, Retire, Swap, Take, _sends_, end, run}
 use Rattle.rules.specs.Table.{decodeDesk, encodeDesk, openTable, owedOffset, positionWord, recordOf, recordSound, screenWord, sound, stepTable}
 use Rattle.rules.specs.laws.history.Actions.{isDrop}
@@ -51,6 +52,21 @@ pub effects-of-calls :
     ≡ (takes 3 4 5 by 2) ∷ (drops 3 by 2) ∷ (swaps 4 by 2) ∷ (retires 5 by 2) ∷ (collects by 2) ∷ (handsBack 5 by 2)
     ∷ (outOfRoom by 2) ∷ (noAction by 2) ∷ (noAction by 2) ∷ (noAction by 2) ∷ (noAction by 2) ∷ (noAction by 2) ∷ []
 effects-of-calls = refl
+
+-- Which actions are a retirement of 5, a hand-back of 5, a collect, and a retire that needs a collect before the next.
+abbrev kinds : (Action → Bool) → List ℕ
+kinds test =
+    map (λ (action : Action). toNat (test action))
+    (takes 5 5 5 ∷ drops 5 ∷ swaps 5 ∷ retires 5 ∷ retires 6 ∷ outOfRoom ∷ collects ∷ handsBack 5 ∷ handsBack 6 ∷ noAction ∷ [])
+
+pub kinds-of-actions :
+    (kinds (isRetirementOf 5) ≡ 0 ∷ 0 ∷ 0 ∷ 1 ∷ 0 ∷ 0 ∷ 0 ∷ 0 ∷ 0 ∷ 0 ∷ [])
+    × (kinds isRetirement ≡ 0 ∷ 0 ∷ 0 ∷ 1 ∷ 1 ∷ 0 ∷ 0 ∷ 0 ∷ 0 ∷ 0 ∷ [])
+    × (kinds (isHandBackOf 5) ≡ 0 ∷ 0 ∷ 0 ∷ 0 ∷ 0 ∷ 0 ∷ 0 ∷ 1 ∷ 0 ∷ 0 ∷ [])
+    × (kinds isHandBack ≡ 0 ∷ 0 ∷ 0 ∷ 0 ∷ 0 ∷ 0 ∷ 0 ∷ 1 ∷ 1 ∷ 0 ∷ [])
+    × (kinds isCollect ≡ 0 ∷ 0 ∷ 0 ∷ 0 ∷ 0 ∷ 0 ∷ 1 ∷ 1 ∷ 1 ∷ 0 ∷ [])
+    × (kinds isRetireAttempt ≡ 0 ∷ 0 ∷ 0 ∷ 1 ∷ 1 ∷ 1 ∷ 0 ∷ 0 ∷ 0 ∷ 0 ∷ [])
+kinds-of-actions = (refl, refl, refl, refl, refl, refl)
 
 -- The effect and the reply number at an index; past the end there is no effect, and the number is 0.
 pub at-an-index :
