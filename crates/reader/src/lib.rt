@@ -1,8 +1,8 @@
 ghost use mathlib.Core.Path.{_≡_};
 ghost use Prim.Native.Nat.{_≤_, _<_};
-ghost use Rattle.rules.specs.Numbers.{maxNumber, number, withinLimit};
-ghost use Rattle.sheet_rules.specs.Sheet.{fieldAt, fieldsAt, follows as followsCode, headerAt, recordAt, withCode};
-ghost use Rattle.reader.specs.Results.{numberOf, headerResult, numberResult, recordResult};
+ghost use Rattle.rules.specs.Numbers.{decodeNumber, maxNumber, withinLimit};
+ghost use Rattle.sheet_rules.specs.Sheet.{decodeField, decodeFields, decodeHeader, decodeRecord, follows as followsCode, withCode};
+ghost use Rattle.reader.specs.Results.{headerResult, numberOf, numberResult, recordResult};
 
 // Why a number is refused.
 pub enum Fault {
@@ -50,7 +50,7 @@ fn wide(byte: u8) -> u32
 
 // The number at an offset: groups of seven bits, lowest first; the top bit of a byte (128) says another follows.
 pub fn read_number(sheet: &[u8], at: usize, limit: u16) -> Number
-    ensures { λ r. ⌜ numberResult r ≡ number limit (now (sheet .entry)) at ⌝ }
+    ensures { λ r. ⌜ numberResult r ≡ decodeNumber limit (now (sheet .entry)) at ⌝ }
 {
     if sheet.len() <= at {
         return Number::Refused(Fault::Ends);
@@ -81,7 +81,7 @@ pub fn read_number(sheet: &[u8], at: usize, limit: u16) -> Number
 }
 
 // Which fields follow each code: a row for take, drop, swap, retire and collect; a column for desk, screen, position and session.
-const FOLLOWS: [u8; 20] = [1, 1, 1, 0, 1, 1, 0, 0, 1, 0, 1, 1, 1, 0, 0, 0, 1, 0, 0, 0];
+const FIELDS: [u8; 20] = [1, 1, 1, 0, 1, 1, 0, 0, 1, 0, 1, 1, 1, 0, 0, 0, 1, 0, 0, 0];
 
 const DESK: usize = 0;
 
@@ -97,13 +97,13 @@ fn follows(code: u16, field: usize) -> bool
     requires { ⌜ (1 ≤ code) × (code ≤ 5) × (field < 4) ⌝ }
     ensures { λ r. ⌜ r ≡ followsCode code field ⌝ }
 {
-    FOLLOWS[(code as usize - 1) * 4 + field] == 1
+    FIELDS[(code as usize - 1) * 4 + field] == 1
 }
 
 // A field that follows its code is read; one that does not is 0 and takes no byte.
 fn read_field(sheet: &[u8], at: usize, code: u16, field: usize) -> Number
     requires { ⌜ (1 ≤ code) × (code ≤ 5) × (field < 4) ⌝ }
-    ensures { λ r. ⌜ numberResult r ≡ fieldAt (followsCode code field) maxNumber (now (sheet .entry)) at ⌝ }
+    ensures { λ r. ⌜ numberResult r ≡ decodeField (followsCode code field) maxNumber (now (sheet .entry)) at ⌝ }
 {
     if follows(code, field) {
         return read_number(sheet, at, MAX_NUMBER);
@@ -121,7 +121,7 @@ pub struct Record {
 }
 
 // A record and the offset after it, or what ends the reading.
-pub enum Entry {
+pub enum ParsedRecord {
     Whole(Record, usize),
     // A number is refused: the code that its line shows, 0 where the code itself was not read.
     Refused(u16, Fault),
@@ -130,29 +130,29 @@ pub enum Entry {
 }
 
 // The fields of a record whose code was read.
-fn read_fields(sheet: &[u8], at: usize, code: u16) -> Entry
+fn read_fields(sheet: &[u8], at: usize, code: u16) -> ParsedRecord
     requires { ⌜ (1 ≤ code) × (code ≤ 5) ⌝ }
-    ensures { λ r. ⌜ recordResult r ≡ withCode code (fieldsAt code (now (sheet .entry)) at) ⌝ }
+    ensures { λ r. ⌜ recordResult r ≡ withCode code (decodeFields code (now (sheet .entry)) at) ⌝ }
 {
     match read_field(sheet, at, code, DESK) {
-        Number::Refused(fault) => Entry::Refused(code, fault),
+        Number::Refused(fault) => ParsedRecord::Refused(code, fault),
         Number::Value(desk, after_desk) => match read_field(sheet, after_desk, code, SCREEN) {
-            Number::Refused(fault) => Entry::Refused(code, fault),
+            Number::Refused(fault) => ParsedRecord::Refused(code, fault),
             Number::Value(screen, after_screen) => match read_field(
                 sheet,
                 after_screen,
                 code,
                 POSITION,
             ) {
-                Number::Refused(fault) => Entry::Refused(code, fault),
+                Number::Refused(fault) => ParsedRecord::Refused(code, fault),
                 Number::Value(position, after_position) => match read_field(
                     sheet,
                     after_position,
                     code,
                     SESSION,
                 ) {
-                    Number::Refused(fault) => Entry::Refused(code, fault),
-                    Number::Value(session, next) => Entry::Whole(
+                    Number::Refused(fault) => ParsedRecord::Refused(code, fault),
+                    Number::Value(session, next) => ParsedRecord::Whole(
                         Record {
                             code: code,
                             desk: desk,
@@ -169,17 +169,17 @@ fn read_fields(sheet: &[u8], at: usize, code: u16) -> Entry
 }
 
 // The record at an offset: its code, and then its fields.
-pub fn read_record(sheet: &[u8], at: usize) -> Entry
-    ensures { λ r. ⌜ recordResult r ≡ recordAt (now (sheet .entry)) at ⌝ }
+pub fn read_record(sheet: &[u8], at: usize) -> ParsedRecord
+    ensures { λ r. ⌜ recordResult r ≡ decodeRecord (now (sheet .entry)) at ⌝ }
 {
     match read_number(sheet, at, MAX_NUMBER) {
-        Number::Refused(fault) => Entry::Refused(0, fault),
+        Number::Refused(fault) => ParsedRecord::Refused(0, fault),
         Number::Value(code, after_code) => {
             if code < 1 {
-                return Entry::NoCode(code);
+                return ParsedRecord::NoCode(code);
             }
             if 5 < code {
-                return Entry::NoCode(code);
+                return ParsedRecord::NoCode(code);
             }
             read_fields(sheet, after_code, code)
         }
@@ -194,26 +194,26 @@ pub struct Header {
 }
 
 // The header and the offset after it, or why one of its numbers is refused.
-pub enum Head {
+pub enum ParsedHeader {
     Whole(Header, usize),
     Refused(Fault),
 }
 
 // The header at an offset.
-pub fn read_header(sheet: &[u8], at: usize) -> Head
-    ensures { λ r. ⌜ headerResult r ≡ headerAt (now (sheet .entry)) at ⌝ }
+pub fn read_header(sheet: &[u8], at: usize) -> ParsedHeader
+    ensures { λ r. ⌜ headerResult r ≡ decodeHeader (now (sheet .entry)) at ⌝ }
 {
     match read_number(sheet, at, MAX_NUMBER) {
-        Number::Refused(fault) => Head::Refused(fault),
+        Number::Refused(fault) => ParsedHeader::Refused(fault),
         Number::Value(desks, after_desks) => match read_number(sheet, after_desks, MAX_NUMBER) {
-            Number::Refused(fault) => Head::Refused(fault),
+            Number::Refused(fault) => ParsedHeader::Refused(fault),
             Number::Value(screens, after_screens) => match read_number(
                 sheet,
                 after_screens,
                 MAX_NUMBER,
             ) {
-                Number::Refused(fault) => Head::Refused(fault),
-                Number::Value(positions, next) => Head::Whole(
+                Number::Refused(fault) => ParsedHeader::Refused(fault),
+                Number::Value(positions, next) => ParsedHeader::Whole(
                     Header {
                         desks: desks,
                         screens: screens,

@@ -6,15 +6,15 @@ use mathlib.Core.Bool.{false}
 use mathlib.Core.List.{List, _++_, append-nil}
 use lib.ListN.{length}
 use Rattle.rules.specs.Hall.{Hall, hallLimits}
-use Rattle.rules.specs.Numbers.{got, refusalOf}
+use Rattle.rules.specs.Numbers.{parsed, refusalOf}
 use Rattle.rules.specs.Steps.{Answer, Result, decide}
 use Rattle.rules.specs.Table.{openTable, openedTable}
 use Rattle.lines.specs.Put.{Put}
 use Rattle.reply.specs.Answer.{answerOf, tableResult}
 use Rattle.sheet_rules.specs.Lines.{answerLine, endLine, line, linesFrom, linesOf, printed}
-use Rattle.sheet_rules.specs.Sheet.{headerAt, lentTable, maxBytes, opened, openedIf, openingNumber, reading, recordsAt, unopened}
+use Rattle.sheet_rules.specs.Sheet.{decodeHeader, decodeRecords, lentTable, maxBytes, opened, openedIf, openingNumber, reading, unopened}
 use Rattle.sheet_rules.specs.Tally.{zeros}
-use Rattle.sheet_rules.specs.laws.Sheet.{header-got, opening-answer, short-enough}
+use Rattle.sheet_rules.specs.laws.Sheet.{header-parsed, opening-answer, short-enough}
 use Rattle.sheet.specs.Turn.{Started, callsOf, finishedAt, startTable}
 use Rattle.reply.specs.declared.Reply.{Reply}
 use Rattle.tally.specs.declared.Tally.{Tally}
@@ -38,11 +38,11 @@ opening-number : (hall : Hall) (reply : Reply) (after : List ℕ) {number : ℕ}
 opening-number hall reply after tells is-number =
     sym (ap (λ (answer : Answer). answer .number) (opening-answer hall)) ∙ sym (ap (λ (done : Result (List ℕ)). done .answer .number) tells) ∙ sym is-number
 
-reads-by : (sheet : List ℕ) {hall : Hall} {next number : ℕ} → length sheet ≤ maxBytes → headerAt sheet 0 ≡ got hall next
+reads-by : (sheet : List ℕ) {hall : Hall} {next number : ℕ} → length sheet ≤ maxBytes → decodeHeader sheet 0 ≡ parsed hall next
     → openingNumber hall ≡ number
-    → reading sheet ≡ openedIf number hall (recordsAt (length sheet) sheet next)
+    → reading sheet ≡ openedIf number hall (decodeRecords (length sheet) sheet next)
 reads-by sheet {hall} {next} short read opening =
-    short-enough sheet short read ∙ ap (λ (n : ℕ). openedIf n hall (recordsAt (length sheet) sheet next)) opening
+    short-enough sheet short read ∙ ap (λ (n : ℕ). openedIf n hall (decodeRecords (length sheet) sheet next)) opening
 
 module _ {sheet out outAfter : List ℕ} {end : ℕ} where
   -- The reading ended before a record: the header's line and the last line are all there is.
@@ -61,7 +61,7 @@ module _ {sheet out outAfter : List ℕ} {end : ℕ} where
 
   -- The header was read, and the board replied to the opening.
   module _ (reply : Reply) {hall : Hall} {next : ℕ} {after : List ℕ} {number : ℕ} (short : length sheet ≤ maxBytes)
-      (read : headerAt sheet 0 ≡ got hall next) (tells : tableResult reply after ≡ openTable hallLimits hall lentTable) (is-number : number ≡ answerOf reply .number) where
+      (read : decodeHeader sheet 0 ≡ parsed hall next) (tells : tableResult reply after ≡ openTable hallLimits hall lentTable) (is-number : number ≡ answerOf reply .number) where
     pub started-refused : {is : State} → (number ≡ 0 → ⊥) → Put out outAfter 0 (line 0 0 number 0 ++ endLine zeros) end → is ≡ finishedAt atHeader
         → Started sheet out is after outAfter end
     unfolding openTable openingNumber
@@ -73,7 +73,7 @@ module _ {sheet out outAfter : List ℕ} {end : ℕ} where
         opening = opening-number hall reply after tells is-number
 
         by-number : (n : ℕ) → (n ≡ 0 → ⊥)
-            → (openedIf n hall (recordsAt (length sheet) sheet next) ≡ unopened (refusalOf 0 n)) × (decide n lentTable 0 (openedTable hall lentTable) .after ≡ lentTable)
+            → (openedIf n hall (decodeRecords (length sheet) sheet next) ≡ unopened (refusalOf 0 n)) × (decide n lentTable 0 (openedTable hall lentTable) .after ≡ lentTable)
         by-number zero some = absurd (some refl)
         by-number (suc n) some = (refl, refl)
 
@@ -82,19 +82,19 @@ module _ {sheet out outAfter : List ℕ} {end : ℕ} where
     started-opened none put = record {
       within = put-within put;
       lines =
-          (λ i. put-first put i ++ linesFrom (leaves i) 1 zeros (recordsAt (length sheet) sheet next))
-          ∙ ap (λ (answer : Answer). answerLine 0 0 answer ++ linesFrom (openTable hallLimits hall lentTable .after) 1 zeros (recordsAt (length sheet) sheet next)) (sym answers)
+          (λ i. put-first put i ++ linesFrom (leaves i) 1 zeros (decodeRecords (length sheet) sheet next))
+          ∙ ap (λ (answer : Answer). answerLine 0 0 answer ++ linesFrom (openTable hallLimits hall lentTable .after) 1 zeros (decodeRecords (length sheet) sheet next)) (sym answers)
           ∙ sym (ap linesOf reads);
       run = sym (ap callsOf reads);
       table = leaves ∙ sym (ap startTable reads);
       rest = put-rest put;
-      numbered = omega (arith, header-got sheet 0 hall next read .past);
+      numbered = omega (arith, header-parsed sheet 0 hall next read .past);
     }
       where
         opening : openingNumber hall ≡ 0
         opening = opening-number hall reply after tells is-number ∙ none
 
-        reads : reading sheet ≡ opened hall (recordsAt (length sheet) sheet next)
+        reads : reading sheet ≡ opened hall (decodeRecords (length sheet) sheet next)
         reads = reads-by sheet short read opening
 
         leaves : after ≡ openTable hallLimits hall lentTable .after

@@ -9,16 +9,16 @@ use mathlib.Core.List.{List, [], _∷_, _++_, append-nil}
 use lib.ListN.{length, take, drop, length-append}
 use lib.Seq.{take-at, drop-at}
 use Rattle.rules.specs.Hall.{hallLimits}
-use Rattle.rules.specs.Numbers.{got, refusalOf, refused}
+use Rattle.rules.specs.Numbers.{parsed, refusalOf, refused}
 use Rattle.rules.specs.Steps.{Answer, Result}
 use Rattle.rules.specs.Table.{stepTable}
 use Rattle.lines.specs.Put.{Put, overwriteAt}
 use Rattle.lines.specs.laws.Put.{put-none, put-on}
 use Rattle.reply.specs.Answer.{answerOf, tableResult}
 use Rattle.sheet_rules.specs.Lines.{answerLine, endLine, line, linesFrom}
-use Rattle.sheet_rules.specs.Sheet.{Record, Records, callOf, callsIn, complete, more, recordAt, recordsAt, stop}
+use Rattle.sheet_rules.specs.Sheet.{Record, Records, callOf, callsIn, complete, decodeRecord, decodeRecords, more, stop}
 use Rattle.sheet_rules.specs.Tally.{counted}
-use Rattle.sheet_rules.specs.laws.Sheet.{record-got, records-end, records-more, records-stop}
+use Rattle.sheet_rules.specs.laws.Sheet.{record-parsed, records-end, records-more, records-stop}
 use Rattle.sheet_rules.specs.laws.Tally.{counted-by-code}
 use Rattle.tally.specs.Count.{eventOf, tallyIs}
 use Rattle.sheet.specs.Turn.{Filling, Onward, Turn, callsToCome, finishedAt, recordRoom, toCome, turnsLeft}
@@ -49,7 +49,7 @@ module _ {out outAfter bytes : List ℕ} {next : ℕ} (put : Put out outAfter 0 
 
 -- what is to come, by what the records from the offset on are
 module _ (sheet : List ℕ) (was : State) (unfinished : was .finished ≡ false) (records : Records)
-    (are : recordsAt (length sheet) sheet (was .offset) ≡ records) where
+    (are : decodeRecords (length sheet) sheet (was .offset) ≡ records) where
   lines-by : (table : List ℕ) → toCome sheet was table ≡ linesFrom table (was .index) (tallyIs (was .tally)) records
   lines-by table = simp (unfinished, are)
 
@@ -62,7 +62,7 @@ afterRecord was next total = record { offset = next; index = was .index + 1; tal
 
 module _ {sheet : List ℕ} {was : State} (unfinished : was .finished ≡ false) where
   -- A record was run.
-  module _ {entry : Record} {next : ℕ} (inside : was .offset < length sheet) (read : recordAt sheet (was .offset) ≡ got entry next) where
+  module _ {entry : Record} {next : ℕ} (inside : was .offset < length sheet) (read : decodeRecord sheet (was .offset) ≡ parsed entry next) where
     pub ran : (reply : Reply) {before after : List ℕ} {number session : ℕ} {total : Tally} {out outAfter : List ℕ} {at end : ℕ}
         → tableResult reply after ≡ stepTable hallLimits before (callOf entry)
         → number ≡ answerOf reply .number
@@ -84,9 +84,9 @@ module _ {sheet : List ℕ} {was : State} (unfinished : was .finished ≡ false)
     }
       where
         rest : Records
-        rest = recordsAt (length sheet) sheet next
+        rest = decodeRecords (length sheet) sheet next
 
-        are : recordsAt (length sheet) sheet (was .offset) ≡ more entry rest
+        are : decodeRecords (length sheet) sheet (was .offset) ≡ more entry rest
         are = records-more sheet (was .offset) entry next inside read
 
         answers : record { number = number; session = session } ≡ stepTable hallLimits before (callOf entry) .answer
@@ -103,12 +103,12 @@ module _ {sheet : List ℕ} {was : State} (unfinished : was .finished ≡ false)
 
     pub ran-onward : {total : Tally} → was .index ≤ was .offset → Onward sheet was (afterRecord was next total)
     ran-onward numbered =
-        let moved = record-got sheet (was .offset) entry next read .moved in
+        let moved = record-parsed sheet (was .offset) entry next read .moved in
         record { fewer = simp unfinished (omega (arith, moved .past, moved .inside)); numbered = omega (arith, moved .past) }
 
   module _ {before out outAfter : List ℕ} {at end : ℕ} {is : State} where
     -- Nothing is run any more: these are the last lines.
-    last-lines : {bytes : List ℕ} (records : Records) → recordsAt (length sheet) sheet (was .offset) ≡ records → callsIn records ≡ []
+    last-lines : {bytes : List ℕ} (records : Records) → decodeRecords (length sheet) sheet (was .offset) ≡ records → callsIn records ≡ []
         → linesFrom before (was .index) (tallyIs (was .tally)) records ≡ bytes
         → Put out outAfter at bytes end → is ≡ finishedAt was
         → Filling sheet was before out at is before outAfter end
@@ -126,7 +126,7 @@ module _ {sheet : List ℕ} {was : State} (unfinished : was .finished ≡ false)
         })
 
     -- The record ends the reading.
-    pub stopped : {code number : ℕ} → was .offset < length sheet → recordAt sheet (was .offset) ≡ refused (refusalOf code number)
+    pub stopped : {code number : ℕ} → was .offset < length sheet → decodeRecord sheet (was .offset) ≡ refused (refusalOf code number)
         → Put out outAfter at (line (was .index) code number 0 ++ endLine (tallyIs (was .tally))) end → is ≡ finishedAt was
         → Filling sheet was before out at is before outAfter end
     stopped inside read = last-lines (stop _) (records-stop sheet (was .offset) _ inside read) refl refl

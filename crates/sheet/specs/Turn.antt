@@ -10,7 +10,7 @@ use Rattle.rules.specs.Steps.{Call, end}
 use Rattle.rules.specs.Table.{openTable, stepTable}
 use Rattle.lines.specs.Put.{Put}
 use Rattle.sheet_rules.specs.Lines.{linesFrom, printed}
-use Rattle.sheet_rules.specs.Sheet.{Reading, callsIn, lentTable, opened, reading, recordsAt, unopened}
+use Rattle.sheet_rules.specs.Sheet.{Reading, callsIn, decodeRecords, lentTable, opened, reading, unopened}
 use Rattle.tally.specs.Count.{tallyIs}
 use Rattle.sheet.specs.declared.State.{State}
 
@@ -24,11 +24,11 @@ recordRoom = 84 + endRoom
 -- What is still to be printed of a sheet: nothing once the last line is, else the lines from the next record on.
 abbrev pub toCome : List ℕ → State → List ℕ → List ℕ
 toCome sheet state table =
-    cond (state .finished) [] (linesFrom table (state .index) (tallyIs (state .tally)) (recordsAt (length sheet) sheet (state .offset)))
+    cond (state .finished) [] (linesFrom table (state .index) (tallyIs (state .tally)) (decodeRecords (length sheet) sheet (state .offset)))
 
 -- The steps that are still to be run.
 abbrev pub callsToCome : List ℕ → State → List Call
-callsToCome sheet state = cond (state .finished) [] (callsIn (recordsAt (length sheet) sheet (state .offset)))
+callsToCome sheet state = cond (state .finished) [] (callsIn (decodeRecords (length sheet) sheet (state .offset)))
 
 -- The most turns that may still come: each but the last reads a record or more, and a record takes a byte or more.
 abbrev pub turnsLeft : List ℕ → State → ℕ

@@ -6,8 +6,8 @@ use board::swap;
 use board::take;
 use lines::put_end;
 use lines::put_line;
-use reader::Entry;
-use reader::Head;
+use reader::ParsedHeader;
+use reader::ParsedRecord;
 use reader::Record;
 use reader::read_header;
 use reader::read_record;
@@ -121,9 +121,9 @@ fn put_record(sheet: &[u8], state: State, table: &mut [u8], out: &mut [u8], at: 
         return finish(out, at, state);
     }
     match read_record(sheet, offset) {
-        Entry::Refused(code, fault) => stop(out, at, state, code, refusal_number(fault)),
-        Entry::NoCode(code) => stop(out, at, state, code, NO_CODE),
-        Entry::Whole(entry, next) => {
+        ParsedRecord::Refused(code, fault) => stop(out, at, state, code, refusal_number(fault)),
+        ParsedRecord::NoCode(code) => stop(out, at, state, code, NO_CODE),
+        ParsedRecord::Whole(entry, next) => {
             let r = run_record(table, entry);
             let reply_number = number(r);
             let reply_session = session(r);
@@ -198,8 +198,8 @@ pub fn start(sheet: &[u8], table: &mut [u8], out: &mut [u8]) -> Filled
         return stop(out, 0, header_state, 0, TOO_LONG);
     }
     match read_header(sheet, 0) {
-        Head::Refused(fault) => stop(out, 0, header_state, 0, refusal_number(fault)),
-        Head::Whole(header, next) => {
+        ParsedHeader::Refused(fault) => stop(out, 0, header_state, 0, refusal_number(fault)),
+        ParsedHeader::Whole(header, next) => {
             let r = open(table, header.desks, header.screens, header.positions);
             let reply_number = number(r);
             if reply_number != 0 {

@@ -3,10 +3,10 @@ use native.Mathlib.Omega.{arith}
 use mathlib.Core.Path.{_≡_, sym, ap, _∙_}
 use Prim.Native.Nat.{ℕ}
 use borrow.Author.Needs.{needs}
-use Rattle.rules.specs.Numbers.{got, refusalOf, refused}
+use Rattle.rules.specs.Numbers.{parsed, refusalOf, refused}
 use Rattle.lines.specs.laws.Longest.{line-length}
 use Rattle.reader.specs.Results.{recordOf, recordResult}
-use Rattle.sheet_rules.specs.Sheet.{recordAt}
+use Rattle.sheet_rules.specs.Sheet.{decodeRecord}
 use Rattle.sheet.proofs.TurnLaws.{ended, finished-onward, ran, ran-onward, stopped}
 use Rattle.sheet.proofs.put_record.Statement.{statement}
 use Rattle.sheet.proofs.put_record.Tie as tie
@@ -14,7 +14,7 @@ use Rattle.sheet.proofs.put_record.Tie as tie
 -- the record that was read
 record-read : (c : tie.After-known-told3) →
     let a = c .before .before .before .before .before .before .before .before .args in
-    recordAt (a .sheet .now) (a .state .offset) ≡ got (recordOf (c .before .entry .given .0 .0)) (c .before .entry .given .0 .1 .0)
+    decodeRecord (a .sheet .now) (a .state .offset) ≡ parsed (recordOf (c .before .entry .given .0 .0)) (c .before .entry .given .0 .1 .0)
 record-read c = sym (c .before .before .before .read-record .ensures) ∙ ap recordResult (c .before .entry .given .1)
 
 finish-requires : tie.Need-finish-requires

@@ -5,19 +5,19 @@ use Prim.Native.Nat.{ℕ}
 use borrow.Author.Needs.{needs}
 use Rattle.rules.specs.Bytes.{wordsOfBytes}
 use Rattle.rules.specs.Hall.{hallLimits}
-use Rattle.rules.specs.Numbers.{got, refusalOf, refused}
+use Rattle.rules.specs.Numbers.{parsed, refusalOf, refused}
 use Rattle.rules.specs.Table.{openTable}
 use Rattle.lines.specs.laws.Longest.{line-length}
 use Rattle.reader.specs.Results.{headerOf, headerResult}
 use Rattle.reply.specs.Answer.{tableResult}
-use Rattle.sheet_rules.specs.Sheet.{headerAt, lentTable}
+use Rattle.sheet_rules.specs.Sheet.{decodeHeader, lentTable}
 use Rattle.sheet_rules.specs.laws.Sheet.{short-enough, too-long}
 use Rattle.sheet.proofs.StartLaws.{started-opened, started-refused, started-stopped}
 use Rattle.sheet.proofs.start.Statement.{statement}
 use Rattle.sheet.proofs.start.Tie as tie
 
 -- the header that was read
-header-read : (c : tie.After-known-told2) → headerAt (c .before .before .before .before .before .before .before .before .args .sheet .now) 0 ≡ got (headerOf (c .before .header .given .0 .0)) (c .before .header .given .0 .1 .0)
+header-read : (c : tie.After-known-told2) → decodeHeader (c .before .before .before .before .before .before .before .before .args .sheet .now) 0 ≡ parsed (headerOf (c .before .header .given .0 .0)) (c .before .header .given .0 .1 .0)
 header-read c = sym (c .before .before .before .read-header .ensures) ∙ ap headerResult (c .before .header .given .1)
 
 -- what the board replied to the opening

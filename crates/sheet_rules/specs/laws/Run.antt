@@ -7,23 +7,24 @@ use mathlib.Core.List.{List, _++_, append-assoc}
 use lib.ListN.{length}
 use lib.Dec.{leb, ltb}
 use Rattle.rules.specs.Hall.{Hall, hallLimits}
-use Rattle.rules.specs.Numbers.{Got, Refusal, got, refusalOf, refused}
+use Rattle.rules.specs.Numbers.{Parsed, Refusal, parsed, refusalOf, refused}
 use Rattle.rules.specs.Steps.{Event, Result, accept, run}
 use Rattle.rules.specs.Table.{openTable, openedTable, stepTable}
 use Rattle.rules.specs.laws.history.StepEffects.{in-range}
 use Rattle.rules.specs.laws.table.TableSteps.{accepted-open}
 use Rattle.sheet_rules.specs.Lines.{answerLine, endLine, endingLine, eventLines, line, linesFrom, linesOf, printed}
-use Rattle.sheet_rules.specs.Sheet.{Record, Records, callOf, callsIn, codeOf, complete, headed, headerAt, isCode, lentTable, maxBytes, more, onward, stepOf}
-use Rattle.sheet_rules.specs.Sheet.{opened, openedIf, openingNumber, reading, recordAt, recordFor, recordsAt, stop, unopened}
+use Rattle.sheet_rules.specs.Sheet.{Record, Records, afterHeader, bindRecords, callOf, callsIn, codeOf, complete, decodeHeader, decodeRecord}
+use Rattle.sheet_rules.specs.Sheet.{decodeRecords, isCode, lentTable, maxBytes, more, opened, openedIf, openingNumber, reading, recordFor, stepOf}
+use Rattle.sheet_rules.specs.Sheet.{stop, unopened}
 use Rattle.sheet_rules.specs.Tally.{Tally, counted, countsIn, tallied, zeros}
-use Rattle.sheet_rules.specs.laws.Sheet.{record-got}
+use Rattle.sheet_rules.specs.laws.Sheet.{record-parsed}
 use Rattle.sheet_rules.specs.laws.Tally.{tally-from-zeros}
 
 -- ---- What a reading that opened had before it.
 record Opened (sheet : List ℕ) (hall : Hall) (records : Records) : Type 0 where
   accepted : openingNumber hall ≡ 0
   next : ℕ
-  are : records ≡ recordsAt (length sheet) sheet next
+  are : records ≡ decodeRecords (length sheet) sheet next
 
 unopened-not-opened : {reason : Refusal} {hall : Hall} {records : Records} → unopened reason ≡ opened hall records → ⊥
 unopened-not-opened e = let z : _≡_ {A = ℕ} 0 1 = cc in omega arith
@@ -33,19 +34,19 @@ unfolding reading
 opened-from sheet hall records e = by-length (leb (length sheet) maxBytes) e
   where
     by-number : (found : Hall) (next n : ℕ) → openingNumber found ≡ n
-        → openedIf n found (recordsAt (length sheet) sheet next) ≡ opened hall records
+        → openedIf n found (decodeRecords (length sheet) sheet next) ≡ opened hall records
         → Opened sheet hall records
     by-number found next zero q opens =
         let same : found ≡ hall = cc in
         record { accepted = sym (ap openingNumber same) ∙ q; next = next; are = cc }
     by-number found next (suc n) q opens = absurd (unopened-not-opened opens)
 
-    by-header : (found : Got Hall) → headed sheet found ≡ opened hall records → Opened sheet hall records
-    by-header (got found next) opens = by-number found next (openingNumber found) refl opens
+    by-header : (found : Parsed Hall) → afterHeader sheet found ≡ opened hall records → Opened sheet hall records
+    by-header (parsed found next) opens = by-number found next (openingNumber found) refl opens
     by-header (refused reason) opens = absurd (unopened-not-opened opens)
 
-    by-length : (short : Bool) → cond short (headed sheet (headerAt sheet 0)) (unopened (refusalOf 0 18)) ≡ opened hall records → Opened sheet hall records
-    by-length true opens = by-header (headerAt sheet 0) opens
+    by-length : (short : Bool) → cond short (afterHeader sheet (decodeHeader sheet 0)) (unopened (refusalOf 0 18)) ≡ opened hall records → Opened sheet hall records
+    by-length true opens = by-header (decodeHeader sheet 0) opens
     by-length false opens = absurd (unopened-not-opened opens)
 
 pub opening-accepted : (sheet : List ℕ) (hall : Hall) (records : Records) → reading sheet ≡ opened hall records
@@ -59,13 +60,13 @@ EachCode complete = Unit {0}
 EachCode (stop reason) = Unit {0}
 EachCode (more entry rest) = (isCode (entry .code) ≡ true) × EachCode rest
 
-each-code : (most : ℕ) (sheet : List ℕ) (at : ℕ) → EachCode (recordsAt most sheet at)
+each-code : (most : ℕ) (sheet : List ℕ) (at : ℕ) → EachCode (decodeRecords most sheet at)
 each-code zero sheet at = tt
-each-code (suc most) sheet at = by-offset (ltb at (length sheet)) (recordAt sheet at) refl (each-code most sheet)
+each-code (suc most) sheet at = by-offset (ltb at (length sheet)) (decodeRecord sheet at) refl (each-code most sheet)
   where
-    by-offset : (inside : Bool) (found : Got Record) → recordAt sheet at ≡ found → ((next : ℕ) → EachCode (recordsAt most sheet next))
-        → EachCode (cond inside (onward found (λ entry next. more entry (recordsAt most sheet next))) complete)
-    by-offset true (got entry next) e later = (record-got sheet at entry next e .good .code, later next)
+    by-offset : (inside : Bool) (found : Parsed Record) → decodeRecord sheet at ≡ found → ((next : ℕ) → EachCode (decodeRecords most sheet next))
+        → EachCode (cond inside (bindRecords found (λ entry next. more entry (decodeRecords most sheet next))) complete)
+    by-offset true (parsed entry next) e later = (record-parsed sheet at entry next e .good .code, later next)
     by-offset true (refused reason) e later = tt
     by-offset false found e later = tt
 
