@@ -12,14 +12,14 @@ use Rattle.rules.specs.Table.{openTable, openedTable}
 use Rattle.lines.specs.Put.{Put}
 use Rattle.reply.specs.Answer.{answerOf, tableResult}
 use Rattle.sheet_rules.specs.Lines.{answerLine, endLine, line, linesFrom, linesOf, printed}
-use Rattle.sheet_rules.specs.Sheet.{decodeHeader, decodeRecords, lentTable, maxBytes, opened, openedIf, openingNumber, reading, unopened}
+use Rattle.sheet_rules.specs.Sheet.{decodeHeader, lentTable, maxBytes, opened, openedIf, openingNumber, reading, decodeRecords, unopened}
 use Rattle.sheet_rules.specs.Tally.{zeros}
 use Rattle.sheet_rules.specs.laws.Sheet.{header-parsed, opening-answer, short-enough}
-use Rattle.sheet.specs.Turn.{Started, callsOf, finishedAt, startTable}
+use Rattle.sheet.specs.Batch.{Started, callsOf, finishedAt, startTable}
 use Rattle.reply.specs.declared.Reply.{Reply}
 use Rattle.tally.specs.declared.Tally.{Tally}
 use Rattle.sheet.specs.declared.State.{State}
-use Rattle.sheet.proofs.TurnLaws.{put-first, put-rest, put-within}
+use Rattle.sheet.proofs.BatchLaws.{put-first, put-rest, put-within}
 
 -- before anything is read, and at the first record
 abbrev noTally : Tally
@@ -52,7 +52,7 @@ module _ {sheet out outAfter : List ℕ} {end : ℕ} where
   unfolding printed
   started-stopped reads same put finished = rw finished (record {
     within = put-within put;
-    lines = append-nil _ ∙ put-first put ∙ sym (ap linesOf reads);
+    output = append-nil _ ∙ put-first put ∙ sym (ap linesOf reads);
     run = sym (ap callsOf reads);
     table = same ∙ sym (ap startTable reads);
     rest = put-rest put;
@@ -81,7 +81,7 @@ module _ {sheet out outAfter : List ℕ} {end : ℕ} where
     unfolding printed
     started-opened none put = record {
       within = put-within put;
-      lines =
+      output =
           (λ i. put-first put i ++ linesFrom (leaves i) 1 zeros (decodeRecords (length sheet) sheet next))
           ∙ ap (λ (answer : Answer). answerLine 0 0 answer ++ linesFrom (openTable hallLimits hall lentTable .after) 1 zeros (decodeRecords (length sheet) sheet next)) (sym answers)
           ∙ sym (ap linesOf reads);

@@ -1,4 +1,5 @@
 pub mod Sheet
+pub mod Run
 pub mod Tally
 pub mod Lines
 pub mod SheetTheorems
