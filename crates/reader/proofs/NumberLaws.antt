@@ -34,27 +34,27 @@ last-group : (group : ℕ) → group + 128 * 0 ≡ group
 last-group group = omega arith
 
 -- ---- No byte stands there.
-pub none-there : (limit : ℕ) (sheet : List ℕ) (at : ℕ) → length sheet ≤ at → decodeNumber limit sheet at ≡ refusal 0 15
+pub none-there : (limit : ℕ) (sheet : List ℕ) (at : ℕ) → length sheet ≤ at → decodeNumber limit sheet at ≡ refusal 0 15 at
 unfolding decodeNumber
 none-there limit sheet at past = simp (groups-stop 2 sheet at past)
 
 -- ---- A first byte stands there.
 module _ (limit : ℕ) {sheet : List ℕ} {at first : ℕ} (one : Byte sheet at first) where
-  pub one-ends : first < 128 → decodeNumber limit sheet at ≡ withinLimit limit first (at + 1)
+  pub one-ends : first < 128 → decodeNumber limit sheet at ≡ withinLimit limit at first (at + 1)
   unfolding decodeNumber
   one-ends last = simp (groups-last 2 one last, last-group)
 
-  pub one-only : 128 ≤ first → length sheet ≤ at + 1 → decodeNumber limit sheet at ≡ refusal 0 15
+  pub one-only : 128 ≤ first → length sheet ≤ at + 1 → decodeNumber limit sheet at ≡ refusal 0 15 at
   unfolding decodeNumber
   one-only more past = simp (groups-more 2 one (at + 1) refl more, groups-stop 1 sheet (at + 1) past)
 
   -- ---- And a second.
   module _ (more : 128 ≤ first) {second : ℕ} (two : Byte sheet (at + 1) second) where
-    pub two-end : second < 128 → decodeNumber limit sheet at ≡ withinLimit limit (first % 128 + 128 * second) (at + 2)
+    pub two-end : second < 128 → decodeNumber limit sheet at ≡ withinLimit limit at (first % 128 + 128 * second) (at + 2)
     unfolding decodeNumber
     two-end last = simp (groups-more 2 one (at + 1) refl more, groups-last 1 two last, last-group)
 
-    pub two-only : 128 ≤ second → length sheet ≤ at + 2 → decodeNumber limit sheet at ≡ refusal 0 15
+    pub two-only : 128 ≤ second → length sheet ≤ at + 2 → decodeNumber limit sheet at ≡ refusal 0 15 at
     unfolding decodeNumber
     two-only more₂ past =
         simp (groups-more 2 one (at + 1) refl more, groups-more 1 two (at + 2) (omega arith) more₂, groups-stop 0 sheet (at + 2) past)
@@ -62,12 +62,12 @@ module _ (limit : ℕ) {sheet : List ℕ} {at first : ℕ} (one : Byte sheet at 
     -- ---- And a third, the last that is looked at.
     module _ (more₂ : 128 ≤ second) {third : ℕ} (three : Byte sheet (at + 2) third) where
       pub three-end : third < 128
-          → decodeNumber limit sheet at ≡ withinLimit limit (first % 128 + 128 * (second % 128 + 128 * third)) (at + 3)
+          → decodeNumber limit sheet at ≡ withinLimit limit at (first % 128 + 128 * (second % 128 + 128 * third)) (at + 3)
       unfolding decodeNumber
       three-end last =
           simp (groups-more 2 one (at + 1) refl more, groups-more 1 two (at + 2) (omega arith) more₂, groups-last 0 three last, last-group)
 
-      pub three-go-on : 128 ≤ third → decodeNumber limit sheet at ≡ refusal 0 16
+      pub three-go-on : 128 ≤ third → decodeNumber limit sheet at ≡ refusal 0 16 at
       unfolding decodeNumber
       three-go-on more₃ =
           simp

@@ -1,4 +1,6 @@
 pub mod Sheet
+pub mod Edition1
+pub mod Lawful
 pub mod Run
 pub mod Tally
 pub mod Lines

@@ -1,7 +1,7 @@
 -- `reader::read_header` meets its contract.
 use mathlib.Core.Path.{sym, _∙_}
 use borrow.Author.Needs.{needs}
-use Rattle.sheet_rules.specs.Sheet.{decodeHeader}
+use Rattle.sheet_rules.specs.Edition1.{decodeHeader}
 use Rattle.reader.proofs.Answers.{found, reads-on}
 use Rattle.reader.proofs.read_header.Statement.{statement}
 use Rattle.reader.proofs.read_header.Tie as tie

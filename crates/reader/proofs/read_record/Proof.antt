@@ -2,7 +2,7 @@
 use mathlib.Core.Path.{sym, _∙_}
 use borrow.Author.Needs.{needs}
 use borrow.Author.Tests.{lt-leb, le-leb}
-use Rattle.sheet_rules.specs.Sheet.{decodeRecord}
+use Rattle.sheet_rules.specs.Edition1.{decodeRecord}
 use Rattle.reader.proofs.Answers.{found, reads-on}
 use Rattle.reader.proofs.read_record.Statement.{statement}
 use Rattle.reader.proofs.read_record.Tie as tie

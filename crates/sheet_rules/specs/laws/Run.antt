@@ -9,52 +9,56 @@ use lib.ListN.{length}
 use lib.Dec.{eqb, leb, ltb}
 use borrow.Author.Tests.{le-leb, ne-eqb}
 use Rattle.rules.specs.Hall.{Hall, hallLimits}
-use Rattle.rules.specs.Numbers.{Parsed, Refusal, parsed, refusalOf, refused}
+use Rattle.rules.specs.Numbers.{Parsed, Refusal, maxNumber, parsed, refusalOf, refused}
 use Rattle.rules.specs.Steps.{Call, Event, Result, accept, run}
 use Rattle.rules.specs.Table.{openTable, openedTable, stepTable}
 use Rattle.rules.specs.laws.history.StepEffects.{in-range}
 use Rattle.rules.specs.laws.table.TableSteps.{accepted-open}
+use Rattle.sheet_rules.specs.Lawful.{CarriedHolds, Lawful}
 use Rattle.sheet_rules.specs.Lines.{answerLine, endLine, endingLine, eventLines, line, linesFrom, linesOf, printed}
 use Rattle.sheet_rules.specs.Run.{callOf, callsIn, codeOf}
-use Rattle.sheet_rules.specs.Sheet.{Record, Records, complete, afterHeader, decodeHeader, isCode, lentTable, maxBytes, more, bindRecords}
-use Rattle.sheet_rules.specs.Sheet.{opened, openedIf, openingNumber, reading, decodeRecord, recordFor, decodeRecords, stop, unopened}
+use Rattle.sheet_rules.specs.Sheet.{Carried, Edition, FieldHolds, GoodRecord, Record, Records, afterHeader, bindRecords, carriedAfter, complete}
+use Rattle.sheet_rules.specs.Sheet.{decodeRecords, deskField, follows, isCode, lentTable, maxBytes, more, noDesk, opened, openedIf, openingNumber}
+use Rattle.sheet_rules.specs.Sheet.{reading, recordFor, stop, unopened}
 use Rattle.sheet_rules.specs.Tally.{Tally, addStep, addSteps, countsIn, zeros}
-use Rattle.sheet_rules.specs.laws.Sheet.{record-parsed}
 use Rattle.sheet_rules.specs.laws.Tally.{tally-from-zeros}
 
 -- ---- What a reading that opened had before it.
-record Opened (sheet : List ℕ) (hall : Hall) (records : Records) : Type 0 where
+record Opened (edition : Edition) (sheet : List ℕ) (hall : Hall) (records : Records) : Type 0 where
   accepted : openingNumber hall ≡ 0
   next : ℕ
-  are : records ≡ decodeRecords (length sheet) sheet next
+  are : records ≡ decodeRecords edition (length sheet) noDesk sheet next
 
 unopened-not-opened : {reason : Refusal} {hall : Hall} {records : Records} → unopened reason ≡ opened hall records → ⊥
 unopened-not-opened e = let z : _≡_ {A = ℕ} 0 1 = cc in omega arith
 
-opened-from : (sheet : List ℕ) (hall : Hall) (records : Records) → reading sheet ≡ opened hall records → Opened sheet hall records
+opened-from : (edition : Edition) (sheet : List ℕ) (hall : Hall) (records : Records) → reading edition sheet ≡ opened hall records
+    → Opened edition sheet hall records
 unfolding reading
-opened-from sheet hall records e = by-length (leb (length sheet) maxBytes) e
+opened-from edition sheet hall records e = by-length (leb (length sheet) maxBytes) e
   where
     by-number : (found : Hall) (next n : ℕ) → openingNumber found ≡ n
-        → openedIf n found (decodeRecords (length sheet) sheet next) ≡ opened hall records
-        → Opened sheet hall records
+        → openedIf n found (decodeRecords edition (length sheet) noDesk sheet next) ≡ opened hall records
+        → Opened edition sheet hall records
     by-number found next zero q opens =
         let same : found ≡ hall = cc in
         record { accepted = sym (ap openingNumber same) ∙ q; next = next; are = cc }
     by-number found next (suc n) q opens = absurd (unopened-not-opened opens)
 
-    by-header : (found : Parsed Hall) → afterHeader sheet found ≡ opened hall records → Opened sheet hall records
+    by-header : (found : Parsed Hall) → afterHeader edition sheet found ≡ opened hall records → Opened edition sheet hall records
     by-header (parsed found next) opens = by-number found next (openingNumber found) refl opens
     by-header (refused reason) opens = absurd (unopened-not-opened opens)
 
-    by-length : (short : Bool) → cond short (afterHeader sheet (decodeHeader sheet 0)) (unopened (refusalOf 0 18)) ≡ opened hall records → Opened sheet hall records
-    by-length true opens = by-header (decodeHeader sheet 0) opens
+    by-length : (short : Bool)
+        → cond short (afterHeader edition sheet (edition .decodeHeader sheet 0)) (unopened (refusalOf 0 18 0)) ≡ opened hall records
+        → Opened edition sheet hall records
+    by-length true opens = by-header (edition .decodeHeader sheet 0) opens
     by-length false opens = absurd (unopened-not-opened opens)
 
-pub opening-accepted : (sheet : List ℕ) (hall : Hall) (records : Records) → reading sheet ≡ opened hall records
+pub opening-accepted : (edition : Edition) (sheet : List ℕ) (hall : Hall) (records : Records) → reading edition sheet ≡ opened hall records
     → openTable hallLimits hall lentTable ≡ accept 0 (openedTable hall lentTable)
 unfolding openingNumber
-opening-accepted sheet hall records e = accepted-open hallLimits hall lentTable (opened-from sheet hall records e .accepted)
+opening-accepted edition sheet hall records e = accepted-open hallLimits hall lentTable (opened-from edition sheet hall records e .accepted)
 
 -- ---- Each record that is read has a step's code, so the step's code is the record's.
 abbrev EachCode : Records → Type 0
@@ -62,13 +66,24 @@ EachCode complete = Unit {0}
 EachCode (stop reason) = Unit {0}
 EachCode (more entry rest) = (isCode (entry .code) ≡ true) × EachCode rest
 
-each-code : (most : ℕ) (sheet : List ℕ) (at : ℕ) → EachCode (decodeRecords most sheet at)
-each-code zero sheet at = tt
-each-code (suc most) sheet at = by-offset (ltb at (length sheet)) (decodeRecord sheet at) refl (each-code most sheet)
+each-code : {edition : Edition} {maxSession : ℕ} → Lawful edition maxSession → (most : ℕ) (carried : Carried) (sheet : List ℕ) (at : ℕ)
+    → CarriedHolds carried
+    → EachCode (decodeRecords edition most carried sheet at)
+each-code lawful zero carried sheet at holds = tt
+each-code {edition} {maxSession} lawful (suc most) carried sheet at holds =
+    by-offset (ltb at (length sheet)) (edition .decodeRecord carried sheet at) refl
+    (λ entry next good. each-code lawful most (carriedAfter entry) sheet next (holds-small (follows (entry .code) deskField) (entry .desk) (good .desk)))
   where
-    by-offset : (inside : Bool) (found : Parsed Record) → decodeRecord sheet at ≡ found → ((next : ℕ) → EachCode (decodeRecords most sheet next))
-        → EachCode (cond inside (bindRecords found (λ entry next. more entry (decodeRecords most sheet next))) complete)
-    by-offset true (parsed entry next) e later = (record-parsed sheet at entry next e .good .code, later next)
+    holds-small : (present : Bool) (value : ℕ) → FieldHolds present maxNumber value → value ≤ maxNumber
+    holds-small true value holds = holds
+    holds-small false value holds = omega arith
+
+    by-offset : (inside : Bool) (found : Parsed Record) → edition .decodeRecord carried sheet at ≡ found
+        → ((entry : Record) (next : ℕ) → GoodRecord maxSession entry → EachCode (decodeRecords edition most (carriedAfter entry) sheet next))
+        → EachCode (cond inside (bindRecords found (λ entry next. more entry (decodeRecords edition most (carriedAfter entry) sheet next))) complete)
+    by-offset true (parsed entry next) e later =
+        let good = lawful .record-good carried sheet at entry next holds e in
+        (good .code, later entry next good)
     by-offset true (refused reason) e later = tt
     by-offset false found e later = tt
 
@@ -134,19 +149,20 @@ lines-from table index total (more entry rest) codes =
     (lines-of-call table index (entry .code) total entry rest (asks .call) (asks .sameCode)
     (lines-from (next .after) (suc index) (addStep total (entry .code) (next .answer)) rest (codes .1)))
 
-pub lines-of-run : (sheet : List ℕ) (hall : Hall) (records : Records) → reading sheet ≡ opened hall records
-    → printed sheet
+pub lines-of-run : {edition : Edition} {maxSession : ℕ} → Lawful edition maxSession → (sheet : List ℕ) (hall : Hall) (records : Records)
+    → reading edition sheet ≡ opened hall records
+    → printed edition sheet
     ≡ line 0 0 0 0
     ++ (eventLines 1 (run (stepTable hallLimits) (openTable hallLimits hall lentTable .after) (callsIn records))
     ++ (endingLine 1 records ++ endLine (countsIn (run (stepTable hallLimits) (openTable hallLimits hall lentTable .after) (callsIn records)))))
 unfolding printed
-lines-of-run sheet hall records e =
+lines-of-run {edition} lawful sheet hall records e =
     ap linesOf e
     ∙ ap (λ (lines : List ℕ). answerLine 0 0 (openTable hallLimits hall lentTable .answer) ++ lines) (lines-from table 1 zeros records codes)
     ∙ ap (λ (total : Tally). answerLine 0 0 (openTable hallLimits hall lentTable .answer) ++ (eventLines 1 events ++ (endingLine 1 records ++ endLine total)))
     (tally-from-zeros events)
     ∙ ap (λ (done : Result (List ℕ)). answerLine 0 0 (done .answer) ++ (eventLines 1 events ++ (endingLine 1 records ++ endLine (countsIn events))))
-    (opening-accepted sheet hall records e)
+    (opening-accepted edition sheet hall records e)
   where
     table : List ℕ
     table = openTable hallLimits hall lentTable .after
@@ -155,4 +171,6 @@ lines-of-run sheet hall records e =
     events = run (stepTable hallLimits) table (callsIn records)
 
     codes : EachCode records
-    codes = let was = opened-from sheet hall records e in subst EachCode (sym (was .are)) (each-code (length sheet) sheet (was .next))
+    codes =
+        let was = opened-from edition sheet hall records e in
+        subst EachCode (sym (was .are)) (each-code lawful (length sheet) noDesk sheet (was .next) tt)
