@@ -9,20 +9,24 @@ use mathlib.Core.List.{List, [], _∷_, _++_, append-nil}
 use lib.ListN.{length, take, drop, length-append}
 use lib.Seq.{take-at, drop-at}
 use Rattle.rules.specs.Hall.{hallLimits}
-use Rattle.rules.specs.Numbers.{parsed, refusalOf, refused}
+use Rattle.rules.specs.Numbers.{Parsed, parsed, refusalOf, refused}
 use Rattle.rules.specs.Steps.{Result}
 use Rattle.lines.specs.Put.{Put, overwriteAt}
 use Rattle.lines.specs.laws.Put.{put-none, put-on}
 use Rattle.reply.specs.Answer.{answerOf, answerWith, tableResult}
+use Rattle.reader.specs.Results.{carriedOf}
+use Rattle.sheet_rules.specs.Edition1.{hallEdition}
 use Rattle.sheet_rules.specs.Lines.{answerLine, endLine, line, linesFrom}
 use Rattle.sheet_rules.specs.Run.{callsIn, runRecord}
-use Rattle.sheet_rules.specs.Sheet.{Record, Records, complete, more, decodeRecord, decodeRecords, stop}
+use Rattle.sheet_rules.specs.Sheet.{Record, Records, complete, more, stop}
+use Rattle.sheet_rules.specs.SheetTheorems.{hall-edition-lawful}
 use Rattle.sheet_rules.specs.Tally.{addStep}
 use Rattle.sheet_rules.specs.laws.Run.{Asks, record-asks}
-use Rattle.sheet_rules.specs.laws.Sheet.{record-parsed, records-end, records-more, records-stop}
+use Rattle.sheet_rules.specs.laws.Sheet.{records-end, records-more, records-stop}
 use Rattle.tally.specs.Counts.{toTally}
-use Rattle.sheet.specs.Batch.{Batch, PartialBatch, Progress, batchesLeft, finishedAt, recordRoom, remainingCalls, remainingOutput}
+use Rattle.sheet.specs.Batch.{Batch, PartialBatch, Progress, batchesLeft, finishedAt, recordRoom, remainingCalls, remainingOutput, remainingRecords}
 use Rattle.sheet.specs.laws.Batches.{emitted-append, emitted-none}
+use Rattle.reader.specs.declared.Carried.the-variants.{LastDesk}
 use Rattle.reply.specs.declared.Reply.{Reply}
 use Rattle.tally.specs.declared.Tally.{Tally}
 use Rattle.sheet.specs.declared.State.{State}
@@ -49,7 +53,7 @@ module _ {out outAfter bytes : List ℕ} {next : ℕ} (put : Put out outAfter 0 
 
 -- what remains, by what the records from the offset on are
 module _ (sheet : List ℕ) (was : State) (unfinished : was .finished ≡ false) (records : Records)
-    (are : decodeRecords (length sheet) sheet (was .offset) ≡ records) where
+    (are : remainingRecords sheet was ≡ records) where
   output-of-records : (table : List ℕ) → remainingOutput sheet was table ≡ linesFrom table (was .index) (toTally (was .tally)) records
   output-of-records table = simp (unfinished, are)
 
@@ -57,19 +61,23 @@ module _ (sheet : List ℕ) (was : State) (unfinished : was .finished ≡ false)
   calls-of-records = simp (unfinished, are)
 
 -- The state after a record was run.
-abbrev afterRecord : State → ℕ → Tally → State
-afterRecord was next total = record { offset = next; index = was .index + 1; tally = total; finished = false }
+abbrev afterRecord : State → ℕ → ℕ → Tally → State
+afterRecord was next desk total = record { offset = next; index = was .index + 1; carried = LastDesk desk; tally = total; finished = false }
+
+-- The next record of a sheet, as it is read.
+abbrev pub nextRecord : List ℕ → State → Parsed Record
+nextRecord sheet was = hallEdition .decodeRecord (carriedOf (was .carried)) sheet (was .offset)
 
 module _ {sheet : List ℕ} {was : State} (unfinished : was .finished ≡ false) where
   -- A record was run.
-  module _ {entry : Record} {next : ℕ} (inside : was .offset < length sheet) (read : decodeRecord sheet (was .offset) ≡ parsed entry next) where
+  module _ {entry : Record} {next : ℕ} (inside : was .offset < length sheet) (read : nextRecord sheet was ≡ parsed entry next) where
     pub record-ran : (reply : Reply) {before after : List ℕ} {number session : ℕ} {total : Tally} {out outAfter : List ℕ} {at end : ℕ}
         → tableResult reply after ≡ runRecord hallLimits before entry
         → number ≡ answerOf reply .number
         → session ≡ answerOf reply .session
         → toTally total ≡ addStep (toTally (was .tally)) (entry .code) (answerWith number session)
         → Put out outAfter at (line (was .index) (entry .code) number session) end
-        → PartialBatch sheet was before out at (afterRecord was next total) after outAfter end
+        → PartialBatch sheet was before out at (afterRecord was next (entry .desk) total) after outAfter end
     record-ran reply {before} {after} {number} {session} {total} result is-number is-session counts put = record {
       bytes = line (was .index) (entry .code) number session;
       put = put;
@@ -84,14 +92,14 @@ module _ {sheet : List ℕ} {was : State} (unfinished : was .finished ≡ false)
     }
       where
         rest : Records
-        rest = decodeRecords (length sheet) sheet next
+        rest = remainingRecords sheet (afterRecord was next (entry .desk) total)
 
-        are : decodeRecords (length sheet) sheet (was .offset) ≡ more entry rest
-        are = records-more sheet (was .offset) entry next inside read
+        are : remainingRecords sheet was ≡ more entry rest
+        are = records-more hall-edition-lawful (carriedOf (was .carried)) sheet (was .offset) entry next inside read
 
         -- a record that was read has a step's code
         asks : Asks entry
-        asks = record-asks entry (record-parsed sheet (was .offset) entry next read .good .code)
+        asks = record-asks entry (hall-edition-lawful .record-code (carriedOf (was .carried)) sheet (was .offset) entry next read)
 
         answers : answerWith number session ≡ runRecord hallLimits before entry .answer
         answers = (λ i. answerWith (is-number i) (is-session i)) ∙ ap (λ (done : Result (List ℕ)). done .answer) result
@@ -102,14 +110,14 @@ module _ {sheet : List ℕ} {was : State} (unfinished : was .finished ≡ false)
         total-is : toTally total ≡ addStep (toTally (was .tally)) (entry .code) (runRecord hallLimits before entry .answer)
         total-is = counts ∙ ap (addStep (toTally (was .tally)) (entry .code)) answers
 
-    pub record-progress : {total : Tally} → was .index ≤ was .offset → Progress sheet was (afterRecord was next total)
+    pub record-progress : {total : Tally} → was .index ≤ was .offset → Progress sheet was (afterRecord was next (entry .desk) total)
     record-progress numbered =
-        let moved = record-parsed sheet (was .offset) entry next read .moved in
+        let moved = hall-edition-lawful .record-moves (carriedOf (was .carried)) sheet (was .offset) entry next read in
         record { fewer = simp unfinished (omega (arith, moved .past, moved .inside)); numbered = omega (arith, moved .past) }
 
   module _ {before out outAfter : List ℕ} {at end : ℕ} {is : State} where
     -- No call remains: these are the last lines.
-    last-lines : {bytes : List ℕ} (records : Records) → decodeRecords (length sheet) sheet (was .offset) ≡ records → callsIn records ≡ []
+    last-lines : {bytes : List ℕ} (records : Records) → remainingRecords sheet was ≡ records → callsIn records ≡ []
         → linesFrom before (was .index) (toTally (was .tally)) records ≡ bytes
         → Put out outAfter at bytes end → is ≡ finishedAt was
         → PartialBatch sheet was before out at is before outAfter end
@@ -127,15 +135,15 @@ module _ {sheet : List ℕ} {was : State} (unfinished : was .finished ≡ false)
         })
 
     -- The record ends the reading.
-    pub reading-stopped : {code number : ℕ} → was .offset < length sheet → decodeRecord sheet (was .offset) ≡ refused (refusalOf code number)
+    pub reading-stopped : {code number offset : ℕ} → was .offset < length sheet → nextRecord sheet was ≡ refused (refusalOf code number offset)
         → Put out outAfter at (line (was .index) code number 0 ++ endLine (toTally (was .tally))) end → is ≡ finishedAt was
         → PartialBatch sheet was before out at is before outAfter end
-    reading-stopped inside read = last-lines (stop _) (records-stop sheet (was .offset) _ inside read) refl refl
+    reading-stopped inside read = last-lines (stop _) (records-stop hall-edition-lawful (carriedOf (was .carried)) sheet (was .offset) _ inside read) refl refl
 
     -- No record remains.
     pub sheet-ended : length sheet ≤ was .offset → Put out outAfter at (endLine (toTally (was .tally))) end → is ≡ finishedAt was
         → PartialBatch sheet was before out at is before outAfter end
-    sheet-ended past = last-lines complete (records-end sheet (was .offset) past) refl refl
+    sheet-ended past = last-lines complete (records-end hall-edition-lawful (carriedOf (was .carried)) sheet (was .offset) past) refl refl
 
 pub finished-progress : {sheet : List ℕ} {was is : State} → is ≡ finishedAt was → was .index ≤ was .offset → Progress sheet was is
 finished-progress same numbered = rw same (record { fewer = omega arith; numbered = numbered })

@@ -9,9 +9,11 @@ use Rattle.rules.specs.Hall.{hallLimits}
 use Rattle.rules.specs.Steps.{Call, end}
 use Rattle.rules.specs.Table.{openTable, stepTable}
 use Rattle.lines.specs.Put.{Put}
+use Rattle.reader.specs.Results.{carriedOf}
+use Rattle.sheet_rules.specs.Edition1.{hallEdition}
 use Rattle.sheet_rules.specs.Lines.{linesFrom, printed}
 use Rattle.sheet_rules.specs.Run.{callsIn}
-use Rattle.sheet_rules.specs.Sheet.{Reading, lentTable, opened, reading, decodeRecords, unopened}
+use Rattle.sheet_rules.specs.Sheet.{Reading, Records, decodeRecords, lentTable, opened, reading, unopened}
 use Rattle.tally.specs.Counts.{toTally}
 use Rattle.sheet.specs.declared.State.{State}
 
@@ -22,21 +24,25 @@ endRoom = 67
 abbrev pub recordRoom : ℕ
 recordRoom = 84 + endRoom
 
+-- The records that remain to be read.
+abbrev pub remainingRecords : List ℕ → State → Records
+remainingRecords sheet state = decodeRecords hallEdition (length sheet) (carriedOf (state .carried)) sheet (state .offset)
+
 -- The bytes of a sheet's output that remain to be printed: none after the last line, else the lines from the next record on.
 abbrev pub remainingOutput : List ℕ → State → List ℕ → List ℕ
 remainingOutput sheet state table =
-    cond (state .finished) [] (linesFrom table (state .index) (toTally (state .tally)) (decodeRecords (length sheet) sheet (state .offset)))
+    cond (state .finished) [] (linesFrom table (state .index) (toTally (state .tally)) (remainingRecords sheet state))
 
 -- The calls that remain to be run.
 abbrev pub remainingCalls : List ℕ → State → List Call
-remainingCalls sheet state = cond (state .finished) [] (callsIn (decodeRecords (length sheet) sheet (state .offset)))
+remainingCalls sheet state = cond (state .finished) [] (callsIn (remainingRecords sheet state))
 
 -- The most batches that remain: each but the last reads a record or more, and a record takes a byte or more.
 abbrev pub batchesLeft : List ℕ → State → ℕ
 batchesLeft sheet state = cond (state .finished) 0 (suc (length sheet - state .offset))
 
 abbrev pub finishedAt : State → State
-finishedAt state = record { offset = state .offset; index = state .index; tally = state .tally; finished = true }
+finishedAt state = record { offset = state .offset; index = state .index; carried = state .carried; tally = state .tally; finished = true }
 
 -- Bytes that lead from one state and table to another: followed by what remains after them, they are what remained before.
 -- The table is as the calls that were run leave it; how many these are is left free.
@@ -77,14 +83,14 @@ callsOf (opened hall records) = callsIn records
 
 -- the table after all calls of a sheet
 abbrev pub sheetTable : List ℕ → List ℕ
-sheetTable sheet = end (stepTable hallLimits) (startTable (reading sheet)) (callsOf (reading sheet))
+sheetTable sheet = end (stepTable hallLimits) (startTable (reading hallEdition sheet)) (callsOf (reading hallEdition sheet))
 
 -- The first bytes of the output: the header's line, or all lines where the reading ends before a record.
 pub record Started (sheet out : List ℕ) (is : State) (after outAfter : List ℕ) (put : ℕ) : Type 0 where
   pub within : put ≤ length outAfter
-  pub output : take put outAfter ++ remainingOutput sheet is after ≡ printed sheet
-  pub run : remainingCalls sheet is ≡ callsOf (reading sheet)
-  pub table : after ≡ startTable (reading sheet)
+  pub output : take put outAfter ++ remainingOutput sheet is after ≡ printed hallEdition sheet
+  pub run : remainingCalls sheet is ≡ callsOf (reading hallEdition sheet)
+  pub table : after ≡ startTable (reading hallEdition sheet)
   pub rest : drop put outAfter ≡ drop put out
   pub numbered : is .index ≤ is .offset
 

@@ -5,6 +5,7 @@ use mathlib.Core.Bool.{true}
 use mathlib.Core.List.{List, _++_}
 use lib.ListN.{length, take}
 use native.Mathlib.Omega.{arith}
+use Rattle.sheet_rules.specs.Edition1.{hallEdition}
 use Rattle.sheet_rules.specs.Lines.{printed}
 use Rattle.sheet.specs.Batch.{BatchResult, Batches, Started, bytesOf, lastState, lastTable, sheetTable}
 use Rattle.sheet.specs.laws.Batches.{batches-bounded, batches-emitted, batches-left-bounded, emitted-all, final-table-at-end, final-table-at-start}
@@ -14,7 +15,7 @@ use Rattle.sheet.specs.declared.State.{State}
 module _ (sheet out : List ℕ) (first : State) (table outAfter : List ℕ) (put : ℕ) (started : Started sheet out first table outAfter put)
     (batches : List BatchResult) (each : Batches sheet first table batches) where
   -- Once the state is finished, the batches are exactly what the rules print of the sheet.
-  pub whole-sheet : lastState first batches .finished ≡ true → take put outAfter ++ bytesOf batches ≡ printed sheet
+  pub whole-sheet : lastState first batches .finished ≡ true → take put outAfter ++ bytesOf batches ≡ printed hallEdition sheet
   whole-sheet finished =
       ap (λ (rest : List ℕ). take put outAfter ++ rest) (emitted-all (batches-emitted sheet first table batches each) finished) ∙ started .output
 

@@ -6,6 +6,8 @@ use board::swap;
 use board::take;
 use lines::put_end;
 use lines::put_line;
+use reader::Carried;
+use reader::Format;
 use reader::ParsedHeader;
 use reader::ParsedRecord;
 use reader::Record;
@@ -43,10 +45,12 @@ const NO_CODE: u16 = 17;
 // The most bytes of a record's line and the last line.
 const ROOM: usize = 84 + 67;
 
-// A position in a sheet: the offset and the number of the next record, the tally so far, and whether the last line is put.
+// A position in a sheet: the offset and the number of the next record, what the last record left for it, the tally so far, and whether
+// the last line is put.
 pub struct State {
     pub offset: usize,
     pub index: u64,
+    pub carried: Carried,
     pub tally: Tally,
     pub finished: bool,
 }
@@ -79,6 +83,7 @@ fn finish(out: &mut [u8], at: usize, state: State) -> Filled
     ensures bytes { λ r. ⌜ Put (now (out .entry)) (now (out .exit)) at (endLine (toTally (state .tally))) (r .put) ⌝ }
     ensures state { λ r. ⌜ r .state ≡ finishedAt state ⌝ }
 {
+    let carried = state.carried;
     let tally = state.tally;
     let end = put_end(
         out,
@@ -91,6 +96,7 @@ fn finish(out: &mut [u8], at: usize, state: State) -> Filled
         state: State {
             offset: state.offset,
             index: state.index,
+            carried: carried,
             tally: tally,
             finished: true,
         },
@@ -120,8 +126,9 @@ fn put_record(sheet: &[u8], state: State, table: &mut [u8], out: &mut [u8], at: 
     if sheet.len() <= offset {
         return finish(out, at, state);
     }
-    match read_record(sheet, offset) {
-        ParsedRecord::Refused(code, fault) => stop(out, at, state, code, refusal_number(fault)),
+    let carried = state.carried;
+    match read_record(sheet, offset, Format::HALL, carried) {
+        ParsedRecord::Refused(code, fault, _) => stop(out, at, state, code, refusal_number(fault)),
         ParsedRecord::NoCode(code) => stop(out, at, state, code, NO_CODE),
         ParsedRecord::Whole(entry, next) => {
             let r = run_record(table, entry);
@@ -138,10 +145,12 @@ fn put_record(sheet: &[u8], state: State, table: &mut [u8], out: &mut [u8], at: 
             let was = state.tally;
             let tally = add_step_lent(was, entry.code, reply_number, reply_session);
             let index = state.index + 1;
+            let desk = Carried::LastDesk(entry.desk);
             Filled {
                 state: State {
                     offset: next,
                     index: index,
+                    carried: desk,
                     tally: tally,
                     finished: false,
                 },
@@ -188,9 +197,11 @@ pub fn start(sheet: &[u8], table: &mut [u8], out: &mut [u8]) -> Filled
         refused: 0,
         handed_back: 0,
     };
+    let no_desk = Carried::NoDesk;
     let header_state = State {
         offset: 0,
         index: 0,
+        carried: no_desk,
         tally: none,
         finished: false,
     };
@@ -198,7 +209,7 @@ pub fn start(sheet: &[u8], table: &mut [u8], out: &mut [u8]) -> Filled
         return stop(out, 0, header_state, 0, TOO_LONG);
     }
     match read_header(sheet, 0) {
-        ParsedHeader::Refused(fault) => stop(out, 0, header_state, 0, refusal_number(fault)),
+        ParsedHeader::Refused(fault, _) => stop(out, 0, header_state, 0, refusal_number(fault)),
         ParsedHeader::Whole(header, next) => {
             let r = open(table, header.desks, header.screens, header.positions);
             let reply_number = number(r);
@@ -210,6 +221,7 @@ pub fn start(sheet: &[u8], table: &mut [u8], out: &mut [u8]) -> Filled
                 state: State {
                     offset: next,
                     index: 1,
+                    carried: no_desk,
                     tally: none,
                     finished: false,
                 },

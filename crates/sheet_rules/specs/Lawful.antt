@@ -1,12 +1,13 @@
 -- What every edition must satisfy: it reads back what it writes, and what it reads takes bytes and could be written.
 use Prim.Native.Nat.{ℕ, _+_, _≤_, _<_}
 use mathlib.Core.Path.{_≡_}
+use mathlib.Core.Bool.{true}
 use mathlib.Core.List.{List, _++_}
 use lib.ListN.{length, drop}
 use Rattle.rules.specs.Hall.{Hall}
 use Rattle.rules.specs.Numbers.{Parsed, maxNumber, parsed}
 use Rattle.sheet_rules.specs.Edition1.{NumberReader, encodeNumber}
-use Rattle.sheet_rules.specs.Sheet.{Carried, Edition, GoodRecord, Record, lastDesk, noDesk, openingNumber}
+use Rattle.sheet_rules.specs.Sheet.{Carried, Edition, GoodRecord, Record, isCode, lastDesk, noDesk, openingNumber}
 
 -- Bytes that stand in a sheet, from an offset up to the next.
 pub record Stands (bytes sheet : List ℕ) (at next : ℕ) : Type 0 where
@@ -34,6 +35,8 @@ pub record Lawful (edition : Edition) (maxSession : ℕ) : Type 0 where
       → ReadsBack (edition .decodeRecord carried) (edition .encodeRecord carried entry) entry
   pub record-moves : (carried : Carried) (sheet : List ℕ) (at : ℕ) (entry : Record) (next : ℕ)
       → edition .decodeRecord carried sheet at ≡ parsed entry next → Moved sheet at next
+  pub record-code : (carried : Carried) (sheet : List ℕ) (at : ℕ) (entry : Record) (next : ℕ)
+      → edition .decodeRecord carried sheet at ≡ parsed entry next → isCode (entry .code) ≡ true
   pub record-good : (carried : Carried) (sheet : List ℕ) (at : ℕ) (entry : Record) (next : ℕ) → CarriedHolds carried
       → edition .decodeRecord carried sheet at ≡ parsed entry next → GoodRecord maxSession entry
 

@@ -6,15 +6,14 @@ use borrow.Author.Needs.{needs}
 use Rattle.rules.specs.Numbers.{parsed, refusalOf, refused}
 use Rattle.lines.specs.laws.Longest.{line-length}
 use Rattle.reader.specs.Results.{recordOf, recordResult}
-use Rattle.sheet_rules.specs.Sheet.{decodeRecord}
-use Rattle.sheet.proofs.BatchLaws.{finished-progress, reading-stopped, record-progress, record-ran, sheet-ended}
+use Rattle.sheet.proofs.BatchLaws.{finished-progress, nextRecord, reading-stopped, record-progress, record-ran, sheet-ended}
 use Rattle.sheet.proofs.put_record.Statement.{statement}
 use Rattle.sheet.proofs.put_record.Tie as tie
 
 -- the record that was read
 record-read : (c : tie.After-known-told3) →
     let a = c .before .before .before .before .before .before .before .before .args in
-    decodeRecord (a .sheet .now) (a .state .offset) ≡ parsed (recordOf (c .before .entry .given .0 .0)) (c .before .entry .given .0 .1 .0)
+    nextRecord (a .sheet .now) (a .state) ≡ parsed (recordOf (c .before .entry .given .0 .0)) (c .before .entry .given .0 .1 .0)
 record-read c = sym (c .before .before .before .read-record .ensures) ∙ ap recordResult (c .before .entry .given .1)
 
 finish-requires : tie.Need-finish-requires
@@ -89,7 +88,7 @@ returns-2 c =
     let start = c .before .before .before .before .before .before .before .before .before .before .before .before .before in
     let last = c .before .before .stop .ensures in
     let code = c .before .before .before .before .before .before .code .given in
-    let read = sym (c .before .before .before .before .before .before .before .before .read-record .ensures) ∙ ap recordResult (code .1) ∙ ap (λ (n : ℕ). refused (refusalOf (code .0 .0) n)) (sym (c .before .before .before .refusal-number .ensures)) in
+    let read = sym (c .before .before .before .before .before .before .before .before .read-record .ensures) ∙ ap recordResult (code .1) ∙ ap (λ (n : ℕ). refused (refusalOf (code .0 .0) n (code .0 .1 .1 .0))) (sym (c .before .before .before .refusal-number .ensures)) in
     (reading-stopped (start .pre .0) (c .before .before .before .before .before .before .before .before .before .if1 .left) read (last .0) (last .1), finished-progress (last .1) (start .pre .1))
 
 same-length-3 : tie.Need-same-length-3

@@ -139,6 +139,7 @@ module _ (format : Format) (numbers : LawfulNumbers (format .readNumber)) where
       header-moves = header-parsed;
       record-read-back = λ carried. record-read-back;
       record-moves = λ carried sheet at entry next e. record-parsed sheet at entry next e .moved;
+      record-code = λ carried sheet at entry next e. record-parsed sheet at entry next e .good .code;
       record-good = λ carried sheet at entry next holds e. record-parsed sheet at entry next e .good;
     }
 

@@ -6,54 +6,22 @@ use mathlib.Core.Bool.{Bool, true, false, cond}
 use mathlib.Core.List.{List, _∷_, _++_, append-assoc}
 use mathlib.Core.Option.{none, some}
 use lib.ListN.{length}
-use lib.Dec.{eqb, leb, ltb}
+use lib.Dec.{eqb, ltb}
 use borrow.Author.Tests.{le-leb, ne-eqb}
 use Rattle.rules.specs.Hall.{Hall, hallLimits}
-use Rattle.rules.specs.Numbers.{Parsed, Refusal, maxNumber, parsed, refusalOf, refused}
+use Rattle.rules.specs.Numbers.{Parsed, parsed, refused}
 use Rattle.rules.specs.Steps.{Call, Event, Result, accept, run}
 use Rattle.rules.specs.Table.{openTable, openedTable, stepTable}
 use Rattle.rules.specs.laws.history.StepEffects.{in-range}
 use Rattle.rules.specs.laws.table.TableSteps.{accepted-open}
-use Rattle.sheet_rules.specs.Lawful.{CarriedHolds, Lawful}
+use Rattle.sheet_rules.specs.Lawful.{Lawful}
 use Rattle.sheet_rules.specs.Lines.{answerLine, endLine, endingLine, eventLines, line, linesFrom, linesOf, printed}
 use Rattle.sheet_rules.specs.Run.{callOf, callsIn, codeOf}
-use Rattle.sheet_rules.specs.Sheet.{Carried, Edition, FieldHolds, GoodRecord, Record, Records, afterHeader, bindRecords, carriedAfter, complete}
-use Rattle.sheet_rules.specs.Sheet.{decodeRecords, deskField, follows, isCode, lentTable, maxBytes, more, noDesk, opened, openedIf, openingNumber}
-use Rattle.sheet_rules.specs.Sheet.{reading, recordFor, stop, unopened}
+use Rattle.sheet_rules.specs.Sheet.{Carried, Edition, Record, Records, bindRecords, carriedAfter, complete, decodeRecords, isCode, lentTable, more}
+use Rattle.sheet_rules.specs.Sheet.{noDesk, opened, openingNumber, reading, recordFor, stop}
 use Rattle.sheet_rules.specs.Tally.{Tally, addStep, addSteps, countsIn, zeros}
+use Rattle.sheet_rules.specs.laws.Sheet.{opened-from}
 use Rattle.sheet_rules.specs.laws.Tally.{tally-from-zeros}
-
--- ---- What a reading that opened had before it.
-record Opened (edition : Edition) (sheet : List ℕ) (hall : Hall) (records : Records) : Type 0 where
-  accepted : openingNumber hall ≡ 0
-  next : ℕ
-  are : records ≡ decodeRecords edition (length sheet) noDesk sheet next
-
-unopened-not-opened : {reason : Refusal} {hall : Hall} {records : Records} → unopened reason ≡ opened hall records → ⊥
-unopened-not-opened e = let z : _≡_ {A = ℕ} 0 1 = cc in omega arith
-
-opened-from : (edition : Edition) (sheet : List ℕ) (hall : Hall) (records : Records) → reading edition sheet ≡ opened hall records
-    → Opened edition sheet hall records
-unfolding reading
-opened-from edition sheet hall records e = by-length (leb (length sheet) maxBytes) e
-  where
-    by-number : (found : Hall) (next n : ℕ) → openingNumber found ≡ n
-        → openedIf n found (decodeRecords edition (length sheet) noDesk sheet next) ≡ opened hall records
-        → Opened edition sheet hall records
-    by-number found next zero q opens =
-        let same : found ≡ hall = cc in
-        record { accepted = sym (ap openingNumber same) ∙ q; next = next; are = cc }
-    by-number found next (suc n) q opens = absurd (unopened-not-opened opens)
-
-    by-header : (found : Parsed Hall) → afterHeader edition sheet found ≡ opened hall records → Opened edition sheet hall records
-    by-header (parsed found next) opens = by-number found next (openingNumber found) refl opens
-    by-header (refused reason) opens = absurd (unopened-not-opened opens)
-
-    by-length : (short : Bool)
-        → cond short (afterHeader edition sheet (edition .decodeHeader sheet 0)) (unopened (refusalOf 0 18 0)) ≡ opened hall records
-        → Opened edition sheet hall records
-    by-length true opens = by-header (edition .decodeHeader sheet 0) opens
-    by-length false opens = absurd (unopened-not-opened opens)
 
 pub opening-accepted : (edition : Edition) (sheet : List ℕ) (hall : Hall) (records : Records) → reading edition sheet ≡ opened hall records
     → openTable hallLimits hall lentTable ≡ accept 0 (openedTable hall lentTable)
@@ -67,23 +35,15 @@ EachCode (stop reason) = Unit {0}
 EachCode (more entry rest) = (isCode (entry .code) ≡ true) × EachCode rest
 
 each-code : {edition : Edition} {maxSession : ℕ} → Lawful edition maxSession → (most : ℕ) (carried : Carried) (sheet : List ℕ) (at : ℕ)
-    → CarriedHolds carried
     → EachCode (decodeRecords edition most carried sheet at)
-each-code lawful zero carried sheet at holds = tt
-each-code {edition} {maxSession} lawful (suc most) carried sheet at holds =
-    by-offset (ltb at (length sheet)) (edition .decodeRecord carried sheet at) refl
-    (λ entry next good. each-code lawful most (carriedAfter entry) sheet next (holds-small (follows (entry .code) deskField) (entry .desk) (good .desk)))
+each-code lawful zero carried sheet at = tt
+each-code {edition} lawful (suc most) carried sheet at =
+    by-offset (ltb at (length sheet)) (edition .decodeRecord carried sheet at) refl (λ entry. each-code lawful most (carriedAfter entry) sheet)
   where
-    holds-small : (present : Bool) (value : ℕ) → FieldHolds present maxNumber value → value ≤ maxNumber
-    holds-small true value holds = holds
-    holds-small false value holds = omega arith
-
     by-offset : (inside : Bool) (found : Parsed Record) → edition .decodeRecord carried sheet at ≡ found
-        → ((entry : Record) (next : ℕ) → GoodRecord maxSession entry → EachCode (decodeRecords edition most (carriedAfter entry) sheet next))
+        → ((entry : Record) (next : ℕ) → EachCode (decodeRecords edition most (carriedAfter entry) sheet next))
         → EachCode (cond inside (bindRecords found (λ entry next. more entry (decodeRecords edition most (carriedAfter entry) sheet next))) complete)
-    by-offset true (parsed entry next) e later =
-        let good = lawful .record-good carried sheet at entry next holds e in
-        (good .code, later entry next good)
+    by-offset true (parsed entry next) e later = (lawful .record-code carried sheet at entry next e, later entry next)
     by-offset true (refused reason) e later = tt
     by-offset false found e later = tt
 
@@ -173,4 +133,4 @@ lines-of-run {edition} lawful sheet hall records e =
     codes : EachCode records
     codes =
         let was = opened-from edition sheet hall records e in
-        subst EachCode (sym (was .are)) (each-code lawful (length sheet) noDesk sheet (was .next) tt)
+        subst EachCode (sym (was .are)) (each-code lawful (length sheet) noDesk sheet (was .next))
