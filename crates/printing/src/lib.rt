@@ -6,7 +6,7 @@ ghost use mathlib.Core.Bool.{true};
 ghost use Prim.Native.Nat.{_≤_};
 ghost use lib.ListN.{length};
 ghost use Rattle.rules.specs.Bytes.{wordsOfBytes};
-ghost use Rattle.sheet.specs.Turn.{recordRoom, sheetTable};
+ghost use Rattle.sheet.specs.Batch.{recordRoom, sheetTable};
 ghost use Rattle.sheet_rules.specs.Sheet.{lentTable};
 
 // Standard output.

@@ -7,7 +7,7 @@ use mathlib.Core.List.{List, [], _∷_}
 use lib.ListN.{length, drop, getD, drop-of-length-le}
 use lib.Seq.{drop-cons}
 use borrow.Author.Tests.{lt-ltb, le-ltb}
-use Rattle.rules.specs.Numbers.{before, ended, groupsIn, number, refusal, stopped, withinLimit}
+use Rattle.rules.specs.Numbers.{decodeNumber, groupsIn, prepend, refusal, terminated, truncated, withinLimit}
 
 -- a byte that stands at an offset of a sheet
 pub record Byte (sheet : List ℕ) (at byte : ℕ) : Type 0 where
@@ -15,18 +15,18 @@ pub record Byte (sheet : List ℕ) (at byte : ℕ) : Type 0 where
   pub is : byte ≡ getD sheet at 0
 
 -- ---- The groups from an offset on: the sheet stops there, or its byte is the last, or another follows.
-groups-stop : (most : ℕ) (sheet : List ℕ) (at : ℕ) → length sheet ≤ at → groupsIn (suc most) (drop at sheet) ≡ stopped
+groups-stop : (most : ℕ) (sheet : List ℕ) (at : ℕ) → length sheet ≤ at → groupsIn (suc most) (drop at sheet) ≡ truncated
 groups-stop most sheet at past = ap (groupsIn (suc most)) (drop-of-length-le sheet past)
 
 module _ (most : ℕ) {sheet : List ℕ} {at byte : ℕ} (here : Byte sheet at byte) where
   from-here : drop at sheet ≡ byte ∷ drop (at + 1) sheet
   from-here = rw (here .is, add-one) (drop-cons sheet at 0 (here .inside))
 
-  groups-last : byte < 128 → groupsIn (suc most) (drop at sheet) ≡ ended (byte ∷ [])
+  groups-last : byte < 128 → groupsIn (suc most) (drop at sheet) ≡ terminated (byte ∷ [])
   groups-last last = ap (groupsIn (suc most)) from-here ∙ simp (lt-ltb byte 128 last)
 
   groups-more : (next : ℕ) → next ≡ at + 1 → 128 ≤ byte
-      → groupsIn (suc most) (drop at sheet) ≡ before (byte % 128) (groupsIn most (drop next sheet))
+      → groupsIn (suc most) (drop at sheet) ≡ prepend (byte % 128) (groupsIn most (drop next sheet))
   groups-more next is-next more = ap (groupsIn (suc most)) from-here ∙ simp (le-ltb byte 128 more, is-next)
 
 -- the last group is the highest
@@ -34,41 +34,41 @@ last-group : (group : ℕ) → group + 128 * 0 ≡ group
 last-group group = omega arith
 
 -- ---- No byte stands there.
-pub none-there : (limit : ℕ) (sheet : List ℕ) (at : ℕ) → length sheet ≤ at → number limit sheet at ≡ refusal 0 15
-unfolding number
+pub none-there : (limit : ℕ) (sheet : List ℕ) (at : ℕ) → length sheet ≤ at → decodeNumber limit sheet at ≡ refusal 0 15 at
+unfolding decodeNumber
 none-there limit sheet at past = simp (groups-stop 2 sheet at past)
 
 -- ---- A first byte stands there.
 module _ (limit : ℕ) {sheet : List ℕ} {at first : ℕ} (one : Byte sheet at first) where
-  pub one-ends : first < 128 → number limit sheet at ≡ withinLimit limit first (at + 1)
-  unfolding number
+  pub one-ends : first < 128 → decodeNumber limit sheet at ≡ withinLimit limit at first (at + 1)
+  unfolding decodeNumber
   one-ends last = simp (groups-last 2 one last, last-group)
 
-  pub one-only : 128 ≤ first → length sheet ≤ at + 1 → number limit sheet at ≡ refusal 0 15
-  unfolding number
+  pub one-only : 128 ≤ first → length sheet ≤ at + 1 → decodeNumber limit sheet at ≡ refusal 0 15 at
+  unfolding decodeNumber
   one-only more past = simp (groups-more 2 one (at + 1) refl more, groups-stop 1 sheet (at + 1) past)
 
   -- ---- And a second.
   module _ (more : 128 ≤ first) {second : ℕ} (two : Byte sheet (at + 1) second) where
-    pub two-end : second < 128 → number limit sheet at ≡ withinLimit limit (first % 128 + 128 * second) (at + 2)
-    unfolding number
+    pub two-end : second < 128 → decodeNumber limit sheet at ≡ withinLimit limit at (first % 128 + 128 * second) (at + 2)
+    unfolding decodeNumber
     two-end last = simp (groups-more 2 one (at + 1) refl more, groups-last 1 two last, last-group)
 
-    pub two-only : 128 ≤ second → length sheet ≤ at + 2 → number limit sheet at ≡ refusal 0 15
-    unfolding number
+    pub two-only : 128 ≤ second → length sheet ≤ at + 2 → decodeNumber limit sheet at ≡ refusal 0 15 at
+    unfolding decodeNumber
     two-only more₂ past =
         simp (groups-more 2 one (at + 1) refl more, groups-more 1 two (at + 2) (omega arith) more₂, groups-stop 0 sheet (at + 2) past)
 
     -- ---- And a third, the last that is looked at.
     module _ (more₂ : 128 ≤ second) {third : ℕ} (three : Byte sheet (at + 2) third) where
       pub three-end : third < 128
-          → number limit sheet at ≡ withinLimit limit (first % 128 + 128 * (second % 128 + 128 * third)) (at + 3)
-      unfolding number
+          → decodeNumber limit sheet at ≡ withinLimit limit at (first % 128 + 128 * (second % 128 + 128 * third)) (at + 3)
+      unfolding decodeNumber
       three-end last =
           simp (groups-more 2 one (at + 1) refl more, groups-more 1 two (at + 2) (omega arith) more₂, groups-last 0 three last, last-group)
 
-      pub three-go-on : 128 ≤ third → number limit sheet at ≡ refusal 0 16
-      unfolding number
+      pub three-go-on : 128 ≤ third → decodeNumber limit sheet at ≡ refusal 0 16 at
+      unfolding decodeNumber
       three-go-on more₃ =
           simp
           (groups-more 2 one (at + 1) refl more, groups-more 1 two (at + 2) (omega arith) more₂, groups-more 0 three (at + 3) (omega arith) more₃)

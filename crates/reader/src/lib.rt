@@ -1,8 +1,9 @@
 ghost use mathlib.Core.Path.{_≡_};
 ghost use Prim.Native.Nat.{_≤_, _<_};
-ghost use Rattle.rules.specs.Numbers.{maxNumber, number, withinLimit};
-ghost use Rattle.sheet_rules.specs.Sheet.{fieldAt, fieldsAt, follows as followsCode, headerAt, recordAt, withCode};
-ghost use Rattle.reader.specs.Results.{numberOf, headerResult, numberResult, recordResult};
+ghost use Rattle.rules.specs.Numbers.{decodeNumber, withinLimit};
+ghost use Rattle.sheet_rules.specs.Edition1.{decodeField, decodeFields, decodeHeader, decodeRest, edition1, withCode};
+ghost use Rattle.sheet_rules.specs.Sheet.{follows as followsCode};
+ghost use Rattle.reader.specs.Results.{carriedOf, formatOf, headerResult, numberOf, numberResult, recordResult};
 
 // Why a number is refused.
 pub enum Fault {
@@ -22,21 +23,21 @@ pub fn refusal_number(fault: Fault) -> u16
     }
 }
 
-// A number of a sheet and the offset after it, or why it is refused.
+// A number of a sheet and the offset after it, or why it is refused and the offset of its first byte.
 pub enum Number {
     Value(u16, usize),
-    Refused(Fault),
+    Refused(Fault, usize),
 }
 
 // The largest number of a sheet.
 const MAX_NUMBER: u16 = 65535;
 
 // A number that has ended, if it is at most the limit.
-fn within_limit(value: u32, next: usize, limit: u16) -> Number
-    ensures { λ r. ⌜ numberResult r ≡ withinLimit limit value next ⌝ }
+fn within_limit(value: u32, at: usize, next: usize, limit: u16) -> Number
+    ensures { λ r. ⌜ numberResult r ≡ withinLimit limit at value next ⌝ }
 {
     if (limit as u32) < value {
-        return Number::Refused(Fault::TooLarge);
+        return Number::Refused(Fault::TooLarge, at);
     }
     Number::Value(value as u16, next)
 }
@@ -50,38 +51,39 @@ fn wide(byte: u8) -> u32
 
 // The number at an offset: groups of seven bits, lowest first; the top bit of a byte (128) says another follows.
 pub fn read_number(sheet: &[u8], at: usize, limit: u16) -> Number
-    ensures { λ r. ⌜ numberResult r ≡ number limit (now (sheet .entry)) at ⌝ }
+    ensures { λ r. ⌜ numberResult r ≡ decodeNumber limit (now (sheet .entry)) at ⌝ }
 {
     if sheet.len() <= at {
-        return Number::Refused(Fault::Ends);
+        return Number::Refused(Fault::Ends, at);
     }
     let first = wide(sheet[at]);
     if first < 128 {
-        return within_limit(first, at + 1, limit);
+        return within_limit(first, at, at + 1, limit);
     }
     if sheet.len() <= at + 1 {
-        return Number::Refused(Fault::Ends);
+        return Number::Refused(Fault::Ends, at);
     }
     let second = wide(sheet[at + 1]);
     if second < 128 {
-        return within_limit(first % 128 + 128 * second, at + 2, limit);
+        return within_limit(first % 128 + 128 * second, at, at + 2, limit);
     }
     if sheet.len() <= at + 2 {
-        return Number::Refused(Fault::Ends);
+        return Number::Refused(Fault::Ends, at);
     }
     let third = wide(sheet[at + 2]);
     if third < 128 {
         return within_limit(
             first % 128 + 128 * (second % 128 + 128 * third),
+            at,
             at + 3,
             limit,
         );
     }
-    Number::Refused(Fault::TooLarge)
+    Number::Refused(Fault::TooLarge, at)
 }
 
 // Which fields follow each code: a row for take, drop, swap, retire and collect; a column for desk, screen, position and session.
-const FOLLOWS: [u8; 20] = [1, 1, 1, 0, 1, 1, 0, 0, 1, 0, 1, 1, 1, 0, 0, 0, 1, 0, 0, 0];
+const FIELDS: [u8; 20] = [1, 1, 1, 0, 1, 1, 0, 0, 1, 0, 1, 1, 1, 0, 0, 0, 1, 0, 0, 0];
 
 const DESK: usize = 0;
 
@@ -97,16 +99,17 @@ fn follows(code: u16, field: usize) -> bool
     requires { ⌜ (1 ≤ code) × (code ≤ 5) × (field < 4) ⌝ }
     ensures { λ r. ⌜ r ≡ followsCode code field ⌝ }
 {
-    FOLLOWS[(code as usize - 1) * 4 + field] == 1
+    FIELDS[(code as usize - 1) * 4 + field] == 1
 }
 
 // A field that follows its code is read; one that does not is 0 and takes no byte.
-fn read_field(sheet: &[u8], at: usize, code: u16, field: usize) -> Number
+// It requires one of the five codes, as `follows` does.
+fn read_field(sheet: &[u8], at: usize, code: u16, field: usize, limit: u16) -> Number
     requires { ⌜ (1 ≤ code) × (code ≤ 5) × (field < 4) ⌝ }
-    ensures { λ r. ⌜ numberResult r ≡ fieldAt (followsCode code field) maxNumber (now (sheet .entry)) at ⌝ }
+    ensures { λ r. ⌜ numberResult r ≡ decodeField decodeNumber (followsCode code field) limit (now (sheet .entry)) at ⌝ }
 {
     if follows(code, field) {
-        return read_number(sheet, at, MAX_NUMBER);
+        return read_number(sheet, at, limit);
     }
     Number::Value(0, at)
 }
@@ -120,68 +123,99 @@ pub struct Record {
     pub session: u16,
 }
 
+// What readers of one edition may differ in.
+pub struct Format {
+    // The largest session.
+    pub max_session: u16,
+}
+
+impl Format {
+    // The hall's.
+    pub const HALL: Format = Format {
+        max_session: MAX_NUMBER,
+    };
+}
+
+// What a record leaves for the next: its desk. Before the first record there is none.
+pub enum Carried {
+    NoDesk,
+    LastDesk(u16),
+}
+
 // A record and the offset after it, or what ends the reading.
-pub enum Entry {
+pub enum ParsedRecord {
     Whole(Record, usize),
-    // A number is refused: the code that its line shows, 0 where the code itself was not read.
-    Refused(u16, Fault),
+    // A number is refused: the code that its line shows, 0 where the code itself was not read; why; the offset of its first byte.
+    Refused(u16, Fault, usize),
     // 17: there is no such code.
     NoCode(u16),
 }
 
-// The fields of a record whose code was read.
-fn read_fields(sheet: &[u8], at: usize, code: u16) -> Entry
+// The fields after the desk.
+// It requires one of the five codes, as `follows` does.
+fn read_rest(sheet: &[u8], at: usize, format: Format, code: u16, desk: u16) -> ParsedRecord
     requires { ⌜ (1 ≤ code) × (code ≤ 5) ⌝ }
-    ensures { λ r. ⌜ recordResult r ≡ withCode code (fieldsAt code (now (sheet .entry)) at) ⌝ }
+    ensures { λ r. ⌜ recordResult r ≡ withCode code (decodeRest (formatOf format) code desk (now (sheet .entry)) at) ⌝ }
 {
-    match read_field(sheet, at, code, DESK) {
-        Number::Refused(fault) => Entry::Refused(code, fault),
-        Number::Value(desk, after_desk) => match read_field(sheet, after_desk, code, SCREEN) {
-            Number::Refused(fault) => Entry::Refused(code, fault),
-            Number::Value(screen, after_screen) => match read_field(
+    match read_field(sheet, at, code, SCREEN, MAX_NUMBER) {
+        Number::Refused(fault, first) => ParsedRecord::Refused(code, fault, first),
+        Number::Value(screen, after_screen) => match read_field(
+            sheet,
+            after_screen,
+            code,
+            POSITION,
+            MAX_NUMBER,
+        ) {
+            Number::Refused(fault, first) => ParsedRecord::Refused(code, fault, first),
+            Number::Value(position, after_position) => match read_field(
                 sheet,
-                after_screen,
+                after_position,
                 code,
-                POSITION,
+                SESSION,
+                format.max_session,
             ) {
-                Number::Refused(fault) => Entry::Refused(code, fault),
-                Number::Value(position, after_position) => match read_field(
-                    sheet,
-                    after_position,
-                    code,
-                    SESSION,
-                ) {
-                    Number::Refused(fault) => Entry::Refused(code, fault),
-                    Number::Value(session, next) => Entry::Whole(
-                        Record {
-                            code: code,
-                            desk: desk,
-                            screen: screen,
-                            position: position,
-                            session: session,
-                        },
-                        next,
-                    ),
-                },
+                Number::Refused(fault, first) => ParsedRecord::Refused(code, fault, first),
+                Number::Value(session, next) => ParsedRecord::Whole(
+                    Record {
+                        code: code,
+                        desk: desk,
+                        screen: screen,
+                        position: position,
+                        session: session,
+                    },
+                    next,
+                ),
             },
         },
     }
 }
 
-// The record at an offset: its code, and then its fields.
-pub fn read_record(sheet: &[u8], at: usize) -> Entry
-    ensures { λ r. ⌜ recordResult r ≡ recordAt (now (sheet .entry)) at ⌝ }
+// The fields of a record whose code was read.
+// It requires one of the five codes, as `follows` does.
+fn read_fields(sheet: &[u8], at: usize, format: Format, code: u16) -> ParsedRecord
+    requires { ⌜ (1 ≤ code) × (code ≤ 5) ⌝ }
+    ensures { λ r. ⌜ recordResult r ≡ withCode code (decodeFields (formatOf format) code (now (sheet .entry)) at) ⌝ }
+{
+    match read_field(sheet, at, code, DESK, MAX_NUMBER) {
+        Number::Refused(fault, first) => ParsedRecord::Refused(code, fault, first),
+        Number::Value(desk, after_desk) => read_rest(sheet, after_desk, format, code, desk),
+    }
+}
+
+// The record at an offset, given what the record before left: its code, and then its fields.
+pub fn read_record(sheet: &[u8], at: usize, format: Format, carried: Carried) -> ParsedRecord
+    ensures { λ r. ⌜ recordResult r ≡ edition1 (formatOf format) .decodeRecord (carriedOf carried) (now (sheet .entry)) at ⌝ }
 {
     match read_number(sheet, at, MAX_NUMBER) {
-        Number::Refused(fault) => Entry::Refused(0, fault),
+        Number::Refused(fault, first) => ParsedRecord::Refused(0, fault, first),
         Number::Value(code, after_code) => {
             if code < 1 {
-                return Entry::NoCode(code);
+                return ParsedRecord::NoCode(code);
             }
             if 5 < code {
-                return Entry::NoCode(code);
+                return ParsedRecord::NoCode(code);
             }
-            read_fields(sheet, after_code, code)
+            read_fields(sheet, after_code, format, code)
         }
     }
 }
@@ -193,27 +227,27 @@ pub struct Header {
     pub positions: u16,
 }
 
-// The header and the offset after it, or why one of its numbers is refused.
-pub enum Head {
+// The header and the offset after it, or why one of its numbers is refused and the offset of its first byte.
+pub enum ParsedHeader {
     Whole(Header, usize),
-    Refused(Fault),
+    Refused(Fault, usize),
 }
 
 // The header at an offset.
-pub fn read_header(sheet: &[u8], at: usize) -> Head
-    ensures { λ r. ⌜ headerResult r ≡ headerAt (now (sheet .entry)) at ⌝ }
+pub fn read_header(sheet: &[u8], at: usize) -> ParsedHeader
+    ensures { λ r. ⌜ headerResult r ≡ decodeHeader decodeNumber (now (sheet .entry)) at ⌝ }
 {
     match read_number(sheet, at, MAX_NUMBER) {
-        Number::Refused(fault) => Head::Refused(fault),
+        Number::Refused(fault, first) => ParsedHeader::Refused(fault, first),
         Number::Value(desks, after_desks) => match read_number(sheet, after_desks, MAX_NUMBER) {
-            Number::Refused(fault) => Head::Refused(fault),
+            Number::Refused(fault, first) => ParsedHeader::Refused(fault, first),
             Number::Value(screens, after_screens) => match read_number(
                 sheet,
                 after_screens,
                 MAX_NUMBER,
             ) {
-                Number::Refused(fault) => Head::Refused(fault),
-                Number::Value(positions, next) => Head::Whole(
+                Number::Refused(fault, first) => ParsedHeader::Refused(fault, first),
+                Number::Value(positions, next) => ParsedHeader::Whole(
                     Header {
                         desks: desks,
                         screens: screens,

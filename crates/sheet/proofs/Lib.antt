@@ -1,4 +1,4 @@
 -- Laws that several proofs cite.
 pub mod CallLaws
-pub mod TurnLaws
+pub mod BatchLaws
 pub mod StartLaws

@@ -6,30 +6,33 @@ use mathlib.Core.Bool.{false}
 use mathlib.Core.List.{List, _++_, append-nil}
 use lib.ListN.{length}
 use Rattle.rules.specs.Hall.{Hall, hallLimits}
-use Rattle.rules.specs.Numbers.{got, refusalOf}
+use Rattle.rules.specs.Numbers.{parsed, refusalOf}
 use Rattle.rules.specs.Steps.{Answer, Result, decide}
 use Rattle.rules.specs.Table.{openTable, openedTable}
 use Rattle.lines.specs.Put.{Put}
 use Rattle.reply.specs.Answer.{answerOf, tableResult}
+use Rattle.sheet_rules.specs.Edition1.{hallEdition}
 use Rattle.sheet_rules.specs.Lines.{answerLine, endLine, line, linesFrom, linesOf, printed}
-use Rattle.sheet_rules.specs.Sheet.{headerAt, lentTable, maxBytes, opened, openedIf, openingNumber, reading, recordsAt, unopened}
+use Rattle.sheet_rules.specs.Sheet.{lentTable, maxBytes, opened, openedIf, openingNumber, reading, unopened}
+use Rattle.sheet_rules.specs.SheetTheorems.{hall-edition-lawful}
 use Rattle.sheet_rules.specs.Tally.{zeros}
-use Rattle.sheet_rules.specs.laws.Sheet.{header-got, opening-answer, short-enough}
-use Rattle.sheet.specs.Turn.{Started, callsOf, finishedAt, startTable}
+use Rattle.sheet_rules.specs.laws.Sheet.{opening-answer, short-enough}
+use Rattle.sheet.specs.Batch.{Started, callsOf, finishedAt, remainingRecords, startTable}
+use Rattle.reader.specs.declared.Carried.the-variants.{NoDesk}
 use Rattle.reply.specs.declared.Reply.{Reply}
 use Rattle.tally.specs.declared.Tally.{Tally}
 use Rattle.sheet.specs.declared.State.{State}
-use Rattle.sheet.proofs.TurnLaws.{put-first, put-rest, put-within}
+use Rattle.sheet.proofs.BatchLaws.{put-first, put-rest, put-within}
 
 -- before anything is read, and at the first record
 abbrev noTally : Tally
 noTally = record { accepted = 0; refused = 0; «handed_back» = 0 }
 
 abbrev atHeader : State
-atHeader = record { offset = 0; index = 0; tally = noTally; finished = false }
+atHeader = record { offset = 0; index = 0; carried = NoDesk; tally = noTally; finished = false }
 
 abbrev atFirst : ℕ → State
-atFirst next = record { offset = next; index = 1; tally = noTally; finished = false }
+atFirst next = record { offset = next; index = 1; carried = NoDesk; tally = noTally; finished = false }
 
 -- the reading of a sheet whose header was read, by the number that the board replied to the opening
 opening-number : (hall : Hall) (reply : Reply) (after : List ℕ) {number : ℕ} → tableResult reply after ≡ openTable hallLimits hall lentTable
@@ -38,21 +41,21 @@ opening-number : (hall : Hall) (reply : Reply) (after : List ℕ) {number : ℕ}
 opening-number hall reply after tells is-number =
     sym (ap (λ (answer : Answer). answer .number) (opening-answer hall)) ∙ sym (ap (λ (done : Result (List ℕ)). done .answer .number) tells) ∙ sym is-number
 
-reads-by : (sheet : List ℕ) {hall : Hall} {next number : ℕ} → length sheet ≤ maxBytes → headerAt sheet 0 ≡ got hall next
+reads-by : (sheet : List ℕ) {hall : Hall} {next number : ℕ} → length sheet ≤ maxBytes → hallEdition .decodeHeader sheet 0 ≡ parsed hall next
     → openingNumber hall ≡ number
-    → reading sheet ≡ openedIf number hall (recordsAt (length sheet) sheet next)
+    → reading hallEdition sheet ≡ openedIf number hall (remainingRecords sheet (atFirst next))
 reads-by sheet {hall} {next} short read opening =
-    short-enough sheet short read ∙ ap (λ (n : ℕ). openedIf n hall (recordsAt (length sheet) sheet next)) opening
+    short-enough hallEdition sheet short read ∙ ap (λ (n : ℕ). openedIf n hall (remainingRecords sheet (atFirst next))) opening
 
 module _ {sheet out outAfter : List ℕ} {end : ℕ} where
   -- The reading ended before a record: the header's line and the last line are all there is.
-  pub started-stopped : {number : ℕ} {after : List ℕ} {is : State} → reading sheet ≡ unopened (refusalOf 0 number) → after ≡ lentTable
+  pub started-stopped : {number offset : ℕ} {after : List ℕ} {is : State} → reading hallEdition sheet ≡ unopened (refusalOf 0 number offset) → after ≡ lentTable
       → Put out outAfter 0 (line 0 0 number 0 ++ endLine zeros) end → is ≡ finishedAt atHeader
       → Started sheet out is after outAfter end
   unfolding printed
   started-stopped reads same put finished = rw finished (record {
     within = put-within put;
-    lines = append-nil _ ∙ put-first put ∙ sym (ap linesOf reads);
+    output = append-nil _ ∙ put-first put ∙ sym (ap linesOf reads);
     run = sym (ap callsOf reads);
     table = same ∙ sym (ap startTable reads);
     rest = put-rest put;
@@ -61,7 +64,7 @@ module _ {sheet out outAfter : List ℕ} {end : ℕ} where
 
   -- The header was read, and the board replied to the opening.
   module _ (reply : Reply) {hall : Hall} {next : ℕ} {after : List ℕ} {number : ℕ} (short : length sheet ≤ maxBytes)
-      (read : headerAt sheet 0 ≡ got hall next) (tells : tableResult reply after ≡ openTable hallLimits hall lentTable) (is-number : number ≡ answerOf reply .number) where
+      (read : hallEdition .decodeHeader sheet 0 ≡ parsed hall next) (tells : tableResult reply after ≡ openTable hallLimits hall lentTable) (is-number : number ≡ answerOf reply .number) where
     pub started-refused : {is : State} → (number ≡ 0 → ⊥) → Put out outAfter 0 (line 0 0 number 0 ++ endLine zeros) end → is ≡ finishedAt atHeader
         → Started sheet out is after outAfter end
     unfolding openTable openingNumber
@@ -73,7 +76,7 @@ module _ {sheet out outAfter : List ℕ} {end : ℕ} where
         opening = opening-number hall reply after tells is-number
 
         by-number : (n : ℕ) → (n ≡ 0 → ⊥)
-            → (openedIf n hall (recordsAt (length sheet) sheet next) ≡ unopened (refusalOf 0 n)) × (decide n lentTable 0 (openedTable hall lentTable) .after ≡ lentTable)
+            → (openedIf n hall (remainingRecords sheet (atFirst next)) ≡ unopened (refusalOf 0 n 0)) × (decide n lentTable 0 (openedTable hall lentTable) .after ≡ lentTable)
         by-number zero some = absurd (some refl)
         by-number (suc n) some = (refl, refl)
 
@@ -81,20 +84,20 @@ module _ {sheet out outAfter : List ℕ} {end : ℕ} where
     unfolding printed
     started-opened none put = record {
       within = put-within put;
-      lines =
-          (λ i. put-first put i ++ linesFrom (leaves i) 1 zeros (recordsAt (length sheet) sheet next))
-          ∙ ap (λ (answer : Answer). answerLine 0 0 answer ++ linesFrom (openTable hallLimits hall lentTable .after) 1 zeros (recordsAt (length sheet) sheet next)) (sym answers)
+      output =
+          (λ i. put-first put i ++ linesFrom (leaves i) 1 zeros (remainingRecords sheet (atFirst next)))
+          ∙ ap (λ (answer : Answer). answerLine 0 0 answer ++ linesFrom (openTable hallLimits hall lentTable .after) 1 zeros (remainingRecords sheet (atFirst next))) (sym answers)
           ∙ sym (ap linesOf reads);
       run = sym (ap callsOf reads);
       table = leaves ∙ sym (ap startTable reads);
       rest = put-rest put;
-      numbered = omega (arith, header-got sheet 0 hall next read .past);
+      numbered = omega (arith, hall-edition-lawful .header-moves sheet 0 hall next read .past);
     }
       where
         opening : openingNumber hall ≡ 0
         opening = opening-number hall reply after tells is-number ∙ none
 
-        reads : reading sheet ≡ opened hall (recordsAt (length sheet) sheet next)
+        reads : reading hallEdition sheet ≡ opened hall (remainingRecords sheet (atFirst next))
         reads = reads-by sheet short read opening
 
         leaves : after ≡ openTable hallLimits hall lentTable .after

@@ -1,29 +1,31 @@
--- The theorems about a whole sheet: `start`, and then `fill` again and again, each finding the state and the table as the last left them.
+-- The theorems about a whole sheet: `start`, and then `fill` until the state is finished, each from the state and the table that the last one left.
 use Prim.Native.Nat.{ℕ, suc, _≤_}
 use mathlib.Core.Path.{_≡_, sym, ap, _∙_}
 use mathlib.Core.Bool.{true}
 use mathlib.Core.List.{List, _++_}
 use lib.ListN.{length, take}
 use native.Mathlib.Omega.{arith}
+use Rattle.sheet_rules.specs.Edition1.{hallEdition}
 use Rattle.sheet_rules.specs.Lines.{printed}
-use Rattle.sheet.specs.Turn.{Left, Started, Turns, bytesOf, lastState, lastTable, sheetTable}
-use Rattle.sheet.specs.laws.Turns.{all-printed, left-at-most, table-at-end, table-at-start, table-kept, turns-few, turns-piece}
+use Rattle.sheet.specs.Batch.{BatchResult, Batches, Started, bytesOf, lastState, lastTable, sheetTable}
+use Rattle.sheet.specs.laws.Batches.{batches-bounded, batches-emitted, batches-left-bounded, emitted-all, final-table-at-end, final-table-at-start}
+use Rattle.sheet.specs.laws.Batches.{final-table-kept}
 use Rattle.sheet.specs.declared.State.{State}
 
 module _ (sheet out : List ℕ) (first : State) (table outAfter : List ℕ) (put : ℕ) (started : Started sheet out first table outAfter put)
-    (turns : List Left) (each : Turns sheet first table turns) where
-  -- Once they are finished, they have printed exactly what the rules print of the sheet.
-  pub whole-sheet : lastState first turns .finished ≡ true → take put outAfter ++ bytesOf turns ≡ printed sheet
+    (batches : List BatchResult) (each : Batches sheet first table batches) where
+  -- Once the state is finished, the batches are exactly what the rules print of the sheet.
+  pub whole-sheet : lastState first batches .finished ≡ true → take put outAfter ++ bytesOf batches ≡ printed hallEdition sheet
   whole-sheet finished =
-      ap (λ (rest : List ℕ). take put outAfter ++ rest) (all-printed (turns-piece sheet first table turns each) finished) ∙ started .lines
+      ap (λ (rest : List ℕ). take put outAfter ++ rest) (emitted-all (batches-emitted sheet first table batches each) finished) ∙ started .output
 
-  -- And the table is as the sheet's steps leave it.
-  pub whole-table : lastState first turns .finished ≡ true → lastTable table turns ≡ sheetTable sheet
+  -- And the table is as the sheet's calls leave it.
+  pub whole-table : lastState first batches .finished ≡ true → lastTable table batches ≡ sheetTable sheet
   whole-table finished =
-      sym (table-at-end sheet (lastState first turns) (lastTable table turns) finished)
-      ∙ table-kept (turns-piece sheet first table turns each)
-      ∙ table-at-start started
+      sym (final-table-at-end sheet (lastState first batches) (lastTable table batches) finished)
+      ∙ final-table-kept (batches-emitted sheet first table batches each)
+      ∙ final-table-at-start started
 
-  -- There are at most as many turns as the sheet has bytes, and one.
-  pub turns-end : length turns ≤ suc (length sheet)
-  turns-end = omega (arith, turns-few sheet first table turns each, left-at-most sheet first)
+  -- There are at most as many batches as the sheet has bytes, and one.
+  pub batches-end : length batches ≤ suc (length sheet)
+  batches-end = omega (arith, batches-bounded sheet first table batches each, batches-left-bounded sheet first)

@@ -6,8 +6,10 @@ use board::swap;
 use board::take;
 use lines::put_end;
 use lines::put_line;
-use reader::Entry;
-use reader::Head;
+use reader::Carried;
+use reader::Format;
+use reader::ParsedHeader;
+use reader::ParsedRecord;
 use reader::Record;
 use reader::read_header;
 use reader::read_record;
@@ -16,7 +18,7 @@ use reply::Reply;
 use reply::number;
 use reply::session;
 use tally::Tally;
-use tally::tallied;
+use tally::add_step_lent;
 ghost use mathlib.Core.Path.{_≡_};
 ghost use mathlib.Core.Bool.{false};
 ghost use mathlib.Core.List.{_++_};
@@ -25,11 +27,11 @@ ghost use lib.ListN.{length};
 ghost use Rattle.rules.specs.Bytes.{wordsOfBytes};
 ghost use Rattle.lines.specs.Put.{Put};
 ghost use Rattle.reader.specs.Results.{recordOf};
-ghost use Rattle.board.specs.Results.{Stepped};
 ghost use Rattle.sheet_rules.specs.Lines.{endLine, line};
-ghost use Rattle.sheet_rules.specs.Sheet.{callOf, lentTable};
-ghost use Rattle.tally.specs.Count.{tallyIs};
-ghost use Rattle.sheet.specs.Turn.{Filling, Onward, Started, Turn, endRoom, finishedAt, recordRoom};
+ghost use Rattle.sheet_rules.specs.Sheet.{lentTable};
+ghost use Rattle.tally.specs.Counts.{toTally};
+ghost use Rattle.sheet.specs.Batch.{Batch, PartialBatch, Progress, Started, endRoom, finishedAt, recordRoom};
+ghost use Rattle.sheet.specs.Run.{Ran};
 
 // The most bytes of a sheet.
 const MAX_BYTES: usize = 65536;
@@ -40,27 +42,28 @@ const TOO_LONG: u16 = 18;
 // The reply number of a code that is no step's.
 const NO_CODE: u16 = 17;
 
-// The bytes that a turn may need for one record: the longest line, and then the longest last line.
+// The most bytes of a record's line and the last line.
 const ROOM: usize = 84 + 67;
 
-// Where the program stands in a sheet: the offset and the number of the next record, the tally so far, and whether the last
-// line is printed.
+// A position in a sheet: the offset and the number of the next record, what the last record left for it, the tally so far, and whether
+// the last line is put.
 pub struct State {
     pub offset: usize,
     pub index: u64,
+    pub carried: Carried,
     pub tally: Tally,
     pub finished: bool,
 }
 
-// What a turn leaves: the state after it, and how many bytes of the buffer are to be printed.
+// A batch: the state after it, and how many bytes of the buffer it is.
 pub struct Filled {
     pub state: State,
     pub put: usize,
 }
 
-// The step that a record asks for. (Its code is 1 to 5: the reader keeps the others out.)
+// Runs the step that a record asks for. A code outside 1 to 5 is answered 17, and nothing is written.
 pub fn run_record(table: &mut [u8], entry: Record) -> Reply
-    ensures { λ r. ⌜ Stepped (callOf (recordOf entry)) (now (table .entry)) r (now (table .exit)) ⌝ }
+    ensures { λ r. ⌜ Ran (recordOf entry) (now (table .entry)) r (now (table .exit)) ⌝ }
 {
     let code = entry.code;
     match code {
@@ -68,7 +71,8 @@ pub fn run_record(table: &mut [u8], entry: Record) -> Reply
         2 => drop(table, entry.desk, entry.screen),
         3 => swap(table, entry.desk, entry.position, entry.session),
         4 => retire(table, entry.desk),
-        0 | 5..=65535 => collect(table, entry.desk),
+        5 => collect(table, entry.desk),
+        0 | 6..=65535 => Reply::NoCode,
     }
 }
 
@@ -76,9 +80,10 @@ pub fn run_record(table: &mut [u8], entry: Record) -> Reply
 // It requires room for it: its callers have kept so much.
 fn finish(out: &mut [u8], at: usize, state: State) -> Filled
     requires { ⌜ at + endRoom ≤ length (now out) ⌝ }
-    ensures bytes { λ r. ⌜ Put (now (out .entry)) (now (out .exit)) at (endLine (tallyIs (state .tally))) (r .put) ⌝ }
+    ensures bytes { λ r. ⌜ Put (now (out .entry)) (now (out .exit)) at (endLine (toTally (state .tally))) (r .put) ⌝ }
     ensures state { λ r. ⌜ r .state ≡ finishedAt state ⌝ }
 {
+    let carried = state.carried;
     let tally = state.tally;
     let end = put_end(
         out,
@@ -91,6 +96,7 @@ fn finish(out: &mut [u8], at: usize, state: State) -> Filled
         state: State {
             offset: state.offset,
             index: state.index,
+            carried: carried,
             tally: tally,
             finished: true,
         },
@@ -102,7 +108,7 @@ fn finish(out: &mut [u8], at: usize, state: State) -> Filled
 // It requires room for both: its callers have kept so much.
 fn stop(out: &mut [u8], at: usize, state: State, code: u16, reason: u16) -> Filled
     requires { ⌜ at + recordRoom ≤ length (now out) ⌝ }
-    ensures bytes { λ r. ⌜ Put (now (out .entry)) (now (out .exit)) at (line (state .index) code reason 0 ++ endLine (tallyIs (state .tally))) (r .put) ⌝ }
+    ensures bytes { λ r. ⌜ Put (now (out .entry)) (now (out .exit)) at (line (state .index) code reason 0 ++ endLine (toTally (state .tally))) (r .put) ⌝ }
     ensures state { λ r. ⌜ r .state ≡ finishedAt state ⌝ }
 {
     let next = put_line(out, at, state.index, code as u64, reason as u64, 0);
@@ -113,17 +119,18 @@ fn stop(out: &mut [u8], at: usize, state: State, code: u16, reason: u16) -> Fill
 // It requires room for a line and the last line, and a record number that is at most the offset.
 fn put_record(sheet: &[u8], state: State, table: &mut [u8], out: &mut [u8], at: usize) -> Filled
     requires { ⌜ (state .finished ≡ false) × (state .index ≤ state .offset) × (at + recordRoom ≤ length (now out)) ⌝ }
-    ensures filling { λ r. ⌜ Filling (now (sheet .entry)) state (wordsOfBytes (now (table .entry))) (now (out .entry)) at (r .state) (wordsOfBytes (now (table .exit))) (now (out .exit)) (r .put) ⌝ }
-    ensures onward { λ r. ⌜ Onward (now (sheet .entry)) state (r .state) ⌝ }
+    ensures partial { λ r. ⌜ PartialBatch (now (sheet .entry)) state (wordsOfBytes (now (table .entry))) (now (out .entry)) at (r .state) (wordsOfBytes (now (table .exit))) (now (out .exit)) (r .put) ⌝ }
+    ensures progress { λ r. ⌜ Progress (now (sheet .entry)) state (r .state) ⌝ }
 {
     let offset = state.offset;
     if sheet.len() <= offset {
         return finish(out, at, state);
     }
-    match read_record(sheet, offset) {
-        Entry::Refused(code, fault) => stop(out, at, state, code, refusal_number(fault)),
-        Entry::NoCode(code) => stop(out, at, state, code, NO_CODE),
-        Entry::Whole(entry, next) => {
+    let carried = state.carried;
+    match read_record(sheet, offset, Format::HALL, carried) {
+        ParsedRecord::Refused(code, fault, _) => stop(out, at, state, code, refusal_number(fault)),
+        ParsedRecord::NoCode(code) => stop(out, at, state, code, NO_CODE),
+        ParsedRecord::Whole(entry, next) => {
             let r = run_record(table, entry);
             let reply_number = number(r);
             let reply_session = session(r);
@@ -136,12 +143,14 @@ fn put_record(sheet: &[u8], state: State, table: &mut [u8], out: &mut [u8], at: 
                 reply_session as u64,
             );
             let was = state.tally;
-            let tally = tallied(was, entry.code, reply_number, reply_session);
+            let tally = add_step_lent(was, entry.code, reply_number, reply_session);
             let index = state.index + 1;
+            let desk = Carried::LastDesk(entry.desk);
             Filled {
                 state: State {
                     offset: next,
                     index: index,
+                    carried: desk,
                     tally: tally,
                     finished: false,
                 },
@@ -151,12 +160,12 @@ fn put_record(sheet: &[u8], state: State, table: &mut [u8], out: &mut [u8], at: 
     }
 }
 
-// A turn: record after record, as long as the buffer has room for one more. What it puts and what is still to come are what was to come.
-// It requires room for a record, so that each turn gets on, and a record number that is at most the offset, as `start` and `fill` leave it,
-// so that it does not run over.
+// Fills the buffer with a batch: one record after another while there is room for the lines of one more.
+// It requires room for a record, so that each batch makes progress, and a record number that is at most the offset, as `start` and `fill`
+// leave it, so that it does not overflow.
 pub fn fill(sheet: &[u8], state: State, table: &mut [u8], out: &mut [u8]) -> Filled
     requires { ⌜ (state .index ≤ state .offset) × (recordRoom ≤ length (now out)) ⌝ }
-    ensures { λ r. ⌜ Turn (now (sheet .entry)) state (wordsOfBytes (now (table .entry))) (now (out .entry)) (r .state) (wordsOfBytes (now (table .exit))) (now (out .exit)) (r .put) ⌝ }
+    ensures { λ r. ⌜ Batch (now (sheet .entry)) state (wordsOfBytes (now (table .entry))) (now (out .entry)) (r .state) (wordsOfBytes (now (table .exit))) (now (out .exit)) (r .put) ⌝ }
 {
     let mut reached = state;
     let mut at = 0;
@@ -177,7 +186,7 @@ pub fn fill(sheet: &[u8], state: State, table: &mut [u8], out: &mut [u8]) -> Fil
     }
 }
 
-// The start: the sheet's length, the header and the opening, and the header's line. The table is the one that the program lends.
+// The first batch: asks for the sheet's length, reads the header, opens the table and puts the header's line.
 // It requires that table, all zeros, and room for a line and the last line.
 pub fn start(sheet: &[u8], table: &mut [u8], out: &mut [u8]) -> Filled
     requires { ⌜ (wordsOfBytes (now table) ≡ lentTable) × (recordRoom ≤ length (now out)) ⌝ }
@@ -188,9 +197,11 @@ pub fn start(sheet: &[u8], table: &mut [u8], out: &mut [u8]) -> Filled
         refused: 0,
         handed_back: 0,
     };
+    let no_desk = Carried::NoDesk;
     let header_state = State {
         offset: 0,
         index: 0,
+        carried: no_desk,
         tally: none,
         finished: false,
     };
@@ -198,8 +209,8 @@ pub fn start(sheet: &[u8], table: &mut [u8], out: &mut [u8]) -> Filled
         return stop(out, 0, header_state, 0, TOO_LONG);
     }
     match read_header(sheet, 0) {
-        Head::Refused(fault) => stop(out, 0, header_state, 0, refusal_number(fault)),
-        Head::Whole(header, next) => {
+        ParsedHeader::Refused(fault, _) => stop(out, 0, header_state, 0, refusal_number(fault)),
+        ParsedHeader::Whole(header, next) => {
             let r = open(table, header.desks, header.screens, header.positions);
             let reply_number = number(r);
             if reply_number != 0 {
@@ -210,6 +221,7 @@ pub fn start(sheet: &[u8], table: &mut [u8], out: &mut [u8]) -> Filled
                 state: State {
                     offset: next,
                     index: 1,
+                    carried: no_desk,
                     tally: none,
                     finished: false,
                 },

@@ -1,4 +1,7 @@
 pub mod Sheet
+pub mod Edition1
+pub mod Lawful
+pub mod Run
 pub mod Tally
 pub mod Lines
 pub mod SheetTheorems

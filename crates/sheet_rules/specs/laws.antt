@@ -1,3 +1,6 @@
+pub mod Parsing
+pub mod Numbers
+pub mod Edition1
 pub mod Sheet
 pub mod Tally
 pub mod Run

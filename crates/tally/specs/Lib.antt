@@ -1,2 +1,2 @@
--- The definitions that the contracts of this crate cite, beside those of the rules.
-pub mod Count
+-- The definition that the contracts of this crate cite, beside those of the rules and of the reply.
+pub mod Counts

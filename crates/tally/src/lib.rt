@@ -1,14 +1,15 @@
 ghost use mathlib.Core.Path.{_≡_};
-ghost use Rattle.sheet_rules.specs.Tally.{counted as countedTally, isHandedBack, oneMoreIf};
-ghost use Rattle.tally.specs.Count.{eventOf, tallyIs};
+ghost use Rattle.reply.specs.Answer.{answerWith};
+ghost use Rattle.sheet_rules.specs.Tally.{addStep, isHandedBack, oneMoreIf};
+ghost use Rattle.tally.specs.Counts.{toTally};
 
 // The largest count of 32 bits.
 const LARGEST: u32 = 4294967295;
 
-// The first and the last code of a step that hands nothing back.
+// The first and the last code of a step.
 const TAKE: u16 = 1;
 
-const RETIRE: u16 = 4;
+const COLLECT: u16 = 5;
 
 // The counts of the last line: steps accepted, steps refused by the board, sessions handed back.
 pub struct Tally {
@@ -31,26 +32,28 @@ fn one_more_if(yes: bool, count: u32) -> u32
 }
 
 // Whether a step with this code and answer hands a session back: an accepted collect that replies one.
-// (As in the rules, a code that is none of 1 to 4 is the collect's.)
 fn hands_back(code: u16, number: u16, session: u16) -> bool
-    ensures { λ r. ⌜ r ≡ isHandedBack (eventOf code number session) ⌝ }
+    ensures { λ r. ⌜ r ≡ isHandedBack code (answerWith number session) ⌝ }
 {
-    if number != 0 {
+    if code != COLLECT {
         return false;
     }
-    if code < TAKE {
-        return session != 0;
-    }
-    if code <= RETIRE {
+    if number != 0 {
         return false;
     }
     session != 0
 }
 
-// The tally after a step with this code and answer, by value.
-pub fn counted(t: Tally, code: u16, number: u16, session: u16) -> Tally
-    ensures { λ r. ⌜ tallyIs r ≡ countedTally (tallyIs t) (eventOf code number session) ⌝ }
+// The tally after a step with this code and answer, by value. A code outside 1 to 5 counts nothing.
+pub fn add_step(t: Tally, code: u16, number: u16, session: u16) -> Tally
+    ensures { λ r. ⌜ toTally r ≡ addStep (toTally t) code (answerWith number session) ⌝ }
 {
+    if code < TAKE {
+        return t;
+    }
+    if COLLECT < code {
+        return t;
+    }
     Tally {
         accepted: one_more_if(number == 0, t.accepted),
         refused: one_more_if(number != 0, t.refused),
@@ -58,20 +61,20 @@ pub fn counted(t: Tally, code: u16, number: u16, session: u16) -> Tally
     }
 }
 
-// The tally that is lent, after a step with this code and answer.
-pub fn count(t: &mut Tally, code: u16, number: u16, session: u16)
-    ensures { λ _. ⌜ tallyIs (now (t .exit)) ≡ countedTally (tallyIs (now (t .entry))) (eventOf code number session) ⌝ }
+// Updates the tally that is lent: the tally after a step with this code and answer.
+pub fn add_step_in_place(t: &mut Tally, code: u16, number: u16, session: u16)
+    ensures { λ _. ⌜ toTally (now (t .exit)) ≡ addStep (toTally (now (t .entry))) code (answerWith number session) ⌝ }
 {
     let was = *t;
-    let next = counted(was, code, number, session);
+    let next = add_step(was, code, number, session);
     *t = next;
 }
 
-// Lends a tally to `count`. Its parameters are plain, so whoever calls it has no proof of a loan to make.
-pub fn tallied(t: Tally, code: u16, number: u16, session: u16) -> Tally
-    ensures { λ r. ⌜ tallyIs r ≡ countedTally (tallyIs t) (eventOf code number session) ⌝ }
+// Lends a tally to `add_step_in_place`. Its parameters are plain, so its callers have no proof of a loan to make.
+pub fn add_step_lent(t: Tally, code: u16, number: u16, session: u16) -> Tally
+    ensures { λ r. ⌜ toTally r ≡ addStep (toTally t) code (answerWith number session) ⌝ }
 {
     let mut next = t;
-    count(&mut next, code, number, session);
+    add_step_in_place(&mut next, code, number, session);
     next
 }

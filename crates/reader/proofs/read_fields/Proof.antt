@@ -1,7 +1,7 @@
 -- `reader::read_fields` meets its contract.
 use mathlib.Core.Path.{sym, ap, _∙_}
 use borrow.Author.Needs.{needs}
-use Rattle.sheet_rules.specs.Sheet.{withCode}
+use Rattle.sheet_rules.specs.Edition1.{withCode}
 use Rattle.reader.proofs.Answers.{found, reads-on}
 use Rattle.reader.proofs.read_fields.Statement.{statement}
 use Rattle.reader.proofs.read_fields.Tie as tie
@@ -15,65 +15,15 @@ enum-known-fault c = search needs
 enum-known-desk : tie.Need-enum-known-desk
 enum-known-desk c = search needs
 
-read-field-requires-2 : tie.Need-read-field-requires-2
-read-field-requires-2 c κs = search needs
-
-enum-known-fault-2 : tie.Need-enum-known-fault-2
-enum-known-fault-2 c = search needs
-
-enum-known-screen : tie.Need-enum-known-screen
-enum-known-screen c = search needs
-
-read-field-requires-3 : tie.Need-read-field-requires-3
-read-field-requires-3 c κs = search needs
-
-enum-known-fault-3 : tie.Need-enum-known-fault-3
-enum-known-fault-3 c = search needs
-
-enum-known-position : tie.Need-enum-known-position
-enum-known-position c = search needs
-
-read-field-requires-4 : tie.Need-read-field-requires-4
-read-field-requires-4 c κs = search needs
-
-enum-known-fault-4 : tie.Need-enum-known-fault-4
-enum-known-fault-4 c = search needs
-
-enum-known-session : tie.Need-enum-known-session
-enum-known-session c = search needs
+read-rest-requires : tie.Need-read-rest-requires
+read-rest-requires c κs = search needs
 
 returns : tie.Need-returns
 returns c = sym (ap (withCode _) (reads-on (found (c .before .before .before .read-field .ensures) (c .before .fault .given .1)) _))
 
 returns-2 : tie.Need-returns-2
-returns-2 c =
-    let desk = found (c .before .before .before .before .before .before .before .read-field .ensures) (c .before .before .before .before .before .desk .given .1) in
-    let fault = found (c .before .before .before .read-field2 .ensures) (c .before .fault2 .given .1) in
-    sym (ap (withCode _) (reads-on desk _ ∙ reads-on fault _))
-
-returns-3 : tie.Need-returns-3
-returns-3 c =
-    let desk = found (c .before .before .before .before .before .before .before .before .before .before .before .read-field .ensures) (c .before .before .before .before .before .before .before .before .before .desk .given .1) in
-    let screen = found (c .before .before .before .before .before .before .before .read-field2 .ensures) (c .before .before .before .before .before .screen .given .1) in
-    let fault = found (c .before .before .before .read-field3 .ensures) (c .before .fault3 .given .1) in
-    sym (ap (withCode _) (reads-on desk _ ∙ reads-on screen _ ∙ reads-on fault _))
-
-returns-4 : tie.Need-returns-4
-returns-4 c =
-    let desk = found (c .before .before .before .before .before .before .before .before .before .before .before .before .before .before .before .read-field .ensures) (c .before .before .before .before .before .before .before .before .before .before .before .before .before .desk .given .1) in
-    let screen = found (c .before .before .before .before .before .before .before .before .before .before .before .read-field2 .ensures) (c .before .before .before .before .before .before .before .before .before .screen .given .1) in
-    let position = found (c .before .before .before .before .before .before .before .read-field3 .ensures) (c .before .before .before .before .before .position .given .1) in
-    let fault = found (c .before .before .before .read-field4 .ensures) (c .before .fault4 .given .1) in
-    sym (ap (withCode _) (reads-on desk _ ∙ reads-on screen _ ∙ reads-on position _ ∙ reads-on fault _))
-
-returns-5 : tie.Need-returns-5
-returns-5 c =
-    let desk = found (c .before .before .before .before .before .before .before .before .before .before .before .before .before .before .before .read-field .ensures) (c .before .before .before .before .before .before .before .before .before .before .before .before .before .desk .given .1) in
-    let screen = found (c .before .before .before .before .before .before .before .before .before .before .before .read-field2 .ensures) (c .before .before .before .before .before .before .before .before .before .screen .given .1) in
-    let position = found (c .before .before .before .before .before .before .before .read-field3 .ensures) (c .before .before .before .before .before .position .given .1) in
-    let session = found (c .before .before .before .read-field4 .ensures) (c .before .session .given .1) in
-    sym (ap (withCode _) (reads-on desk _ ∙ reads-on screen _ ∙ reads-on position _ ∙ reads-on session _))
+returns-2 c = c .read-rest .ensures ∙ sym (ap (withCode _) (reads-on (found (c .before .before .before .before .read-field .ensures) (c .before .before .desk .given .1)) _))
 
 pub read-fields-spec : {M : Type 1} → statement M
 read-fields-spec =
-    tie.close (tie.spec read-field-requires enum-known-fault enum-known-desk read-field-requires-2 enum-known-fault-2 enum-known-screen read-field-requires-3 enum-known-fault-3 enum-known-position read-field-requires-4 enum-known-fault-4 enum-known-session returns returns-2 returns-3 returns-4 returns-5)
+    tie.close (tie.spec read-field-requires enum-known-fault enum-known-desk read-rest-requires returns returns-2)

@@ -1,7 +1,7 @@
 -- `reader::read_header` meets its contract.
 use mathlib.Core.Path.{sym, _∙_}
 use borrow.Author.Needs.{needs}
-use Rattle.sheet_rules.specs.Sheet.{headerAt}
+use Rattle.sheet_rules.specs.Edition1.{decodeHeader}
 use Rattle.reader.proofs.Answers.{found, reads-on}
 use Rattle.reader.proofs.read_header.Statement.{statement}
 use Rattle.reader.proofs.read_header.Tie as tie
@@ -34,18 +34,18 @@ enum-known-positions : tie.Need-enum-known-positions
 enum-known-positions c = search needs
 
 returns : tie.Need-returns
-unfolding headerAt
+unfolding decodeHeader
 returns c = sym (reads-on (found (c .before .before .before .read-number .ensures) (c .before .fault .given .1)) _)
 
 returns-2 : tie.Need-returns-2
-unfolding headerAt
+unfolding decodeHeader
 returns-2 c =
     let desks = found (c .before .before .before .before .before .before .before .read-number .ensures) (c .before .before .before .before .before .desks .given .1) in
     let fault = found (c .before .before .before .read-number2 .ensures) (c .before .fault2 .given .1) in
     sym (reads-on desks _ ∙ reads-on fault _)
 
 returns-3 : tie.Need-returns-3
-unfolding headerAt
+unfolding decodeHeader
 returns-3 c =
     let desks = found (c .before .before .before .before .before .before .before .before .before .before .before .read-number .ensures) (c .before .before .before .before .before .before .before .before .before .desks .given .1) in
     let screens = found (c .before .before .before .before .before .before .before .read-number2 .ensures) (c .before .before .before .before .before .screens .given .1) in
@@ -53,7 +53,7 @@ returns-3 c =
     sym (reads-on desks _ ∙ reads-on screens _ ∙ reads-on fault _)
 
 returns-4 : tie.Need-returns-4
-unfolding headerAt
+unfolding decodeHeader
 returns-4 c =
     let desks = found (c .before .before .before .before .before .before .before .before .before .before .before .read-number .ensures) (c .before .before .before .before .before .before .before .before .before .desks .given .1) in
     let screens = found (c .before .before .before .before .before .before .before .read-number2 .ensures) (c .before .before .before .before .before .screens .given .1) in

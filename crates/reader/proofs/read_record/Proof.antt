@@ -2,7 +2,7 @@
 use mathlib.Core.Path.{sym, _∙_}
 use borrow.Author.Needs.{needs}
 use borrow.Author.Tests.{lt-leb, le-leb}
-use Rattle.sheet_rules.specs.Sheet.{recordAt}
+use Rattle.sheet_rules.specs.Edition1.{decodeRecord}
 use Rattle.reader.proofs.Answers.{found, reads-on}
 use Rattle.reader.proofs.read_record.Statement.{statement}
 use Rattle.reader.proofs.read_record.Tie as tie
@@ -17,13 +17,13 @@ enum-known-code : tie.Need-enum-known-code
 enum-known-code c = search needs
 
 returns : tie.Need-returns
-unfolding recordAt
+unfolding decodeRecord
 returns c =
     let code = found (c .before .before .before .before .read-number .ensures) (c .before .before .code .given .1) in
     sym (reads-on code _ ∙ simp (lt-leb _ _ (c .if1 .taken)))
 
 returns-2 : tie.Need-returns-2
-unfolding recordAt
+unfolding decodeRecord
 returns-2 c =
     let code = found (c .before .before .before .before .before .read-number .ensures) (c .before .before .before .code .given .1) in
     sym (reads-on code _ ∙ simp (le-leb _ _ (c .before .if1 .left), lt-leb _ _ (c .if2 .taken)))
@@ -32,11 +32,11 @@ read-fields-requires : tie.Need-read-fields-requires
 read-fields-requires c κs = search needs
 
 returns-3 : tie.Need-returns-3
-unfolding recordAt
+unfolding decodeRecord
 returns-3 c = sym (reads-on (found (c .before .before .before .read-number .ensures) (c .before .fault .given .1)) _)
 
 returns-4 : tie.Need-returns-4
-unfolding recordAt
+unfolding decodeRecord
 returns-4 c =
     let code = found (c .before .before .before .before .before .before .read-number .ensures) (c .before .before .before .before .code .given .1) in
     c .read-fields .ensures ∙ sym (reads-on code _ ∙ simp (le-leb _ _ (c .before .before .if1 .left), le-leb _ _ (c .before .if2 .left)))

@@ -7,12 +7,12 @@ use Rattle.reader.proofs.within_limit.Tie as tie
 returns : tie.Need-returns
 returns c = simp (lt-leb (c .before .args .value) (c .before .args .limit) (c .if1 .taken))
 
-cast-t7 : tie.Need-cast-t7
-cast-t7 c = search needs
+cast-t8 : tie.Need-cast-t8
+cast-t8 c = search needs
 
 returns-2 : tie.Need-returns-2
 returns-2 c = simp (le-leb (c .before .args .value) (c .before .args .limit) (c .if1 .left))
 
 pub within-limit-spec : {M : Type 1} → statement M
 within-limit-spec =
-    tie.close (tie.spec returns cast-t7 returns-2)
+    tie.close (tie.spec returns cast-t8 returns-2)

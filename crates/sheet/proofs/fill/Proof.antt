@@ -3,9 +3,9 @@ use native.Mathlib.Omega.{arith}
 use mathlib.Core.Path.{_≡_, refl, _∙_}
 use lib.ListN.{length}
 use Rattle.rules.specs.Bytes.{wordsOfBytes}
-use Rattle.sheet.specs.Turn.{turnsLeft}
-use Rattle.sheet.specs.laws.Turns.{turns-fall}
-use Rattle.sheet.proofs.TurnLaws.{Reached, reached-first, reached-next, reached-within, turn-finished, turn-full}
+use Rattle.sheet.specs.Batch.{batchesLeft}
+use Rattle.sheet.specs.laws.Batches.{fewer-left}
+use Rattle.sheet.proofs.BatchLaws.{Reached, reached-first, reached-next, reached-within, batch-finished, batch-full}
 use Rattle.sheet.proofs.fill.Statement.{statement}
 use Rattle.sheet.proofs.fill.Tie as tie
 
@@ -13,7 +13,7 @@ abbrev Inv-loop : tie.InvT-loop
 Inv-loop sheet table₀ out₀ reached₀ at₀ table out reached at = (length table ≡ length table₀) × Reached sheet reached₀ (wordsOfBytes table₀) out₀ reached (wordsOfBytes table) out at
 
 abbrev μ-loop : tie.MeasureT-loop
-μ-loop sheet table₀ out₀ reached₀ at₀ table out reached at = turnsLeft sheet reached
+μ-loop sheet table₀ out₀ reached₀ at₀ table out reached at = batchesLeft sheet reached
 
 loop-holds : tie.Need-loop-holds Inv-loop μ-loop
 loop-holds c = (refl, reached-first (c .before .before .before .pre .0))
@@ -28,7 +28,7 @@ same-length-2 : tie.Need-same-length-2 Inv-loop μ-loop
 same-length-2 c = omega (arith, c .before .before .loop .inv .1 .sameOut)
 
 returns : tie.Need-returns Inv-loop μ-loop
-returns c = turn-finished (c .before .before .loop .inv .1) (c .if1 .taken)
+returns c = batch-finished (c .before .before .loop .inv .1) (c .if1 .taken)
 
 put-record-requires : tie.Need-put-record-requires Inv-loop μ-loop
 put-record-requires c κs =
@@ -36,7 +36,7 @@ put-record-requires c κs =
     (c .before .before .if1 .left, inv .numbered, omega (arith, reached-within inv, c .before .before .before .loop-test .taken))
 
 loop-less : tie.Need-loop-less Inv-loop μ-loop
-loop-less c = turns-fall (c .before .before .before .before .before .before .before .before .if1 .left) (c .before .before .before .before .before .put-record .ensures .1)
+loop-less c = fewer-left (c .before .before .before .before .before .before .before .before .if1 .left) (c .before .before .before .before .before .put-record .ensures .1)
 
 loop-again : tie.Need-loop-again Inv-loop μ-loop
 loop-again c =
@@ -51,7 +51,7 @@ same-length-4 : tie.Need-same-length-4 Inv-loop μ-loop
 same-length-4 c = omega (arith, c .before .loop .inv .1 .sameOut)
 
 returns-2 : tie.Need-returns-2 Inv-loop μ-loop
-returns-2 c = turn-full (c .before .loop .inv .1) (c .before .before .before .before .before .pre .1) (c .loop-test .left)
+returns-2 c = batch-full (c .before .loop .inv .1) (c .before .before .before .before .before .pre .1) (c .loop-test .left)
 
 pub fill-spec : {M : Type 1} → statement M
 fill-spec =

@@ -2,7 +2,7 @@
 use native.Mathlib.Omega.{arith}
 use borrow.Author.Needs.{needs}
 use Rattle.lines.specs.laws.Longest.{end-length}
-use Rattle.tally.specs.Count.{tallyIs}
+use Rattle.tally.specs.Counts.{toTally}
 use Rattle.sheet.proofs.finish.Statement.{statement}
 use Rattle.sheet.proofs.finish.Tie as tie
 
@@ -16,7 +16,7 @@ cast-put-end-3 : tie.Need-cast-put-end-3
 cast-put-end-3 c = search needs
 
 put-end-requires : tie.Need-put-end-requires
-put-end-requires c κs = let start = c .before .before .before .before .before .before in omega (arith, end-length (tallyIs (start .args .state .tally)), start .pre)
+put-end-requires c κs = let start = c .before .before .before .before .before .before in omega (arith, end-length (toTally (start .args .state .tally)), start .pre)
 
 same-length : tie.Need-same-length
 same-length c = search needs

@@ -3,18 +3,17 @@ use native.Mathlib.Omega.{arith}
 use mathlib.Core.Path.{_≡_, sym, ap, _∙_}
 use Prim.Native.Nat.{ℕ}
 use borrow.Author.Needs.{needs}
-use Rattle.rules.specs.Numbers.{got, refusalOf, refused}
+use Rattle.rules.specs.Numbers.{parsed, refusalOf, refused}
 use Rattle.lines.specs.laws.Longest.{line-length}
 use Rattle.reader.specs.Results.{recordOf, recordResult}
-use Rattle.sheet_rules.specs.Sheet.{recordAt}
-use Rattle.sheet.proofs.TurnLaws.{ended, finished-onward, ran, ran-onward, stopped}
+use Rattle.sheet.proofs.BatchLaws.{finished-progress, nextRecord, reading-stopped, record-progress, record-ran, sheet-ended}
 use Rattle.sheet.proofs.put_record.Statement.{statement}
 use Rattle.sheet.proofs.put_record.Tie as tie
 
 -- the record that was read
 record-read : (c : tie.After-known-told3) →
     let a = c .before .before .before .before .before .before .before .before .args in
-    recordAt (a .sheet .now) (a .state .offset) ≡ got (recordOf (c .before .entry .given .0 .0)) (c .before .entry .given .0 .1 .0)
+    nextRecord (a .sheet .now) (a .state) ≡ parsed (recordOf (c .before .entry .given .0 .0)) (c .before .entry .given .0 .1 .0)
 record-read c = sym (c .before .before .before .read-record .ensures) ∙ ap recordResult (c .before .entry .given .1)
 
 finish-requires : tie.Need-finish-requires
@@ -27,7 +26,7 @@ returns : tie.Need-returns
 returns c =
     let start = c .before .before .before .before .before .before .before .before in
     let last = c .before .before .finish .ensures in
-    (ended (start .pre .0) (c .before .before .before .before .if1 .taken) (last .0) (last .1), finished-onward (last .1) (start .pre .1))
+    (sheet-ended (start .pre .0) (c .before .before .before .before .if1 .taken) (last .0) (last .1), finished-progress (last .1) (start .pre .1))
 
 read-record-requires : tie.Need-read-record-requires
 read-record-requires c κs = search needs
@@ -73,8 +72,8 @@ put-line-requires c κs =
     let start = c .before .before .before .before .before .before .before .before .before .before .before .before .before .before .before .before in
     omega (arith, line-length (start .args .state .index) (c .before .before .before .before .before .before .before .before .before .entry .given .0 .0 .code) (c .before .before .before .number .result) (c .before .before .session .result), start .pre .2)
 
-tallied-requires : tie.Need-tallied-requires
-tallied-requires c κs = search needs
+add-step-lent-requires : tie.Need-add-step-lent-requires
+add-step-lent-requires c κs = search needs
 
 add-index : tie.Need-add-index
 add-index c =
@@ -89,8 +88,8 @@ returns-2 c =
     let start = c .before .before .before .before .before .before .before .before .before .before .before .before .before in
     let last = c .before .before .stop .ensures in
     let code = c .before .before .before .before .before .before .code .given in
-    let read = sym (c .before .before .before .before .before .before .before .before .read-record .ensures) ∙ ap recordResult (code .1) ∙ ap (λ (n : ℕ). refused (refusalOf (code .0 .0) n)) (sym (c .before .before .before .refusal-number .ensures)) in
-    (stopped (start .pre .0) (c .before .before .before .before .before .before .before .before .before .if1 .left) read (last .0) (last .1), finished-onward (last .1) (start .pre .1))
+    let read = sym (c .before .before .before .before .before .before .before .before .read-record .ensures) ∙ ap recordResult (code .1) ∙ ap (λ (n : ℕ). refused (refusalOf (code .0 .0) n (code .0 .1 .1 .0))) (sym (c .before .before .before .refusal-number .ensures)) in
+    (reading-stopped (start .pre .0) (c .before .before .before .before .before .before .before .before .before .if1 .left) read (last .0) (last .1), finished-progress (last .1) (start .pre .1))
 
 same-length-3 : tie.Need-same-length-3
 same-length-3 c = search needs
@@ -100,7 +99,7 @@ returns-3 c =
     let start = c .before .before .before .before .before .before .before .before .before .before .before .before in
     let last = c .before .before .stop2 .ensures in
     let read = sym (c .before .before .before .before .before .before .before .read-record .ensures) ∙ ap recordResult (c .before .before .before .before .before .code2 .given .1) in
-    (stopped (start .pre .0) (c .before .before .before .before .before .before .before .before .if1 .left) read (last .0) (last .1), finished-onward (last .1) (start .pre .1))
+    (reading-stopped (start .pre .0) (c .before .before .before .before .before .before .before .before .if1 .left) read (last .0) (last .1), finished-progress (last .1) (start .pre .1))
 
 same-length-4 : tie.Need-same-length-4
 same-length-4 c = search needs
@@ -114,8 +113,8 @@ returns-4 c =
     let inside = c .before .before .before .before .before .before .before .before .before .before .before .before .before .before .before .before .before .before .if1 .left in
     let read = record-read (c .before .before .before .before .before .before .before .before .before .before .before .before .before .before) in
     let ran-step = c .before .before .before .before .before .before .before .before .before .before .before .before .run-record in
-    (ran (start .pre .0) inside read (ran-step .result) (ran-step .ensures .words) (c .before .before .before .before .before .before .before .before .before .number .ensures) (c .before .before .before .before .before .before .before .before .session .ensures) (c .before .tallied .ensures) (c .before .before .before .before .before .put-line .ensures), ran-onward (start .pre .0) inside read (start .pre .1))
+    (record-ran (start .pre .0) inside read (ran-step .result) (ran-step .ensures .words) (c .before .before .before .before .before .before .before .before .before .number .ensures) (c .before .before .before .before .before .before .before .before .session .ensures) (c .before .add-step-lent .ensures) (c .before .before .before .before .before .put-line .ensures), record-progress (start .pre .0) inside read (start .pre .1))
 
 pub put-record-spec : {M : Type 1} → statement M
 put-record-spec =
-    tie.close (tie.spec finish-requires same-length returns read-record-requires enum-known-code refusal-number-requires stop-requires enum-known-code-2 stop-requires-2 enum-known-entry run-record-requires number-requires session-requires cast-put-line cast-put-line-2 cast-put-line-3 put-line-requires tallied-requires add-index same-length-2 returns-2 same-length-3 returns-3 same-length-4 same-length-5 returns-4)
+    tie.close (tie.spec finish-requires same-length returns read-record-requires enum-known-code refusal-number-requires stop-requires enum-known-code-2 stop-requires-2 enum-known-entry run-record-requires number-requires session-requires cast-put-line cast-put-line-2 cast-put-line-3 put-line-requires add-step-lent-requires add-index same-length-2 returns-2 same-length-3 returns-3 same-length-4 same-length-5 returns-4)

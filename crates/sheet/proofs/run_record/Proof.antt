@@ -1,10 +1,8 @@
 -- `sheet::run_record` meets its contract.
 use native.Mathlib.Omega.{arith}
-use mathlib.Core.Logic.{⊎-elim}
 use borrow.Author.Needs.{needs}
 use Rattle.reader.specs.Results.{recordOf}
-use Rattle.sheet_rules.specs.laws.Sheet.{asks-collect}
-use Rattle.sheet.proofs.CallLaws.{is-drop, is-retire, is-swap, is-take}
+use Rattle.sheet.proofs.CallLaws.{code-above, is-collect, is-drop, is-retire, is-swap, is-take, no-code}
 use Rattle.sheet.proofs.run_record.Statement.{statement}
 use Rattle.sheet.proofs.run_record.Tie as tie
 
@@ -51,13 +49,17 @@ same-length-5 : tie.Need-same-length-5
 same-length-5 c = search needs
 
 returns-5 : tie.Need-returns-5
-returns-5 c =
-    rw
-    (asks-collect (recordOf (c .before .before .before .before .before .before .args .entry)) λ low high.
-    ⊎-elim (λ zero. omega (arith, zero .keys5)) (λ other. omega (arith, other .rest .0 .0 .0 .0 .1, other .rest .0 .0 .0 .1, other .rest .0 .0 .1, other .rest .0 .1))
-    (c .before .before .before .before .match .came))
-    (c .before .before .collect .ensures)
+returns-5 c = rw (is-collect (recordOf (c .before .before .before .before .before .before .args .entry)) (c .before .before .before .before .match .keys5)) (c .before .before .collect .ensures)
+
+returns-6 : tie.Need-returns-6
+returns-6 c = no-code (recordOf (c .before .before .args .entry)) (c .before .before .args .table .now) (simp (c .match .keys6))
+
+returns-7 : tie.Need-returns-7
+returns-7 c =
+    let other = c .match .rest in
+    no-code (recordOf (c .before .before .args .entry)) (c .before .before .args .table .now)
+    (code-above (recordOf (c .before .before .args .entry)) (omega (arith, other .0 .0 .0 .0 .0 .1, other .0 .0 .0 .0 .1, other .0 .0 .0 .1, other .0 .0 .1, other .0 .1, other .1)))
 
 pub run-record-spec : {M : Type 1} → statement M
 run-record-spec =
-    tie.close (tie.spec take-requires drop-requires swap-requires retire-requires collect-requires same-length returns same-length-2 returns-2 same-length-3 returns-3 same-length-4 returns-4 same-length-5 returns-5)
+    tie.close (tie.spec take-requires drop-requires swap-requires retire-requires collect-requires same-length returns same-length-2 returns-2 same-length-3 returns-3 same-length-4 returns-4 same-length-5 returns-5 returns-6 returns-7)

@@ -5,19 +5,20 @@ use Prim.Native.Nat.{ℕ}
 use borrow.Author.Needs.{needs}
 use Rattle.rules.specs.Bytes.{wordsOfBytes}
 use Rattle.rules.specs.Hall.{hallLimits}
-use Rattle.rules.specs.Numbers.{got, refusalOf, refused}
+use Rattle.rules.specs.Numbers.{parsed, refusalOf, refused}
 use Rattle.rules.specs.Table.{openTable}
 use Rattle.lines.specs.laws.Longest.{line-length}
 use Rattle.reader.specs.Results.{headerOf, headerResult}
 use Rattle.reply.specs.Answer.{tableResult}
-use Rattle.sheet_rules.specs.Sheet.{headerAt, lentTable}
+use Rattle.sheet_rules.specs.Edition1.{hallEdition}
+use Rattle.sheet_rules.specs.Sheet.{lentTable}
 use Rattle.sheet_rules.specs.laws.Sheet.{short-enough, too-long}
 use Rattle.sheet.proofs.StartLaws.{started-opened, started-refused, started-stopped}
 use Rattle.sheet.proofs.start.Statement.{statement}
 use Rattle.sheet.proofs.start.Tie as tie
 
 -- the header that was read
-header-read : (c : tie.After-known-told2) → headerAt (c .before .before .before .before .before .before .before .before .args .sheet .now) 0 ≡ got (headerOf (c .before .header .given .0 .0)) (c .before .header .given .0 .1 .0)
+header-read : (c : tie.After-known-told2) → hallEdition .decodeHeader (c .before .before .before .before .before .before .before .before .args .sheet .now) 0 ≡ parsed (headerOf (c .before .header .given .0 .0)) (c .before .header .given .0 .1 .0)
 header-read c = sym (c .before .before .before .read-header .ensures) ∙ ap headerResult (c .before .header .given .1)
 
 -- what the board replied to the opening
@@ -36,7 +37,7 @@ returns : tie.Need-returns
 returns c =
     let start = c .before .before .before .before .before .before .before .before in
     let last = c .before .before .stop .ensures in
-    started-stopped (too-long (start .args .sheet .now) (c .before .before .before .before .if1 .taken)) (start .pre .0) (last .0) (last .1)
+    started-stopped (too-long hallEdition (start .args .sheet .now) (c .before .before .before .before .if1 .taken)) (start .pre .0) (last .0) (last .1)
 
 read-header-requires : tie.Need-read-header-requires
 read-header-requires c κs = search needs
@@ -83,8 +84,8 @@ returns-3 : tie.Need-returns-3
 returns-3 c =
     let start = c .before .before .before .before .before .before .before .before .before .before .before .before .before in
     let last = c .before .before .stop2 .ensures in
-    let read = sym (c .before .before .before .before .before .before .before .before .read-header .ensures) ∙ ap headerResult (c .before .before .before .before .before .before .fault .given .1) ∙ ap (λ (n : ℕ). refused (refusalOf 0 n)) (sym (c .before .before .before .refusal-number .ensures)) in
-    started-stopped (short-enough (start .args .sheet .now) (c .before .before .before .before .before .before .before .before .before .if1 .left) read) (start .pre .0) (last .0) (last .1)
+    let read = sym (c .before .before .before .before .before .before .before .before .read-header .ensures) ∙ ap headerResult (c .before .before .before .before .before .before .fault .given .1) ∙ ap (λ (n : ℕ). refused (refusalOf 0 n (c .before .before .before .before .before .before .fault .given .0 .1 .0))) (sym (c .before .before .before .refusal-number .ensures)) in
+    started-stopped (short-enough hallEdition (start .args .sheet .now) (c .before .before .before .before .before .before .before .before .before .if1 .left) read) (start .pre .0) (last .0) (last .1)
 
 same-length-5 : tie.Need-same-length-5
 same-length-5 c = search needs

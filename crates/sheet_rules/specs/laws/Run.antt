@@ -1,57 +1,32 @@
 -- A sheet that opens: its records are the board's run from an accepted opening, and the lines are those of that run.
-use Prim.Native.Nat.{ℕ, zero, suc}
+use Prim.Native.Nat.{ℕ, zero, suc, _≤_}
 use native.Mathlib.Omega.{arith}
 use mathlib.Core.Path.{_≡_, refl, sym, ap, _∙_, subst}
 use mathlib.Core.Bool.{Bool, true, false, cond}
-use mathlib.Core.List.{List, _++_, append-assoc}
+use mathlib.Core.List.{List, _∷_, _++_, append-assoc}
+use mathlib.Core.Option.{none, some}
 use lib.ListN.{length}
-use lib.Dec.{leb, ltb}
+use lib.Dec.{eqb, ltb}
+use borrow.Author.Tests.{le-leb, ne-eqb}
 use Rattle.rules.specs.Hall.{Hall, hallLimits}
-use Rattle.rules.specs.Numbers.{Got, Refusal, got, refusalOf, refused}
-use Rattle.rules.specs.Steps.{Event, Result, accept, run}
+use Rattle.rules.specs.Numbers.{Parsed, parsed, refused}
+use Rattle.rules.specs.Steps.{Call, Event, Result, accept, run}
 use Rattle.rules.specs.Table.{openTable, openedTable, stepTable}
 use Rattle.rules.specs.laws.history.StepEffects.{in-range}
 use Rattle.rules.specs.laws.table.TableSteps.{accepted-open}
+use Rattle.sheet_rules.specs.Lawful.{Lawful}
 use Rattle.sheet_rules.specs.Lines.{answerLine, endLine, endingLine, eventLines, line, linesFrom, linesOf, printed}
-use Rattle.sheet_rules.specs.Sheet.{Record, Records, callOf, callsIn, codeOf, complete, headed, headerAt, isCode, lentTable, maxBytes, more, onward, stepOf}
-use Rattle.sheet_rules.specs.Sheet.{opened, openedIf, openingNumber, reading, recordAt, recordFor, recordsAt, stop, unopened}
-use Rattle.sheet_rules.specs.Tally.{Tally, counted, countsIn, tallied, zeros}
-use Rattle.sheet_rules.specs.laws.Sheet.{record-got}
+use Rattle.sheet_rules.specs.Run.{callOf, callsIn, codeOf}
+use Rattle.sheet_rules.specs.Sheet.{Carried, Edition, Record, Records, bindRecords, carriedAfter, complete, decodeRecords, isCode, lentTable, more}
+use Rattle.sheet_rules.specs.Sheet.{noDesk, opened, openingNumber, reading, recordFor, stop}
+use Rattle.sheet_rules.specs.Tally.{Tally, addStep, addSteps, countsIn, zeros}
+use Rattle.sheet_rules.specs.laws.Sheet.{opened-from}
 use Rattle.sheet_rules.specs.laws.Tally.{tally-from-zeros}
 
--- ---- What a reading that opened had before it.
-record Opened (sheet : List ℕ) (hall : Hall) (records : Records) : Type 0 where
-  accepted : openingNumber hall ≡ 0
-  next : ℕ
-  are : records ≡ recordsAt (length sheet) sheet next
-
-unopened-not-opened : {reason : Refusal} {hall : Hall} {records : Records} → unopened reason ≡ opened hall records → ⊥
-unopened-not-opened e = let z : _≡_ {A = ℕ} 0 1 = cc in omega arith
-
-opened-from : (sheet : List ℕ) (hall : Hall) (records : Records) → reading sheet ≡ opened hall records → Opened sheet hall records
-unfolding reading
-opened-from sheet hall records e = by-length (leb (length sheet) maxBytes) e
-  where
-    by-number : (found : Hall) (next n : ℕ) → openingNumber found ≡ n
-        → openedIf n found (recordsAt (length sheet) sheet next) ≡ opened hall records
-        → Opened sheet hall records
-    by-number found next zero q opens =
-        let same : found ≡ hall = cc in
-        record { accepted = sym (ap openingNumber same) ∙ q; next = next; are = cc }
-    by-number found next (suc n) q opens = absurd (unopened-not-opened opens)
-
-    by-header : (found : Got Hall) → headed sheet found ≡ opened hall records → Opened sheet hall records
-    by-header (got found next) opens = by-number found next (openingNumber found) refl opens
-    by-header (refused reason) opens = absurd (unopened-not-opened opens)
-
-    by-length : (short : Bool) → cond short (headed sheet (headerAt sheet 0)) (unopened (refusalOf 0 18)) ≡ opened hall records → Opened sheet hall records
-    by-length true opens = by-header (headerAt sheet 0) opens
-    by-length false opens = absurd (unopened-not-opened opens)
-
-pub opening-accepted : (sheet : List ℕ) (hall : Hall) (records : Records) → reading sheet ≡ opened hall records
+pub opening-accepted : (edition : Edition) (sheet : List ℕ) (hall : Hall) (records : Records) → reading edition sheet ≡ opened hall records
     → openTable hallLimits hall lentTable ≡ accept 0 (openedTable hall lentTable)
 unfolding openingNumber
-opening-accepted sheet hall records e = accepted-open hallLimits hall lentTable (opened-from sheet hall records e .accepted)
+opening-accepted edition sheet hall records e = accepted-open hallLimits hall lentTable (opened-from edition sheet hall records e .accepted)
 
 -- ---- Each record that is read has a step's code, so the step's code is the record's.
 abbrev EachCode : Records → Type 0
@@ -59,56 +34,95 @@ EachCode complete = Unit {0}
 EachCode (stop reason) = Unit {0}
 EachCode (more entry rest) = (isCode (entry .code) ≡ true) × EachCode rest
 
-each-code : (most : ℕ) (sheet : List ℕ) (at : ℕ) → EachCode (recordsAt most sheet at)
-each-code zero sheet at = tt
-each-code (suc most) sheet at = by-offset (ltb at (length sheet)) (recordAt sheet at) refl (each-code most sheet)
+each-code : {edition : Edition} {maxSession : ℕ} → Lawful edition maxSession → (most : ℕ) (carried : Carried) (sheet : List ℕ) (at : ℕ)
+    → EachCode (decodeRecords edition most carried sheet at)
+each-code lawful zero carried sheet at = tt
+each-code {edition} lawful (suc most) carried sheet at =
+    by-offset (ltb at (length sheet)) (edition .decodeRecord carried sheet at) refl (λ entry. each-code lawful most (carriedAfter entry) sheet)
   where
-    by-offset : (inside : Bool) (found : Got Record) → recordAt sheet at ≡ found → ((next : ℕ) → EachCode (recordsAt most sheet next))
-        → EachCode (cond inside (onward found (λ entry next. more entry (recordsAt most sheet next))) complete)
-    by-offset true (got entry next) e later = (record-got sheet at entry next e .good .code, later next)
+    by-offset : (inside : Bool) (found : Parsed Record) → edition .decodeRecord carried sheet at ≡ found
+        → ((entry : Record) (next : ℕ) → EachCode (decodeRecords edition most (carriedAfter entry) sheet next))
+        → EachCode (cond inside (bindRecords found (λ entry next. more entry (decodeRecords edition most (carriedAfter entry) sheet next))) complete)
+    by-offset true (parsed entry next) e later = (lawful .record-code carried sheet at entry next e, later entry next)
     by-offset true (refused reason) e later = tt
     by-offset false found e later = tt
 
-code-of-step : (code desk screen position session : ℕ) → isCode code ≡ true → codeOf (stepOf (recordFor code desk screen position session)) ≡ code
-code-of-step zero desk screen position session good = absurd (omega (arith, in-range 0 5 good .0))
-code-of-step (suc zero) desk screen position session good = refl
-code-of-step (suc (suc zero)) desk screen position session good = refl
-code-of-step (suc (suc (suc zero))) desk screen position session good = refl
-code-of-step (suc (suc (suc (suc zero)))) desk screen position session good = refl
-code-of-step (suc (suc (suc (suc (suc zero))))) desk screen position session good = refl
-code-of-step (suc (suc (suc (suc (suc (suc n)))))) desk screen position session good = absurd (omega (arith, in-range (suc (suc (suc (suc (suc (suc n)))))) 5 good .1))
+-- A record with a step's code asks for a call of that step.
+pub record Asks (entry : Record) : Type 0 where
+  pub call : Call
+  pub asked : callOf entry ≡ some call
+  pub sameCode : codeOf (call .step) ≡ entry .code
+
+asks-for : (code desk screen position session : ℕ) → isCode code ≡ true → Asks (recordFor code desk screen position session)
+asks-for zero desk screen position session good = absurd (omega (arith, in-range 0 5 good .0))
+asks-for (suc zero) desk screen position session good = record { call = _; asked = refl; sameCode = refl }
+asks-for (suc (suc zero)) desk screen position session good = record { call = _; asked = refl; sameCode = refl }
+asks-for (suc (suc (suc zero))) desk screen position session good = record { call = _; asked = refl; sameCode = refl }
+asks-for (suc (suc (suc (suc zero)))) desk screen position session good = record { call = _; asked = refl; sameCode = refl }
+asks-for (suc (suc (suc (suc (suc zero))))) desk screen position session good = record { call = _; asked = refl; sameCode = refl }
+asks-for (suc (suc (suc (suc (suc (suc n)))))) desk screen position session good = absurd (omega (arith, in-range (suc (suc (suc (suc (suc (suc n)))))) 5 good .1))
+
+pub record-asks : (entry : Record) → isCode (entry .code) ≡ true → Asks entry
+record-asks entry = asks-for (entry .code) (entry .desk) (entry .screen) (entry .position) (entry .session)
+
+-- A record with any other code asks for none: 17, and nothing written.
+pub other-code-asks-none : (entry : Record) → isCode (entry .code) ≡ false → callOf entry ≡ none
+other-code-asks-none entry other =
+    simp (is-not 1 (omega arith) (omega arith), is-not 2 (omega arith) (omega arith), is-not 3 (omega arith) (omega arith), is-not 4 (omega arith) (omega arith), is-not 5 (omega arith) (omega arith))
+  where
+    is-not : (step : ℕ) → 1 ≤ step → step ≤ 5 → eqb (entry .code) step ≡ false
+    is-not step low high =
+        ne-eqb (entry .code) step λ same.
+        (let inside : isCode (entry .code) ≡ true = simp (same, le-leb 1 step low, le-leb step 5 high) in
+        let clash : true ≡ false = cc in
+        let z : _≡_ {A = ℕ} 0 1 = cc in
+        omega arith)
 
 -- ---- The lines are those of the run.
+-- the lines of a run of these calls, then that of what ended the reading, then the counts
+abbrev runLines : List ℕ → ℕ → Tally → Records → List Call → List ℕ
+runLines table index total records calls =
+    let events : List Event = run (stepTable hallLimits) table calls in
+    eventLines index events ++ (endingLine index records ++ endLine (addSteps total events))
+
+-- one call more
+lines-of-call : (table : List ℕ) (index code : ℕ) (total : Tally) (entry : Record) (rest : Records) (call : Call) → codeOf (call .step) ≡ code →
+    let done : Result (List ℕ) = stepTable hallLimits table call in
+    let next : Tally = addStep total code (done .answer) in
+    linesFrom (done .after) (suc index) next rest ≡ runLines (done .after) (suc index) next rest (callsIn rest)
+    → answerLine index code (done .answer) ++ linesFrom (done .after) (suc index) next rest ≡ runLines table index total (more entry rest) (call ∷ callsIn rest)
+lines-of-call table index code total entry rest call same later =
+    let done : Result (List ℕ) = stepTable hallLimits table call in
+    let events : List Event = run (stepTable hallLimits) (done .after) (callsIn rest) in
+    ap (λ (lines : List ℕ). answerLine index code (done .answer) ++ lines) later
+    ∙ ap (λ (n : ℕ). answerLine index n (done .answer) ++ (eventLines (suc index) events ++ (endingLine (suc index) rest ++ endLine (addSteps (addStep total n (done .answer)) events)))) (sym same)
+    ∙ sym (append-assoc (answerLine index (codeOf (call .step)) (done .answer)) (eventLines (suc index) events) _)
+
 lines-from : (table : List ℕ) (index : ℕ) (total : Tally) (records : Records) → EachCode records
-    → linesFrom table index total records
-    ≡ eventLines index (run (stepTable hallLimits) table (callsIn records))
-    ++ (endingLine index records ++ endLine (tallied total (run (stepTable hallLimits) table (callsIn records))))
+    → linesFrom table index total records ≡ runLines table index total records (callsIn records)
 lines-from table index total complete codes = refl
 lines-from table index total (stop reason) codes = refl
 lines-from table index total (more entry rest) codes =
-    let done : Result (List ℕ) = stepTable hallLimits table (callOf entry) in
-    let first : List ℕ = answerLine index (entry .code) (done .answer) in
-    let event : Event = record { call = callOf entry; answer = done .answer } in
-    let events : List Event = run (stepTable hallLimits) (done .after) (callsIn rest) in
-    let last : List ℕ = endingLine (suc index) rest ++ endLine (tallied (counted total event) events) in
-    ap (λ (lines : List ℕ). first ++ lines) (lines-from (done .after) (suc index) (counted total event) rest (codes .1))
-    ∙ sym (append-assoc first (eventLines (suc index) events) last)
-    ∙ ap (λ (code : ℕ). (answerLine index code (done .answer) ++ eventLines (suc index) events) ++ last)
-    (sym (code-of-step (entry .code) (entry .desk) (entry .screen) (entry .position) (entry .session) (codes .0)))
+    let asks : Asks entry = record-asks entry (codes .0) in
+    let next : Result (List ℕ) = stepTable hallLimits table (asks .call) in
+    simp (asks .asked)
+    (lines-of-call table index (entry .code) total entry rest (asks .call) (asks .sameCode)
+    (lines-from (next .after) (suc index) (addStep total (entry .code) (next .answer)) rest (codes .1)))
 
-pub lines-of-run : (sheet : List ℕ) (hall : Hall) (records : Records) → reading sheet ≡ opened hall records
-    → printed sheet
+pub lines-of-run : {edition : Edition} {maxSession : ℕ} → Lawful edition maxSession → (sheet : List ℕ) (hall : Hall) (records : Records)
+    → reading edition sheet ≡ opened hall records
+    → printed edition sheet
     ≡ line 0 0 0 0
     ++ (eventLines 1 (run (stepTable hallLimits) (openTable hallLimits hall lentTable .after) (callsIn records))
     ++ (endingLine 1 records ++ endLine (countsIn (run (stepTable hallLimits) (openTable hallLimits hall lentTable .after) (callsIn records)))))
 unfolding printed
-lines-of-run sheet hall records e =
+lines-of-run {edition} lawful sheet hall records e =
     ap linesOf e
     ∙ ap (λ (lines : List ℕ). answerLine 0 0 (openTable hallLimits hall lentTable .answer) ++ lines) (lines-from table 1 zeros records codes)
     ∙ ap (λ (total : Tally). answerLine 0 0 (openTable hallLimits hall lentTable .answer) ++ (eventLines 1 events ++ (endingLine 1 records ++ endLine total)))
     (tally-from-zeros events)
     ∙ ap (λ (done : Result (List ℕ)). answerLine 0 0 (done .answer) ++ (eventLines 1 events ++ (endingLine 1 records ++ endLine (countsIn events))))
-    (opening-accepted sheet hall records e)
+    (opening-accepted edition sheet hall records e)
   where
     table : List ℕ
     table = openTable hallLimits hall lentTable .after
@@ -117,4 +131,6 @@ lines-of-run sheet hall records e =
     events = run (stepTable hallLimits) table (callsIn records)
 
     codes : EachCode records
-    codes = let was = opened-from sheet hall records e in subst EachCode (sym (was .are)) (each-code (length sheet) sheet (was .next))
+    codes =
+        let was = opened-from edition sheet hall records e in
+        subst EachCode (sym (was .are)) (each-code lawful (length sheet) noDesk sheet (was .next))

@@ -1,5 +1,5 @@
--- `tally::tallied` meets its contract: a walk of its code, step by step (the checker does not cover a reference to a struct). The
--- local is lent for a lifetime that is made for the call of `count`, comes back as that says, and is returned.
+-- `tally::add_step_lent` meets its contract: a walk of its code, step by step (the checker does not cover a reference to a struct). The
+-- local is lent for a lifetime that is made for the call of `add_step_in_place`, comes back as that says, and is returned.
 use mathlib.Core.Path.{_≡_, refl, sym, ap, subst}
 use Prim.Native.Nat.{ℕ, _<_, _^_}
 use mathlib.Core.List.{[], _∷_, List}
@@ -39,23 +39,24 @@ use denote.Triple.Table.{entered, cited}
 use denote.Triple.Clauses.{ensured, lasts}
 use denote.Triple.Walked.{says, Stays, stay-none, walkOf, AllGo, goes-none, Walks, ends-at, walked, walk-meets}
 use denote.Exit.{yes}
-use Rattle.sheet_rules.specs.Tally.{counted}
-use Rattle.tally.specs.Count.{eventOf, tallyIs}
+use Rattle.reply.specs.Answer.{answerWith}
+use Rattle.sheet_rules.specs.Tally.{addStep}
+use Rattle.tally.specs.Counts.{toTally}
 use Rattle.tally.specs.declared.Tally.{Tally}
 use Rattle.tally.proofs.Tally as T
 use Rattle.tally.proofs.Tally.Laws as T′
-use Rattle.tally.proofs.count as step
-use Rattle.tally.proofs.count.Symbol as step-def
-use Rattle.tally.proofs.count.Symbol.{name as #tally·count}
-use Rattle.tally.proofs.count.Met as step-thm
-use Rattle.tally.proofs.tallied.Key.{name as #tally·tallied}
-use Rattle.tally.proofs.tallied as f
-use Rattle.tally.proofs.tallied.Statement as stated
-use Rattle.tally.proofs.tallied.Code as body
+use Rattle.tally.proofs.add_step_in_place as step
+use Rattle.tally.proofs.add_step_in_place.Symbol as step-def
+use Rattle.tally.proofs.add_step_in_place.Symbol.{name as #tally·add-step-in-place}
+use Rattle.tally.proofs.add_step_in_place.Met as step-thm
+use Rattle.tally.proofs.add_step_lent.Key.{name as #tally·add-step-lent}
+use Rattle.tally.proofs.add_step_lent as f
+use Rattle.tally.proofs.add_step_lent.Statement as stated
+use Rattle.tally.proofs.add_step_lent.Code as body
 
 -- what the contracts say of the tally after a step
-abbrev Told : Tally → ℕ → ℕ → ℕ → Tally → Type 0
-Told h code number session r = tallyIs r ≡ counted (tallyIs h) (eventOf code number session)
+abbrev Added : Tally → ℕ → ℕ → ℕ → Tally → Type 0
+Added h code number session r = toTally r ≡ addStep (toTally h) code (answerWith number session)
 
 abbrev val : Tally → Val
 val = LL.val T.the-type T′.the-laws
@@ -101,7 +102,7 @@ module _ {M : Type 1} (𝓤 : URA M) (H : Heap 𝓤) (A : Atoms 𝓤) (W : Given
   abbrev Post : Val → SProp 𝓤
   Post = walkOf 𝓤 H A f.ended stayed (f.clauses 𝓤 H A at-mem run) .post ((tt, tt, tt, x, at), tt)
 
-  exits : (r : Tally) → Told h code number session r → ent 𝓤 (sem 𝓤 H A (T.the-row .own r (vals r))) (Post (val r))
+  exits : (r : Tally) → Added h code number session r → ent 𝓤 (sem 𝓤 H A (T.the-row .own r (vals r))) (Post (val r))
   exits r e =
       qed W (‵ (T.the-row .own r (vals r)) ∷ []) ∵
       suffices ! _ (ends-at 𝓤 H A f.ended stayed (f.clauses 𝓤 H A at-mem run) W ((tt, tt, tt, x, at), tt) (val r) r (tt, (tt, (tt, (tt, tt)))) (tt, (tt, (tt, (tt, tt))))) $ says ! e $
@@ -121,7 +122,7 @@ module _ {M : Type 1} (𝓤 : URA M) (H : Heap 𝓤) (A : Atoms 𝓤) (W : Given
       owned ! u16 (Is u16) (uint-makes 𝓤 H A W w16) session _ (refl, session-fits) $ fjoin ! $ owned ! u16 (Is u16) (uint-makes 𝓤 H A W w16) number _ (refl, number-fits) $ fjoin ! $ owned ! u16 (Is u16) (uint-makes 𝓤 H A W w16) code _ (refl, code-fits) $ fjoin ! $
       move ! (2 ∷ 0 ∷ []) $ fjoin ! $ move ! (1 ∷ 0 ∷ []) $ join ! $ frame ! $ done !
 
-  module _ (C : Calls 𝓤 H) (Λ : Loops 𝓤 H) (fm : FmC 𝓤 H (W .laws) C) (known : Triple 𝓤 (C #tally·count) (Step 𝓤 H A at-mem run)) where
+  module _ (C : Calls 𝓤 H) (Λ : Loops 𝓤 H) (fm : FmC 𝓤 H (W .laws) C) (known : Triple 𝓤 (C #tally·add-step-in-place) (Step 𝓤 H A at-mem run)) where
     walk : ent 𝓤 (onEntry 𝓤 H A f.signature tt tt x at) (WpFn 𝓤 H C Λ body.function (val h ∷ vint w16 code ∷ vint w16 number ∷ vint w16 session ∷ []) Post)
     walk =
         qed W (‵ ftrue ∷ ‵ (owns (T.the-row ∷ u16 ∷ u16 ∷ u16 ∷ []) x at) ∷ []) ∵ enter ! C Λ body.function (val h ∷ vint w16 code ∷ vint w16 number ∷ vint w16 session ∷ []) _ $
@@ -134,12 +135,12 @@ module _ {M : Type 1} (𝓤 : URA M) (H : Heap 𝓤) (A : Atoms 𝓤) (W : Given
         move ! (4 ∷ []) $ use1 W (‵ (partAt T.the-row fullShare h l₅ 0)) (lies 𝓤 H A W h l₅ h-is) $ lft-new ! tt (λ ν. move ! (1 ∷ []) $
         use1 W (later (some (λ (δ : GName). ‵ (MutRef (named 0) (ν ∷ []) T.the-row .own (lent l₅ δ) (vptr l₅ 0 ∷ [])) ⊛ ‵ (flent (ν ∷ []) (Body (mem T.the-row) l₅ 0 δ))))) (lends-ref 𝓤 H A W T.the-row (named 0) (ν ∷ []) h l₅ 0) $ await ! tt $ pick ! (λ δ. split ! $
         move ! (2 ∷ 0 ∷ []) $ use2 W (raw (Step 𝓤 H A at-mem run .pre (to-step l₅ ν δ))) (goes-step l₅ ν δ) $
-        -- [what `count` asks; the lender's part; _7; …; _6; …; what frees _5; _4; …; _3; …; _2; …; _1; …; _0; …]
+        -- [what `add_step_in_place` asks; the lender's part; _7; …; _6; …; what frees _5; _4; …; _3; …; _2; …; _1; …; _0; …]
         calls-at ! fm (Step 𝓤 H A at-mem run) known (to-step l₅ ν δ) (and-then ! (load ! (from ! (stop !)) (look ! 2 refl)) (and-then ! (load ! (from ! (stop !)) (look ! 11 refl)) (and-then ! (load ! (from ! (stop !)) (look ! 9 refl)) (and-then ! (load ! (from ! (stop !)) (look ! 7 refl)) (no-more !))))) (λ v.
         use1 W (later (some (λ (u : Unit {0}). ((‵ (flft (ν ∷ []) fullShare) ⊛ ‵ ftrue) ⊛ ‵ (Nothing .own u (v ∷ []))) ⊛ raw (ensured 𝓤 H A step.ended (step.clauses 𝓤 H A at-mem run) (ν ∷ [], tt) (lent l₅ δ, (code, (number, (session, tt)))) tt u)))) (id⊢ 𝓤 _) $ await ! tt $ pick ! (λ u.
         -- what it ensures, at some last tally
-        split ! $ move ! (1 ∷ []) $ use1 W (some (λ (ws : Lasts). ‵ (lasts step.ended (ν ∷ [], tt) (lent l₅ δ, (code, (number, (session, tt)))) ws) ⊛ raw (fact 𝓤 (Told h code number session (ws .0))))) (id⊢ 𝓤 _) $ pick ! (λ ws.
-        split ! $ move ! (1 ∷ []) $ heard ! (Told h code number session (ws .0)) (λ e. fsplit ! $ move ! (2 ∷ []) $ split ! $ split ! $ move ! (2 ∷ []) $ feqL ! (λ is-unit.
+        split ! $ move ! (1 ∷ []) $ use1 W (some (λ (ws : Lasts). ‵ (lasts step.ended (ν ∷ [], tt) (lent l₅ δ, (code, (number, (session, tt)))) ws) ⊛ raw (fact 𝓤 (Added h code number session (ws .0))))) (id⊢ 𝓤 _) $ pick ! (λ ws.
+        split ! $ move ! (1 ∷ []) $ heard ! (Added h code number session (ws .0)) (λ e. fsplit ! $ move ! (2 ∷ []) $ split ! $ split ! $ move ! (2 ∷ []) $ feqL ! (λ is-unit.
         -- [the token; true; the last tally; true; the lender's part; _7; …; _6; …]
         land ! (from ! (stop !)) (init ! 7 refl (subst (λ (y : Val). Holds (hasTy tyUnit y) × WT y) (sym (ap only is-unit)) (tt, tt))) $
         -- the lifetime is ended, and the local comes back at that tally
@@ -153,21 +154,21 @@ module _ {M : Type 1} (𝓤 : URA M) (H : Heap 𝓤) (A : Atoms 𝓤) (W : Given
         keep ! (0 ∷ []) $ by ! (exits (ws .0) e)))))))))))))))))
 
 module _ {M : Type 1} (𝓤 : URA M) (H : Heap 𝓤) (A : Atoms 𝓤) (W : Given 𝓤 H A) (at-mem : Memory → SProp 𝓤) (run : Routine → Fun 𝓤) where
-  tallied-walks : (C : Calls 𝓤 H) (Λ : Loops 𝓤 H) → FmC 𝓤 H (W .laws) C → Triple 𝓤 (C #tally·count) (Step 𝓤 H A at-mem run) → Walks 𝓤 H A f.ended stayed (WpFn 𝓤 H C Λ body.function) (f.clauses 𝓤 H A at-mem run)
-  tallied-walks C Λ fm known = walked 𝓤 H A f.ended stayed (f.clauses 𝓤 H A at-mem run) (WpFn 𝓤 H C Λ body.function) (λ κs. (vals, (uint-vals w16, (uint-vals w16, (uint-vals w16, tt))))) (λ κs. (LL.tells T.the-type T′.the-laws, (uint-tells w16, (uint-tells w16, (uint-tells w16, tt)))))
+  walks : (C : Calls 𝓤 H) (Λ : Loops 𝓤 H) → FmC 𝓤 H (W .laws) C → Triple 𝓤 (C #tally·add-step-in-place) (Step 𝓤 H A at-mem run) → Walks 𝓤 H A f.ended stayed (WpFn 𝓤 H C Λ body.function) (f.clauses 𝓤 H A at-mem run)
+  walks C Λ fm known = walked 𝓤 H A f.ended stayed (f.clauses 𝓤 H A at-mem run) (WpFn 𝓤 H C Λ body.function) (λ κs. (vals, (uint-vals w16, (uint-vals w16, (uint-vals w16, tt))))) (λ κs. (LL.tells T.the-type T′.the-laws, (uint-tells w16, (uint-tells w16, (uint-tells w16, tt)))))
       (λ κs qs bounds a _ are. via 𝓤 _ (fst∗ 𝓤 _ (emp 𝓤)) (walk 𝓤 H A W at-mem run (a .0) (a .1 .0) (a .1 .1 .0) (a .1 .1 .1 .0) (are .0) (are .1 .0 .1) (are .1 .1 .0 .1) (are .1 .1 .1 .0 .1) C Λ fm known))
 
   goes : AllGo 𝓤 H A W 0 (f.signature .params) (f.ended .kept) stayed
   goes = (goes-none 𝓤 H A W 0 (λ _. T.the-row) yes (λ κs x f. refl), (goes-none 𝓤 H A W 0 (λ _. u16) yes (λ κs x f. refl), (goes-none 𝓤 H A W 0 (λ _. u16) yes (λ κs x f. refl), (goes-none 𝓤 H A W 0 (λ _. u16) yes (λ κs x f. refl), tt))))
 
-tallied-meets : {M : Type 1} (𝓤 : URA M) (H : Heap 𝓤) (A : Atoms 𝓤) → Given 𝓤 H A → (at-mem : Memory → SProp 𝓤) (run : Routine → Fun 𝓤) (𝓣 : Tables 𝓤 H) → Triple 𝓤 (𝓣 .C #tally·count) (Step 𝓤 H A at-mem run)
+meets : {M : Type 1} (𝓤 : URA M) (H : Heap 𝓤) (A : Atoms 𝓤) → Given 𝓤 H A → (at-mem : Memory → SProp 𝓤) (run : Routine → Fun 𝓤) (𝓣 : Tables 𝓤 H) → Triple 𝓤 (𝓣 .C #tally·add-step-in-place) (Step 𝓤 H A at-mem run)
     → Meets 𝓤 H A f.signature (WpFn 𝓤 H (𝓣 .C) (𝓣 .Λ) body.function) (f.spec 𝓤 H A at-mem run)
-tallied-meets 𝓤 H A W at-mem run 𝓣 known = walk-meets 𝓤 H A f.ended stayed W (goes 𝓤 H A W at-mem run) (f.clauses 𝓤 H A at-mem run) (WpFn 𝓤 H (𝓣 .C) (𝓣 .Λ) body.function) (WpFn-mono 𝓤 H (W .laws) 𝓣 body.function) (tallied-walks 𝓤 H A W at-mem run (𝓣 .C) (𝓣 .Λ) (fmOf 𝓤 H (W .laws) 𝓣) known)
+meets 𝓤 H A W at-mem run 𝓣 known = walk-meets 𝓤 H A f.ended stayed W (goes 𝓤 H A W at-mem run) (f.clauses 𝓤 H A at-mem run) (WpFn 𝓤 H (𝓣 .C) (𝓣 .Λ) body.function) (WpFn-mono 𝓤 H (W .laws) 𝓣 body.function) (walks 𝓤 H A W at-mem run (𝓣 .C) (𝓣 .Λ) (fmOf 𝓤 H (W .laws) 𝓣) known)
 
-pub tallied-spec : {M : Type 1} → stated.statement M
+pub add-step-lent-spec : {M : Type 1} → stated.statement M
 unfolding body.routine tablesOf
-tallied-spec 𝓤 H 𝓜 𝓖 𝓡 =
+add-step-lent-spec 𝓤 H 𝓜 𝓖 𝓡 =
     entered 𝓤 H (tripleOf 𝓤 H (𝓖 .A) f.signature (f.spec 𝓤 H (𝓖 .A) (𝓜 .mem) (𝓡 .run)))
-    (tables 𝓤 H 𝓜 𝓡 body.env .C) (tables 𝓤 H 𝓜 𝓡 body.env .Λ) #tally·tallied body.function (body.unfolded 𝓤 H 𝓜 𝓡)
-    (tallied-meets 𝓤 H (𝓖 .A) (givenOf 𝓤 H 𝓜 𝓖) (𝓜 .mem) (𝓡 .run) (tablesOf 𝓤 H 𝓜 (tables 𝓤 H 𝓜 𝓡 body.env))
-    (cited 𝓤 H (Step 𝓤 H (𝓖 .A) (𝓜 .mem) (𝓡 .run)) 𝓜 𝓡 body.env #tally·count step-def.routine body.calls-tally·count (step-thm.met 𝓤 H 𝓜 𝓖 𝓡)))
+    (tables 𝓤 H 𝓜 𝓡 body.env .C) (tables 𝓤 H 𝓜 𝓡 body.env .Λ) #tally·add-step-lent body.function (body.unfolded 𝓤 H 𝓜 𝓡)
+    (meets 𝓤 H (𝓖 .A) (givenOf 𝓤 H 𝓜 𝓖) (𝓜 .mem) (𝓡 .run) (tablesOf 𝓤 H 𝓜 (tables 𝓤 H 𝓜 𝓡 body.env))
+    (cited 𝓤 H (Step 𝓤 H (𝓖 .A) (𝓜 .mem) (𝓡 .run)) 𝓜 𝓡 body.env #tally·add-step-in-place step-def.routine body.calls-tally·add-step-in-place (step-thm.met 𝓤 H 𝓜 𝓖 𝓡)))

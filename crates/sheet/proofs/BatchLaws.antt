@@ -1,0 +1,205 @@
+-- What each case of a record puts, runs and leaves.
+use Prim.Native.Nat.{ℕ, _+_, _-_, _≤_, _<_}
+use native.Mathlib.Omega.{arith}
+use native.Mathlib.Numerals.{add-one}
+use mathlib.Core.Path.{_≡_, refl, sym, ap, _∙_}
+use mathlib.Core.Bool.{true, false}
+use mathlib.Core.Logic.{_⊎_, inl, inr, ⊎-elim}
+use mathlib.Core.List.{List, [], _∷_, _++_, append-nil}
+use lib.ListN.{length, take, drop, length-append}
+use lib.Seq.{take-at, drop-at}
+use Rattle.rules.specs.Hall.{hallLimits}
+use Rattle.rules.specs.Numbers.{Parsed, parsed, refusalOf, refused}
+use Rattle.rules.specs.Steps.{Result}
+use Rattle.lines.specs.Put.{Put, overwriteAt}
+use Rattle.lines.specs.laws.Put.{put-none, put-on}
+use Rattle.reply.specs.Answer.{answerOf, answerWith, tableResult}
+use Rattle.reader.specs.Results.{carriedOf}
+use Rattle.sheet_rules.specs.Edition1.{hallEdition}
+use Rattle.sheet_rules.specs.Lines.{answerLine, endLine, line, linesFrom}
+use Rattle.sheet_rules.specs.Run.{callsIn, runRecord}
+use Rattle.sheet_rules.specs.Sheet.{Record, Records, complete, more, stop}
+use Rattle.sheet_rules.specs.SheetTheorems.{hall-edition-lawful}
+use Rattle.sheet_rules.specs.Tally.{addStep}
+use Rattle.sheet_rules.specs.laws.Run.{Asks, record-asks}
+use Rattle.sheet_rules.specs.laws.Sheet.{records-end, records-more, records-stop}
+use Rattle.tally.specs.Counts.{toTally}
+use Rattle.sheet.specs.Batch.{Batch, PartialBatch, Progress, batchesLeft, finishedAt, recordRoom, remainingCalls, remainingOutput, remainingRecords}
+use Rattle.sheet.specs.laws.Batches.{emitted-append, emitted-none}
+use Rattle.reader.specs.declared.Carried.the-variants.{LastDesk}
+use Rattle.reply.specs.declared.Reply.{Reply}
+use Rattle.tally.specs.declared.Tally.{Tally}
+use Rattle.sheet.specs.declared.State.{State}
+
+-- ---- Bytes put at the start of a buffer.
+module _ {out outAfter bytes : List ℕ} {next : ℕ} (put : Put out outAfter 0 bytes next) where
+  front : outAfter ≡ bytes ++ drop next out
+  unfolding overwriteAt
+  front = put .written ∙ ap (λ (n : ℕ). bytes ++ drop n out) (sym (put .offset))
+
+  long : length bytes ≡ next
+  long = omega (arith, put .offset)
+
+  pub put-within : next ≤ length outAfter
+  put-within = omega (arith, ap length front, length-append bytes (drop next out), long)
+
+  pub put-first : take next outAfter ≡ bytes
+  put-first = ap (take next) front ∙ take-at bytes (drop next out) next long
+
+  pub put-rest : drop next outAfter ≡ drop next out
+  put-rest = ap (drop next) front ∙ drop-at bytes (drop next out) next long
+
+-- ---- One record.
+
+-- what remains, by what the records from the offset on are
+module _ (sheet : List ℕ) (was : State) (unfinished : was .finished ≡ false) (records : Records)
+    (are : remainingRecords sheet was ≡ records) where
+  output-of-records : (table : List ℕ) → remainingOutput sheet was table ≡ linesFrom table (was .index) (toTally (was .tally)) records
+  output-of-records table = simp (unfinished, are)
+
+  calls-of-records : remainingCalls sheet was ≡ callsIn records
+  calls-of-records = simp (unfinished, are)
+
+-- The state after a record was run.
+abbrev afterRecord : State → ℕ → ℕ → Tally → State
+afterRecord was next desk total = record { offset = next; index = was .index + 1; carried = LastDesk desk; tally = total; finished = false }
+
+-- The next record of a sheet, as it is read.
+abbrev pub nextRecord : List ℕ → State → Parsed Record
+nextRecord sheet was = hallEdition .decodeRecord (carriedOf (was .carried)) sheet (was .offset)
+
+module _ {sheet : List ℕ} {was : State} (unfinished : was .finished ≡ false) where
+  -- A record was run.
+  module _ {entry : Record} {next : ℕ} (inside : was .offset < length sheet) (read : nextRecord sheet was ≡ parsed entry next) where
+    pub record-ran : (reply : Reply) {before after : List ℕ} {number session : ℕ} {total : Tally} {out outAfter : List ℕ} {at end : ℕ}
+        → tableResult reply after ≡ runRecord hallLimits before entry
+        → number ≡ answerOf reply .number
+        → session ≡ answerOf reply .session
+        → toTally total ≡ addStep (toTally (was .tally)) (entry .code) (answerWith number session)
+        → Put out outAfter at (line (was .index) (entry .code) number session) end
+        → PartialBatch sheet was before out at (afterRecord was next (entry .desk) total) after outAfter end
+    record-ran reply {before} {after} {number} {session} {total} result is-number is-session counts put = record {
+      bytes = line (was .index) (entry .code) number session;
+      put = put;
+      emitted = record {
+        output =
+            (λ i. answerLine (was .index) (entry .code) (answers i) ++ linesFrom (leaves i) (add-one (was .index) i) (total-is i) rest)
+            ∙ sym (output-of-records sheet was unfinished (more entry rest) are before);
+        calls = asks .call ∷ [];
+        run = sym (calls-of-records sheet was unfinished (more entry rest) are ∙ simp (asks .asked));
+        table = leaves ∙ simp (asks .asked);
+      };
+    }
+      where
+        rest : Records
+        rest = remainingRecords sheet (afterRecord was next (entry .desk) total)
+
+        are : remainingRecords sheet was ≡ more entry rest
+        are = records-more hall-edition-lawful (carriedOf (was .carried)) sheet (was .offset) entry next inside read
+
+        -- a record that was read has a step's code
+        asks : Asks entry
+        asks = record-asks entry (hall-edition-lawful .record-code (carriedOf (was .carried)) sheet (was .offset) entry next read)
+
+        answers : answerWith number session ≡ runRecord hallLimits before entry .answer
+        answers = (λ i. answerWith (is-number i) (is-session i)) ∙ ap (λ (done : Result (List ℕ)). done .answer) result
+
+        leaves : after ≡ runRecord hallLimits before entry .after
+        leaves = ap (λ (done : Result (List ℕ)). done .after) result
+
+        total-is : toTally total ≡ addStep (toTally (was .tally)) (entry .code) (runRecord hallLimits before entry .answer)
+        total-is = counts ∙ ap (addStep (toTally (was .tally)) (entry .code)) answers
+
+    pub record-progress : {total : Tally} → was .index ≤ was .offset → Progress sheet was (afterRecord was next (entry .desk) total)
+    record-progress numbered =
+        let moved = hall-edition-lawful .record-moves (carriedOf (was .carried)) sheet (was .offset) entry next read in
+        record { fewer = simp unfinished (omega (arith, moved .past, moved .inside)); numbered = omega (arith, moved .past) }
+
+  module _ {before out outAfter : List ℕ} {at end : ℕ} {is : State} where
+    -- No call remains: these are the last lines.
+    last-lines : {bytes : List ℕ} (records : Records) → remainingRecords sheet was ≡ records → callsIn records ≡ []
+        → linesFrom before (was .index) (toTally (was .tally)) records ≡ bytes
+        → Put out outAfter at bytes end → is ≡ finishedAt was
+        → PartialBatch sheet was before out at is before outAfter end
+    last-lines {bytes} records are none lines put same =
+        rw same
+        (record {
+          bytes = bytes;
+          put = put;
+          emitted = record {
+            output = append-nil bytes ∙ sym (output-of-records sheet was unfinished records are before ∙ lines);
+            calls = [];
+            run = sym (calls-of-records sheet was unfinished records are ∙ none);
+            table = refl;
+          };
+        })
+
+    -- The record ends the reading.
+    pub reading-stopped : {code number offset : ℕ} → was .offset < length sheet → nextRecord sheet was ≡ refused (refusalOf code number offset)
+        → Put out outAfter at (line (was .index) code number 0 ++ endLine (toTally (was .tally))) end → is ≡ finishedAt was
+        → PartialBatch sheet was before out at is before outAfter end
+    reading-stopped inside read = last-lines (stop _) (records-stop hall-edition-lawful (carriedOf (was .carried)) sheet (was .offset) _ inside read) refl refl
+
+    -- No record remains.
+    pub sheet-ended : length sheet ≤ was .offset → Put out outAfter at (endLine (toTally (was .tally))) end → is ≡ finishedAt was
+        → PartialBatch sheet was before out at is before outAfter end
+    sheet-ended past = last-lines complete (records-end hall-edition-lawful (carriedOf (was .carried)) sheet (was .offset) past) refl refl
+
+pub finished-progress : {sheet : List ℕ} {was is : State} → is ≡ finishedAt was → was .index ≤ was .offset → Progress sheet was is
+finished-progress same numbered = rw same (record { fewer = omega arith; numbered = numbered })
+
+-- ---- A batch, record after record, at the loop's test.
+pub record Reached (sheet : List ℕ) (was : State) (before out : List ℕ) (is : State) (after outAfter : List ℕ) (at : ℕ) : Type 0 where
+  pub partial : PartialBatch sheet was before out 0 is after outAfter at
+  pub numbered : is .index ≤ is .offset
+  pub noMore : batchesLeft sheet is ≤ batchesLeft sheet was
+  -- after the first pass of the loop, a record was read
+  pub fewer : (at ≡ 0) ⊎ (batchesLeft sheet is ≤ batchesLeft sheet was - 1)
+  pub sameOut : length outAfter ≡ length out
+
+pub reached-first : {sheet : List ℕ} {was : State} {before out : List ℕ} → was .index ≤ was .offset → Reached sheet was before out was before out 0
+reached-first {out = out} numbered = record {
+  partial = record { bytes = []; put = put-none out 0; emitted = emitted-none };
+  numbered = numbered;
+  noMore = omega arith;
+  fewer = inl refl;
+  sameOut = refl;
+}
+
+module _ {sheet : List ℕ} {was : State} {before out : List ℕ} {is : State} {after outAfter : List ℕ} {at : ℕ}
+    (reached : Reached sheet was before out is after outAfter at) where
+  pub reached-within : at ≤ length outAfter
+  reached-within = put-within (reached .partial .put)
+
+  -- one record more
+  pub reached-next : {next : State} {tableNext outNext : List ℕ} {end : ℕ} → PartialBatch sheet is after outAfter at next tableNext outNext end
+      → Progress sheet is next
+      → length outNext ≡ length outAfter
+      → Reached sheet was before out next tableNext outNext end
+  reached-next partial progress sameOut = record {
+    partial = record {
+      bytes = reached .partial .bytes ++ partial .bytes;
+      put = put-on (reached .partial .put) (partial .put);
+      emitted = emitted-append (reached .partial .emitted) (partial .emitted);
+    };
+    numbered = progress .numbered;
+    noMore = omega (arith, progress .fewer, reached .noMore);
+    fewer = inr (omega (arith, progress .fewer, reached .noMore));
+    sameOut = sameOut ∙ reached .sameOut;
+  }
+
+  as-batch : batchesLeft sheet is ≤ batchesLeft sheet was - 1 → Batch sheet was before out is after outAfter at
+  as-batch fewer = record {
+    within = reached-within;
+    emitted = rw (put-first (reached .partial .put)) (reached .partial .emitted);
+    rest = put-rest (reached .partial .put);
+    progress = record { fewer = fewer; numbered = reached .numbered };
+  }
+
+  -- the batch ends because the last line is put
+  pub batch-finished : is .finished ≡ true → Batch sheet was before out is after outAfter at
+  batch-finished finished = as-batch (simp finished (omega arith))
+
+  -- or because there is no more room
+  pub batch-full : recordRoom ≤ length out → length outAfter - at < recordRoom → Batch sheet was before out is after outAfter at
+  batch-full room full = as-batch (⊎-elim (λ first. absurd (omega (arith, first, reached .sameOut))) (λ fewer. fewer) (reached .fewer))

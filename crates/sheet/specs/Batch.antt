@@ -1,0 +1,124 @@
+-- The program prints a sheet in batches, since its output may be longer than its buffer: what remains to be printed at a state,
+-- and what a batch leaves. Document 01, "The day sheet".
+use Prim.Native.Nat.{ℕ, suc, _+_, _-_, _≤_}
+use mathlib.Core.Path.{_≡_}
+use mathlib.Core.Bool.{true, false, cond}
+use mathlib.Core.List.{List, [], _∷_, _++_}
+use lib.ListN.{length, take, drop}
+use Rattle.rules.specs.Hall.{hallLimits}
+use Rattle.rules.specs.Steps.{Call, end}
+use Rattle.rules.specs.Table.{openTable, stepTable}
+use Rattle.lines.specs.Put.{Put}
+use Rattle.reader.specs.Results.{carriedOf}
+use Rattle.sheet_rules.specs.Edition1.{hallEdition}
+use Rattle.sheet_rules.specs.Lines.{linesFrom, printed}
+use Rattle.sheet_rules.specs.Run.{callsIn}
+use Rattle.sheet_rules.specs.Sheet.{Reading, Records, decodeRecords, lentTable, opened, reading, unopened}
+use Rattle.tally.specs.Counts.{toTally}
+use Rattle.sheet.specs.declared.State.{State}
+
+-- Room for the longest last line, and for the longest line with the last line after it (`laws.Longest` of the lines).
+abbrev pub endRoom : ℕ
+endRoom = 67
+
+abbrev pub recordRoom : ℕ
+recordRoom = 84 + endRoom
+
+-- The records that remain to be read.
+abbrev pub remainingRecords : List ℕ → State → Records
+remainingRecords sheet state = decodeRecords hallEdition (length sheet) (carriedOf (state .carried)) sheet (state .offset)
+
+-- The bytes of a sheet's output that remain to be printed: none after the last line, else the lines from the next record on.
+abbrev pub remainingOutput : List ℕ → State → List ℕ → List ℕ
+remainingOutput sheet state table =
+    cond (state .finished) [] (linesFrom table (state .index) (toTally (state .tally)) (remainingRecords sheet state))
+
+-- The calls that remain to be run.
+abbrev pub remainingCalls : List ℕ → State → List Call
+remainingCalls sheet state = cond (state .finished) [] (callsIn (remainingRecords sheet state))
+
+-- The most batches that remain: each but the last reads a record or more, and a record takes a byte or more.
+abbrev pub batchesLeft : List ℕ → State → ℕ
+batchesLeft sheet state = cond (state .finished) 0 (suc (length sheet - state .offset))
+
+abbrev pub finishedAt : State → State
+finishedAt state = record { offset = state .offset; index = state .index; carried = state .carried; tally = state .tally; finished = true }
+
+-- Bytes that lead from one state and table to another: followed by what remains after them, they are what remained before.
+-- The table is as the calls that were run leave it; how many these are is left free.
+pub record Emitted (sheet : List ℕ) (was : State) (before bytes : List ℕ) (is : State) (after : List ℕ) : Type 0 where
+  pub output : bytes ++ remainingOutput sheet is after ≡ remainingOutput sheet was before
+  pub calls : List Call
+  pub run : calls ++ remainingCalls sheet is ≡ remainingCalls sheet was
+  pub table : after ≡ end (stepTable hallLimits) before calls
+
+-- Fewer batches remain, unless none did. A record's number is at most its offset, so that it does not overflow.
+pub record Progress (sheet : List ℕ) (was is : State) : Type 0 where
+  pub fewer : batchesLeft sheet is ≤ batchesLeft sheet was - 1
+  pub numbered : is .index ≤ is .offset
+
+-- A part of a batch: the bytes are in the buffer, from an offset on.
+pub record PartialBatch (sheet : List ℕ) (was : State) (before out : List ℕ) (at : ℕ) (is : State) (after outAfter : List ℕ) (next : ℕ) : Type 0 where
+  pub bytes : List ℕ
+  pub put : Put out outAfter at bytes next
+  pub emitted : Emitted sheet was before bytes is after
+
+-- A batch: its bytes are the first of the buffer, and the rest of the buffer is unchanged.
+pub record Batch (sheet : List ℕ) (was : State) (before out : List ℕ) (is : State) (after outAfter : List ℕ) (put : ℕ) : Type 0 where
+  pub within : put ≤ length outAfter
+  pub emitted : Emitted sheet was before (take put outAfter) is after
+  pub rest : drop put outAfter ≡ drop put out
+  pub progress : Progress sheet was is
+
+-- ---- The first batch: the header and the opening.
+
+-- the table after the opening, and the calls to run
+abbrev pub startTable : Reading → List ℕ
+startTable (unopened reason) = lentTable
+startTable (opened hall records) = openTable hallLimits hall lentTable .after
+
+abbrev pub callsOf : Reading → List Call
+callsOf (unopened reason) = []
+callsOf (opened hall records) = callsIn records
+
+-- the table after all calls of a sheet
+abbrev pub sheetTable : List ℕ → List ℕ
+sheetTable sheet = end (stepTable hallLimits) (startTable (reading hallEdition sheet)) (callsOf (reading hallEdition sheet))
+
+-- The first bytes of the output: the header's line, or all lines where the reading ends before a record.
+pub record Started (sheet out : List ℕ) (is : State) (after outAfter : List ℕ) (put : ℕ) : Type 0 where
+  pub within : put ≤ length outAfter
+  pub output : take put outAfter ++ remainingOutput sheet is after ≡ printed hallEdition sheet
+  pub run : remainingCalls sheet is ≡ callsOf (reading hallEdition sheet)
+  pub table : after ≡ startTable (reading hallEdition sheet)
+  pub rest : drop put outAfter ≡ drop put out
+  pub numbered : is .index ≤ is .offset
+
+-- ---- Batches one after another.
+
+-- the bytes of a batch, and the state and the table after it
+pub record BatchResult : Type 0 where
+  pub bytes : List ℕ
+  pub state : State
+  pub table : List ℕ
+
+abbrev pub lastState : State → List BatchResult → State
+lastState state [] = state
+lastState state (batch ∷ batches) = lastState (batch .state) batches
+
+abbrev pub lastTable : List ℕ → List BatchResult → List ℕ
+lastTable table [] = table
+lastTable table (batch ∷ batches) = lastTable (batch .table) batches
+
+abbrev pub bytesOf : List BatchResult → List ℕ
+bytesOf [] = []
+bytesOf (batch ∷ batches) = batch .bytes ++ bytesOf batches
+
+-- Each batch starts at the state and the table that the last one left, and only where that state is not finished.
+abbrev pub Batches : List ℕ → State → List ℕ → List BatchResult → Type 0
+Batches sheet was before [] = Unit {0}
+Batches sheet was before (batch ∷ batches) =
+    (was .finished ≡ false)
+    × Emitted sheet was before (batch .bytes) (batch .state) (batch .table)
+    × Progress sheet was (batch .state)
+    × Batches sheet (batch .state) (batch .table) batches

@@ -1,0 +1,87 @@
+-- Laws of batches one after another.
+use Prim.Native.Nat.{ℕ, suc, _+_, _-_, _≤_, _<_}
+use native.Mathlib.Omega.{arith}
+use mathlib.Core.Path.{_≡_, refl, sym, ap, _∙_}
+use mathlib.Core.Bool.{Bool, true, false, cond}
+use mathlib.Core.List.{List, [], _∷_, _++_, append-assoc, append-nil}
+use lib.ListN.{length}
+use Rattle.rules.specs.Hall.{hallLimits}
+use Rattle.rules.specs.Steps.{Call, end}
+use Rattle.rules.specs.Table.{stepTable}
+use Rattle.sheet.specs.Batch.{BatchResult, Batches, Emitted, Progress, Started, batchesLeft, bytesOf, lastState, lastTable, remainingCalls}
+use Rattle.sheet.specs.Batch.{remainingOutput, sheetTable}
+use Rattle.sheet.specs.declared.State.{State}
+
+end-append : (table : List ℕ) (calls more : List Call)
+    → end (stepTable hallLimits) table (calls ++ more) ≡ end (stepTable hallLimits) (end (stepTable hallLimits) table calls) more
+end-append table [] more = refl
+end-append table (call ∷ calls) more = end-append (stepTable hallLimits table call .after) calls more
+
+-- ---- Bytes emitted.
+
+-- no byte, and no call
+pub emitted-none : {sheet : List ℕ} {state : State} {table : List ℕ} → Emitted sheet state table [] state table
+emitted-none = record { output = refl; calls = []; run = refl; table = refl }
+
+-- some bytes, and more after them
+pub emitted-append : {sheet : List ℕ} {first : State} {table bytes : List ℕ} {second : State} {middle more : List ℕ} {third : State} {last : List ℕ}
+    → Emitted sheet first table bytes second middle → Emitted sheet second middle more third last
+    → Emitted sheet first table (bytes ++ more) third last
+emitted-append {sheet} {first} {table} {bytes} {second} {middle} {more} {third} {last} one two = record {
+  output = append-assoc bytes more (remainingOutput sheet third last) ∙ ap (λ (rest : List ℕ). bytes ++ rest) (two .output) ∙ one .output;
+  calls = one .calls ++ two .calls;
+  run =
+      append-assoc (one .calls) (two .calls) (remainingCalls sheet third)
+      ∙ ap (λ (rest : List Call). one .calls ++ rest) (two .run)
+      ∙ one .run;
+  table = two .table ∙ ap (λ (words : List ℕ). end (stepTable hallLimits) words (two .calls)) (one .table) ∙ sym (end-append table (one .calls) (two .calls));
+}
+
+-- bytes that lead to a finished state are all that remained
+pub emitted-all : {sheet : List ℕ} {was : State} {before bytes : List ℕ} {is : State} {after : List ℕ} → Emitted sheet was before bytes is after
+    → is .finished ≡ true
+    → bytes ≡ remainingOutput sheet was before
+emitted-all {sheet} {was} {before} {bytes} {is} {after} emitted finished =
+    let none : remainingOutput sheet is after ≡ [] = simp finished in
+    sym (append-nil bytes) ∙ ap (λ (rest : List ℕ). bytes ++ rest) (sym none) ∙ emitted .output
+
+-- ---- The table that the remaining calls will leave: no batch changes it.
+abbrev pub finalTable : List ℕ → State → List ℕ → List ℕ
+finalTable sheet state table = end (stepTable hallLimits) table (remainingCalls sheet state)
+
+pub final-table-at-start : {sheet out : List ℕ} {first : State} {table outAfter : List ℕ} {put : ℕ} → Started sheet out first table outAfter put
+    → finalTable sheet first table ≡ sheetTable sheet
+final-table-at-start started = λ i. end (stepTable hallLimits) (started .table i) (started .run i)
+
+pub final-table-kept : {sheet : List ℕ} {was : State} {before bytes : List ℕ} {is : State} {after : List ℕ} → Emitted sheet was before bytes is after
+    → finalTable sheet is after ≡ finalTable sheet was before
+final-table-kept {sheet} {was} {before} {bytes} {is} emitted =
+    ap (λ (words : List ℕ). end (stepTable hallLimits) words (remainingCalls sheet is)) (emitted .table)
+    ∙ sym (end-append before (emitted .calls) (remainingCalls sheet is))
+    ∙ ap (end (stepTable hallLimits) before) (emitted .run)
+
+-- at a finished state no call remains
+pub final-table-at-end : (sheet : List ℕ) (state : State) (table : List ℕ) → state .finished ≡ true → finalTable sheet state table ≡ table
+final-table-at-end sheet state table finished = let none : remainingCalls sheet state ≡ [] = simp finished in ap (end (stepTable hallLimits) table) none
+
+-- ---- Batches.
+pub batches-emitted : (sheet : List ℕ) (was : State) (before : List ℕ) (batches : List BatchResult) → Batches sheet was before batches
+    → Emitted sheet was before (bytesOf batches) (lastState was batches) (lastTable before batches)
+batches-emitted sheet was before [] each = emitted-none
+batches-emitted sheet was before (batch ∷ batches) each = emitted-append (each .1) (batches-emitted sheet (batch .state) (batch .table) batches (each .3))
+
+pub fewer-left : {sheet : List ℕ} {was is : State} → was .finished ≡ false → Progress sheet was is → batchesLeft sheet is < batchesLeft sheet was
+fewer-left {sheet} {was} unfinished progress = let left : 1 ≤ batchesLeft sheet was = simp unfinished (omega arith) in omega (arith, progress .fewer)
+
+pub batches-bounded : (sheet : List ℕ) (was : State) (before : List ℕ) (batches : List BatchResult) → Batches sheet was before batches
+    → length batches + batchesLeft sheet (lastState was batches) ≤ batchesLeft sheet was
+batches-bounded sheet was before [] each = omega arith
+batches-bounded sheet was before (batch ∷ batches) each =
+    omega (arith, fewer-left (each .0) (each .2), batches-bounded sheet (batch .state) (batch .table) batches (each .3))
+
+pub batches-left-bounded : (sheet : List ℕ) (state : State) → batchesLeft sheet state ≤ suc (length sheet)
+batches-left-bounded sheet state = by-end (state .finished)
+  where
+    by-end : (finished : Bool) → cond finished 0 (suc (length sheet - state .offset)) ≤ suc (length sheet)
+    by-end true = omega arith
+    by-end false = omega arith

@@ -1,0 +1,46 @@
+-- What the records of a sheet do to a table: the call that each asks for, and its result. Document 01, "The day sheet".
+use Prim.Native.Nat.{ℕ}
+use mathlib.Core.Bool.{cond}
+use mathlib.Core.List.{List, [], _∷_}
+use mathlib.Core.Option.{Option, none, some}
+use lib.Dec.{eqb}
+use Rattle.rules.specs.Hall.{Limits}
+use Rattle.rules.specs.Steps.{Call, Collect, Drop, Result, Retire, Step, Swap, Take, _sends_, refuse}
+use Rattle.rules.specs.Table.{stepTable}
+use Rattle.sheet_rules.specs.Sheet.{Record, Records, complete, more, stop}
+
+-- "step code (take 1, drop 2, swap 3, retire 4, collect 5)"
+abbrev pub codeOf : Step → ℕ
+codeOf (Take c p) = 1
+codeOf (Drop c) = 2
+codeOf (Swap p session) = 3
+codeOf Retire = 4
+codeOf Collect = 5
+
+-- The call that a record asks for. A record with any other code asks for none.
+abbrev pub callOf : Record → Option Call
+callOf entry =
+    cond (eqb (entry .code) 1) (some (entry .desk sends Take (entry .screen) (entry .position)))
+    (cond (eqb (entry .code) 2) (some (entry .desk sends Drop (entry .screen)))
+    (cond (eqb (entry .code) 3) (some (entry .desk sends Swap (entry .position) (entry .session)))
+    (cond (eqb (entry .code) 4) (some (entry .desk sends Retire))
+    (cond (eqb (entry .code) 5) (some (entry .desk sends Collect)) none))))
+
+-- "Is the code 1 to 5? 17": the answer where no call is asked for. "A "no" gives the number, session 0, and nothing written."
+abbrev pub runCall : Limits → List ℕ → Option Call → Result (List ℕ)
+runCall limits table none = refuse 17 table
+runCall limits table (some call) = stepTable limits table call
+
+-- What a record does to a table.
+abbrev pub runRecord : Limits → List ℕ → Record → Result (List ℕ)
+runRecord limits table entry = runCall limits table (callOf entry)
+
+-- The calls that records ask for, in order.
+abbrev pub consSome : Option Call → List Call → List Call
+consSome none calls = calls
+consSome (some call) calls = call ∷ calls
+
+abbrev pub callsIn : Records → List Call
+callsIn complete = []
+callsIn (stop reason) = []
+callsIn (more entry rest) = consSome (callOf entry) (callsIn rest)
