@@ -1,5 +1,5 @@
 #!/usr/bin/env python3
-"""Checks the documents: every name in backticks is declared in the repository, and no line but a table's is too long.
+"""Checks the documents: every name in backticks is declared in the repository, and no line is longer than 120 columns.
 
 usage: tests/documents.py [DOCUMENT ...]        by default README.md, tests/README.md, docs/*.md and docs/landings/README.md
 
@@ -19,7 +19,7 @@ import sys
 ROOT = pathlib.Path(__file__).resolve().parent.parent
 PLACES = ['crates', 'edits', 'tests', 'tools', 'include', 'examples', 'bench', 'docs', 'Makefile', '.ci']
 BUILT = ('build', 'target')
-WIDTH = 120                  # columns of a line that is no table row
+WIDTH = 120                  # columns
 GENERATED = ('MUTANTS.md',)  # written by a tool, in lines of any length
 KIT = ('io', 'libc')  # crates of the toolchain
 CLAUSES = {'requires', 'ensures'}
@@ -124,7 +124,7 @@ def main():
             if not names.has(mark):
                 faults.append(f'{document.name}: `{mark}` is not declared')
         for number, line in enumerate(text.splitlines(), 1):
-            if len(line) > WIDTH and not line.startswith('|') and document.name not in GENERATED:
+            if len(line) > WIDTH and document.name not in GENERATED:
                 faults.append(f'{document.name}:{number}: the line has {len(line)} columns')
     print(*faults, sep='\n', end='\n' if faults else '')
     print(f'documents: {count} names, {len(faults)} faults')

@@ -177,6 +177,9 @@ refused 2 "d.txt: this is the text of a sheet; 'encode' makes the sheet" explain
 refused 2 "./none: no such file or directory" explain d.sheet --program none
 refused 2 "/bin/false: ended with status 1" explain d.sheet --program /bin/false
 refused 2 "/bin/true: the last line is incomplete; are these the lines of a sheet?" explain d.sheet --program /bin/true
+printf '#!/bin/sh\necho "day_sheet: cannot read standard input: Is a directory" >&2\n' >failing
+chmod +x failing
+refused 2 "./failing: day_sheet: cannot read standard input: Is a directory" explain d.sheet --program failing
 refused 2 "none/d.svg: no such file or directory" picture d.sheet none/d.svg --program "$program"
 printf '\021\001\001' >refused.sheet
 refused 2 "the opening is refused with 1, so there is no hall to draw ('explain' says why)" \

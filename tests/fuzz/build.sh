@@ -20,10 +20,10 @@ if ! command -v clang >/dev/null || ! echo 'int LLVMFuzzerTestOneInput(void) { r
     apt-get install --quiet --quiet --yes clang libclang-rt-14-dev
 fi
 
-# One object with the six calls and all that they need, in which only their names
-# are global, as in tests/archive: a board in Rust comes with a runtime, and so
-# does the reference.
-calls="board_open board_take board_drop board_swap board_retire board_collect"
+# One object with the calls of the header and all that they need, in which only
+# their names are global, as in tests/archive: a board in Rust comes with a
+# runtime, and so does the reference.
+calls=$(sed -n 's/^uint32_t \([a-z_]*\)(.*/\1/p' "$fuzz/../../include/session_board.h")
 ld -r --force-group-allocation $(printf -- '--undefined=%s ' $calls) "$library" -o "$out/board.o"
 objcopy $(printf -- '--keep-global-symbol=%s ' $calls) \
     --remove-section=.llvmbc --remove-section=.llvmcmd "$out/board.o"

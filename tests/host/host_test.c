@@ -483,7 +483,7 @@ static void steps_refuse_with_5(void)
     }
 }
 
-/* An open hall of 1, 1, 1 in so many bytes: too short, or with some over. */
+/* An open hall of 1, 1, 1 in tables of 0 to 50 bytes: too short, or longer. */
 static void every_length(int place)
 {
     static const uint8_t header[6] = {1, 0, 1, 0, 1, 0};
@@ -537,7 +537,7 @@ static void fill(enum filling with)
     for (size_t at = 0; at < lent.bytes; at++)
         lent.table[at] = with == ZEROS ? 0x00 : with == ONES ? 0xFF : random_byte();
     if (with == RANDOM && lent.bytes > 0)
-        lent.table[0] = 17; /* no hall has so many desks */
+        lent.table[0] = 17; /* more desks than a hall can have */
     if (with == RANDOM_WITH_HEADER && lent.bytes >= 6) {
         static const uint8_t header[6] = {2, 0, 1, 0, 2, 0};
         memcpy(lent.table, header, 6); /* the rest is read now, and is wrong */

@@ -45,7 +45,14 @@ def run(data, program):
         raise UserError(f"{path}: did not end within {MAX_SECONDS} s") from None
     if done.returncode != 0:
         raise UserError(f"{path}: ended with status {done.returncode}")
+    if done.stderr:  # the program reports a failed read or write there; its status is always 0
+        raise UserError(f"{path}: {first_line(done.stderr)}")
     return path, done.stdout
+
+
+def first_line(data):
+    line = data.decode(errors="replace").split("\n")[0][:200]
+    return "".join(letter if letter.isprintable() else "?" for letter in line)
 
 
 def parse(printed, name):

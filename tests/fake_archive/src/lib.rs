@@ -1,8 +1,8 @@
-//! The reference under the board's six C names. It stands in for the archive
-//! where the comparison itself is tested, and for nothing else.
+//! The reference under the board's six C names. It replaces the archive in the
+//! self-tests, and only there.
 //!
-//! The reference is compiled in as a module, not linked as a crate: its
-//! functions must not be taken for those of the comparison's own reference.
+//! The reference is included as a module, not linked as a crate: its functions
+//! must not be confused with those of the comparison's own reference.
 
 #[allow(dead_code, unused_imports)]
 #[path = "../../reference/src/lib.rs"]
