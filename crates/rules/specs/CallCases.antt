@@ -1,16 +1,17 @@
 -- What the statements about one call admit and what they refuse, by computation: demand 1, widths, words and bytes, locality. For each
 -- field of each statement there is a result that this field alone refuses. No theorem is used here.
-use Prim.Native.Nat.{ℕ, zero, suc}
+use Prim.Native.Nat.{ℕ, zero, suc, _≤_}
 use native.Mathlib.Omega.{arith}
-use mathlib.Core.Path.{_≡_, refl, ap}
-use mathlib.Core.Bool.{Bool, true, false, cond}
+use mathlib.Core.Path.{_≡_, refl, ap, subst}
+use mathlib.Core.Bool.{Bool, true, false, cond, true≢false}
 use mathlib.Core.List.{List, [], _∷_, _++_, map}
 use lib.ListN.{getD, replicate}
 use lib.Dec.{eqb, ltb}
 use Rattle.rules.specs.Bytes.{Agrees, Call16, Calls16, IsBytes, Words16, bytesOfWords, openBytes, overwriteWords, pack, stepBytes, unpack, wordsOfBytes}
-use Rattle.rules.specs.Cases.{ok, refusedWith}
+use Rattle.rules.specs.Cases.{ok, refusedWith, wide}
 use Rattle.rules.specs.Demands.{Demand1, footprint, onBytesOf, openingFootprint, openingRefusals, refusals}
 use Rattle.rules.specs.Hall.{Desk, Formed, Hall, Limits, State, emptyDesk, hallLimits, hallOf, marked, unmarked}
+use Rattle.rules.specs.Lists.{occurrences, toNat}
 use Rattle.rules.specs.Locality.{OthersStay, SameView, StepsAlike, deskAt, namedWords, positionAt, screenAt, screensRead, writesPosition, writesScreen}
 use Rattle.rules.specs.Steps.{Answer, Call, Collect, Drop, Result, Retire, Step, Swap, Take, _sends_, accept, refuse, step}
 use Rattle.rules.specs.Table.{decodeDesk, encodeDesk, openTable, recordSound, sound, stepTable}
@@ -23,10 +24,10 @@ abbrev below : ℕ → (ℕ → Bool) → List ℕ
 below zero test = []
 below (suc n) test = below n test ++ cond (test n) (n ∷ []) []
 
--- 2 desks with 2 screens each and 2 positions: S = 4, and desk 2's record of 21 words starts at word 30. Position 2 holds 5; desk 2 owes 9
+-- 2 desks with 2 screens each and 2 positions: S = 4, and desk 2's record of 21 words starts at word 30. Position 1 holds 5; desk 2 owes 9
 -- and has 8 ready.
 abbrev twoByTwo : List ℕ
-twoByTwo = (2 ∷ 2 ∷ 2 ∷ 0 ∷ 5 ∷ 0 ∷ 0 ∷ 0 ∷ 6 ∷ []) ++ (replicate 21 0 ++ ((9 ∷ 0 ∷ 1 ∷ replicate 10 0) ++ (8 ∷ replicate 7 0)))
+twoByTwo = (2 ∷ 2 ∷ 2 ∷ 5 ∷ 0 ∷ 0 ∷ 0 ∷ 0 ∷ 6 ∷ []) ++ (replicate 21 0 ++ ((9 ∷ 0 ∷ 1 ∷ replicate 10 0) ++ (8 ∷ replicate 7 0)))
 
 -- the words that a call of desk 2 names
 abbrev named : Step → List ℕ
@@ -36,7 +37,7 @@ named step = below 60 (footprint twoByTwo (2 sends step))
 -- count of waiting and the first unused slot; collect, all of the record but the owed word
 pub words-named :
     map named (Take 1 2 ∷ Drop 2 ∷ Swap 1 7 ∷ Swap 2 7 ∷ Retire ∷ [])
-    ≡ (7 ∷ []) ∷ (8 ∷ []) ∷ (3 ∷ []) ∷ (4 ∷ 30 ∷ []) ∷ (30 ∷ 34 ∷ 44 ∷ []) ∷ []
+    ≡ (7 ∷ []) ∷ (8 ∷ []) ∷ (3 ∷ 30 ∷ []) ∷ (4 ∷ []) ∷ (30 ∷ 34 ∷ 44 ∷ []) ∷ []
 words-named = refl
 
 pub words-named-by-collect : named Collect ≡ below 51 (λ i. ltb 30 i)
@@ -62,6 +63,22 @@ opening-refusal-numbers = refl
 -- Results of a take that demand 1 refuses. It may give 5 to 10, and may write word 1 of these four.
 abbrev TakeDemand1 : Result (List ℕ) → Type 0
 TakeDemand1 = Demand1 (refusals (1 sends Take 1 1)) (eqb 1) (4 ∷ 5 ∷ 6 ∷ 7 ∷ [])
+
+-- It admits a refusal with 5, and an accepted call that wrote word 1.
+pub demand-1-admits : TakeDemand1 (refuse 5 (4 ∷ 5 ∷ 6 ∷ 7 ∷ [])) × TakeDemand1 (accept 9 (4 ∷ 9 ∷ 6 ∷ 7 ∷ []))
+demand-1-admits = (
+  record {
+    refused = λ n number. (subst (λ (number : ℕ). 1 ≤ occurrences number (refusals (1 sends Take 1 1))) number (omega arith), refl, refl);
+    accepted = λ number i free. refl;
+    sameLength = refl;
+  },
+  record { refused = λ n number. absurd (omega (arith, number)); accepted = λ number. kept; sameLength = refl },
+)
+  where
+    kept : (i : ℕ) → eqb 1 i ≡ false → _≡_ {A = ℕ} (getD (4 ∷ 9 ∷ 6 ∷ 7 ∷ []) i 0) (getD (4 ∷ 5 ∷ 6 ∷ 7 ∷ []) i 0)
+    kept zero free = refl
+    kept (suc zero) free = absurd (true≢false free)
+    kept (suc (suc i)) free = refl
 
 -- a number that is not the step's; a session beside the number; a word written; accepted, a word written that is not named; a table of
 -- another length
@@ -191,37 +208,39 @@ pub smaller-limits : (answersOf fourDesks ≡ ok 0 ∷ refusedWith 1 ∷ refused
 unfolding openTable stepTable sound recordSound encodeDesk decodeDesk
 smaller-limits = (refl, refl)
 
--- ---- Locality. What a call sees, in a hall of 2 desks with 2 screens each and 2 positions.
+-- ---- Locality. What a call sees, in a hall of 2 desks with 3 screens each and 4 positions.
 abbrev pub deskWith : ℕ → List ℕ → Desk
 deskWith owed waiting = record { owed = owed; scanned = 0; ready = []; tested = []; waiting = waiting }
 
-abbrev wide : Hall
-wide = hallOf 2 2 2
-
 abbrev wideState : State
-wideState = record { held = 7 ∷ 8 ∷ []; shown = 1 ∷ 2 ∷ 3 ∷ 4 ∷ []; desks = deskWith 5 [] ∷ deskWith 6 (9 ∷ []) ∷ [] }
+wideState = record { held = 7 ∷ 8 ∷ 9 ∷ 10 ∷ []; shown = 1 ∷ 2 ∷ 3 ∷ 4 ∷ 5 ∷ 6 ∷ []; desks = deskWith 5 [] ∷ deskWith 6 (9 ∷ []) ∷ [] }
 
 -- a desk, a screen and a position that the hall has, and those on either side that it has not
 pub seen-parts :
     (map (λ (d : ℕ). deskAt wide wideState d .owed) (0 ∷ 1 ∷ 2 ∷ 3 ∷ []) ≡ 0 ∷ 5 ∷ 6 ∷ 0 ∷ [])
-    × (map (screenAt wide wideState 2) (0 ∷ 1 ∷ 2 ∷ 3 ∷ []) ≡ 0 ∷ 3 ∷ 4 ∷ 0 ∷ [])
-    × (map (λ (d : ℕ). screenAt wide wideState d 2) (0 ∷ 1 ∷ 2 ∷ 3 ∷ []) ≡ 0 ∷ 2 ∷ 4 ∷ 0 ∷ [])
-    × (map (positionAt wide wideState) (0 ∷ 1 ∷ 2 ∷ 3 ∷ []) ≡ 0 ∷ 7 ∷ 8 ∷ 0 ∷ [])
+    × (map (screenAt wide wideState 2) (0 ∷ 1 ∷ 2 ∷ 3 ∷ 4 ∷ []) ≡ 0 ∷ 4 ∷ 5 ∷ 6 ∷ 0 ∷ [])
+    × (map (λ (d : ℕ). screenAt wide wideState d 2) (0 ∷ 1 ∷ 2 ∷ 3 ∷ []) ≡ 0 ∷ 2 ∷ 5 ∷ 0 ∷ [])
+    × (map (positionAt wide wideState) (0 ∷ 1 ∷ 4 ∷ 5 ∷ []) ≡ 0 ∷ 7 ∷ 10 ∷ 0 ∷ [])
 seen-parts = (refl, refl, refl, refl)
+
+-- the five steps, each with numbers of its own
+abbrev steps : List Step
+steps = Take 3 1 ∷ Drop 1 ∷ Swap 3 9 ∷ Retire ∷ Collect ∷ []
 
 -- what each step of desk 2 names, and the screens that it reads: a collect, the next two where something is tested
 pub seen-by-steps :
-    (map (λ (step : Step). namedWords wide wideState (2 sends step)) (Take 2 1 ∷ Drop 1 ∷ Swap 2 9 ∷ Retire ∷ Collect ∷ []) ≡ (4 ∷ 7 ∷ []) ∷ (3 ∷ []) ∷ (8 ∷ []) ∷ [] ∷ [] ∷ [])
-    × (map (λ (step : Step). screensRead wide wideState (2 sends step)) (Take 2 1 ∷ Drop 1 ∷ Swap 2 9 ∷ Retire ∷ Collect ∷ []) ≡ [] ∷ [] ∷ [] ∷ [] ∷ (1 ∷ 2 ∷ []) ∷ [])
+    (map (λ (step : Step). namedWords wide wideState (2 sends step)) steps ≡ (6 ∷ 7 ∷ []) ∷ (4 ∷ []) ∷ (9 ∷ []) ∷ [] ∷ [] ∷ [])
+    × (map (λ (step : Step). screensRead wide wideState (2 sends step)) steps ≡ [] ∷ [] ∷ [] ∷ [] ∷ (1 ∷ 2 ∷ []) ∷ [])
     × (screensRead wide wideState (1 sends Collect) ≡ [])
 seen-by-steps = (refl, refl, refl)
 
--- the screens 1 and 2 and the positions 1 and 2 that each step writes
+-- the screens 1 to 3 and the positions 1 to 3 that each step writes
+abbrev writtenOf : (Step → ℕ → Bool) → List (List ℕ)
+writtenOf writes = map (λ (step : Step). map (λ (n : ℕ). toNat (writes step n)) (1 ∷ 2 ∷ 3 ∷ [])) steps
+
 pub written-by-steps :
-    (map (λ (step : Step). map (writesScreen step) (1 ∷ 2 ∷ [])) (Take 2 1 ∷ Drop 1 ∷ Swap 2 9 ∷ Retire ∷ Collect ∷ [])
-    ≡ (false ∷ true ∷ []) ∷ (true ∷ false ∷ []) ∷ (false ∷ false ∷ []) ∷ (false ∷ false ∷ []) ∷ (false ∷ false ∷ []) ∷ [])
-    × (map (λ (step : Step). map (writesPosition step) (1 ∷ 2 ∷ [])) (Take 2 1 ∷ Drop 1 ∷ Swap 2 9 ∷ Retire ∷ Collect ∷ [])
-    ≡ (false ∷ false ∷ []) ∷ (false ∷ false ∷ []) ∷ (false ∷ true ∷ []) ∷ (false ∷ false ∷ []) ∷ (false ∷ false ∷ []) ∷ [])
+    (writtenOf writesScreen ≡ (0 ∷ 0 ∷ 1 ∷ []) ∷ (1 ∷ 0 ∷ 0 ∷ []) ∷ (0 ∷ 0 ∷ 0 ∷ []) ∷ (0 ∷ 0 ∷ 0 ∷ []) ∷ (0 ∷ 0 ∷ 0 ∷ []) ∷ [])
+    × (writtenOf writesPosition ≡ (0 ∷ 0 ∷ 0 ∷ []) ∷ (0 ∷ 0 ∷ 0 ∷ []) ∷ (0 ∷ 0 ∷ 1 ∷ []) ∷ (0 ∷ 0 ∷ 0 ∷ []) ∷ (0 ∷ 0 ∷ 0 ∷ []) ∷ [])
 written-by-steps = (refl, refl)
 
 -- In a hall of three desks with one screen each, desk 1 has 5 waiting. These two states differ in everything that a collect of desk 1 does
@@ -283,15 +302,20 @@ not-alike = (
 )
 
 -- A take of desk 1 at screen 1 may not write another desk's record, another desk's screen, or a position; a drop of desk 2 not its other
--- screen.
+-- screens; and a swap at position 3 not screen 3.
+abbrev shows : List ℕ → State
+shows screens = record { held = wideState .held; shown = screens; desks = wideState .desks }
+
 pub others-do-not-stay :
     (OthersStay threeDesks (1 sends Take 1 1) quiet (record { held = quiet .held; shown = quiet .shown; desks = busy .desks }) → ⊥)
     × (OthersStay threeDesks (1 sends Take 1 1) quiet dark → ⊥)
     × (OthersStay threeDesks (1 sends Take 1 1) quiet (record { held = busy .held; shown = quiet .shown; desks = quiet .desks }) → ⊥)
-    × (OthersStay wide (2 sends Drop 1) wideState (record { held = wideState .held; shown = 1 ∷ 2 ∷ 0 ∷ 0 ∷ []; desks = wideState .desks }) → ⊥)
+    × (OthersStay wide (2 sends Drop 1) wideState (shows (1 ∷ 2 ∷ 3 ∷ 0 ∷ 5 ∷ 0 ∷ [])) → ⊥)
+    × (OthersStay wide (2 sends Swap 3 9) wideState (shows (1 ∷ 2 ∷ 3 ∷ 4 ∷ 5 ∷ 0 ∷ [])) → ⊥)
 others-do-not-stay = (
   λ stay. omega (arith, ap (λ (desk : Desk). desk .owed) (stay .desks 2 (λ same. omega arith))),
   λ stay. omega (arith, stay .screens 2 1 (λ same. absurd (omega arith))),
   λ stay. omega (arith, stay .positions 2 refl),
-  λ stay. omega (arith, stay .screens 2 2 (λ same. refl)),
+  λ stay. omega (arith, stay .screens 2 3 (λ same. refl)),
+  λ stay. omega (arith, stay .screens 2 3 (λ same. refl)),
 )

@@ -3,15 +3,16 @@
 -- A history is a board's (`historyOf`), or is written down with its answers, right or wrong.
 use Prim.Native.Nat.{ℕ, zero, suc, _+_, _≤_, _<_}
 use native.Mathlib.Omega.{arith}
+use native.Mathlib.Decide.{decLe}
 use mathlib.Core.Path.{_≡_, refl, sym, ap, _∙_, subst}
 use mathlib.Core.Bool.{Bool, true}
 use mathlib.Core.List.{List, [], _∷_, _++_, map}
 use lib.ListN.{getD, length, replicate, take}
 use lib.Dec.{eqb}
 use borrow.Author.Tests.{eq-eqb}
-use Rattle.rules.specs.Cases.{_⇒_, ok, refusedWith}
+use Rattle.rules.specs.Cases.{_⇒_, ok, refusedWith, wide, wideWords}
 use Rattle.rules.specs.Closing.{ClosingRule, HandBackCloses, PutFresh, ShownNowhere, StandsNowhere, Unreferenced, putAt}
-use Rattle.rules.specs.Demands.{Demand2, Demand3, Guarantee, HandedBackWithin, listOfDesk, sharperBound}
+use Rattle.rules.specs.Demands.{Demand2, Demand3, Guarantee, HandedBackWithin, countsOfDesk, listOfDesk, sharperBound}
 use Rattle.rules.specs.Hall.{Hall, hallLimits, hallOf}
 use Rattle.rules.specs.History.{Action, CollectsBetweenRetires, DroppedBefore, Effect, Linked, NextDrop, NextRetire, NextSwap, Shows, Unshown, _by_, collects}
 use Rattle.rules.specs.History.{collectsOf, drops, effectAt, effectOf, handBacks, handBacksOf, handsBack, isCollect, isHandBack, isHandBackOf, isRetireAttempt}
@@ -20,9 +21,10 @@ use Rattle.rules.specs.Lists.{toNat}
 use Rattle.rules.specs.Steps.{Answer, Call, Collect, Drop, Event, Retire, Swap, Take, _sends_, end, run}
 use Rattle.rules.specs.Table.{decodeDesk, encodeDesk, openTable, owedOffset, positionWord, recordOf, recordSound, screenWord, sound, stepTable}
 use Rattle.rules.specs.laws.history.Actions.{isDrop}
-use Rattle.rules.specs.laws.history.Checks.{indicesWhere, isDropOf, isRetireBy, isSwapAt, link-is-unique, never-shown, none-between, noneBetween, not-dropped, nowhere}
+use Rattle.rules.specs.laws.history.Checks.{indicesWhere, isDropOf, isRetireBy, isSwapAt, never-shown, none-between, noneBetween, nowhere}
 use Rattle.rules.specs.laws.history.Checks.{one-of-two, only-at, part, put-fresh-by-test, unreferenced-by-test}
 use Rattle.rules.specs.laws.history.Spacing.{collects-between-retires}
+use Rattle.rules.specs.laws.lists.Bools.{and-true}
 
 -- a history of a hall that is opened in a table of 9s
 abbrev pub historyOf : Hall → ℕ → List Call → List Event
@@ -162,6 +164,34 @@ not-the-next-drop = (
   λ next. next .first 12 (omega arith) (omega arith) refl,
 )
 
+-- Two indices, neither before the other.
+unordered : (j k : ℕ) → (j < k → ⊥) → (k < j → ⊥) → j ≡ k
+unordered j k not-before not-after = by-order (decLe (suc j) k) (decLe (suc k) j)
+  where
+    by-order : Dec (suc j ≤ k) → Dec (suc k ≤ j) → j ≡ k
+    by-order (yes before) after = absurd (not-before before)
+    by-order (no here) (yes after) = absurd (not-after after)
+    by-order (no here) (no there) = omega arith
+
+next-swap-is-unique : (f : ℕ → Effect) (i p d j e k : ℕ) → NextSwap f i p d j → NextSwap f i p e k → j ≡ k
+next-swap-is-unique f i p d j e k one other =
+    unordered j k (λ before. other .first j d (one .later) before (one .here)) (λ after. one .first k e (other .later) after (other .here))
+
+next-retire-is-unique : (f : ℕ → Effect) (j d s r s′ r′ : ℕ) → NextRetire f j d s r → NextRetire f j d s′ r′ → r ≡ r′
+next-retire-is-unique f j d s r s′ r′ one other =
+    unordered r r′ (λ before. other .first r s (one .later) before (one .here)) (λ after. one .first r′ s′ (other .later) after (other .here))
+
+-- A take is linked to one retirement.
+link-is-unique : (f : ℕ → Effect) (i r r′ : ℕ) → Linked f i r → Linked f i r′ → r ≡ r′
+link-is-unique f i r r′ one other =
+    let position : one .position ≡ other .position = sym (ap (part 3) (one .take)) ∙ ap (part 3) (other .take) in
+    let moved = subst (λ (p : ℕ). NextSwap f i p (one .swapper) (one .swapAt)) position (one .swap) in
+    let swapAt = next-swap-is-unique f i (other .position) (one .swapper) (one .swapAt) (other .swapper) (other .swapAt) moved (other .swap) in
+    let swapper : one .swapper ≡ other .swapper = sym (ap (part 1) (one .swap .here)) ∙ ap (λ (j : ℕ). part 1 (f j)) swapAt ∙ ap (part 1) (other .swap .here) in
+    next-retire-is-unique f (other .swapAt) (other .swapper) (one .session) r (other .session) r′
+    (subst (λ (d : ℕ). NextRetire f (other .swapAt) d (one .session) r) swapper (subst (λ (j : ℕ). NextRetire f j (one .swapper) (one .session) r) swapAt (one .retire)))
+    (other .retire)
+
 -- The take at index 0 is linked to the retirement at index 9, and to no other; a call that is no take is linked to none.
 pub linked-take : Linked linkedEffects 0 9
 linked-take = record {
@@ -182,6 +212,15 @@ linked-to-no-other r link = link-is-unique linkedEffects 0 r 9 link linked-take
 
 pub no-take-no-link : Linked linkedEffects 1 9 → ⊥
 no-take-no-link link = omega (arith, ap (part 0) (link .take))
+
+-- A take is not dropped before an index where no drop of its screen stands between.
+not-dropped : (f : ℕ → Effect) (i h d c p s : ℕ) → f i ≡ takes c p s by d → noneBetween (λ m. isDropOf d c (f m)) i h ≡ true → DroppedBefore f i h → ⊥
+not-dropped f i h d c p s take none dropped =
+    let desk : dropped .desk ≡ d = sym (ap (part 1) (dropped .take)) ∙ ap (part 1) take in
+    let screen : dropped .screen ≡ c = sym (ap (part 2) (dropped .take)) ∙ ap (part 2) take in
+    let here : f (dropped .dropAt) ≡ drops c by d = subst (λ (x : ℕ). f (dropped .dropAt) ≡ drops c by x) desk (subst (λ (x : ℕ). f (dropped .dropAt) ≡ drops x by dropped .desk) screen (dropped .drop .here)) in
+    none-between (λ m. isDropOf d c (f m)) i h none (dropped .dropAt) (dropped .drop .later) (dropped .before)
+    (ap (isDropOf d c) here ∙ and-true (eqb d d) (eqb c c) (eq-eqb d d refl) (eq-eqb c c refl))
 
 -- It was dropped before index 13, and not before index 12.
 pub dropped-take : DroppedBefore linkedEffects 0 13
@@ -348,6 +387,30 @@ pub paired-in-D : (g : Guarantee (effectAt (historyOf (hallOf 1 1 1) 20 caseD)))
 unfolding openTable stepTable sound recordSound encodeDesk decodeDesk
 paired-in-D g = paired-with (historyOf (hallOf 1 1 1) 20 caseD) 3 6 1 300 refl refl g
 
+-- The guarantee admits a hand-back by desk 2 at index 2, paired with the retirement at index 0.
+abbrev backOnce : List Event
+backOnce = (2 sends Retire ⇒ ok 5) ∷ (1 sends Retire ⇒ ok 6) ∷ (2 sends Collect ⇒ ok 5) ∷ []
+
+pub admits-a-pairing : Guarantee (effectAt backOnce)
+admits-a-pairing = record {
+  pair = λ h. 0;
+  earlier = λ h d s back. omega (arith, only-back h d s back);
+  same = λ h d s back. retired h d s back;
+  once = λ h d s other e session back another same. only-back h d s back ∙ sym (only-back other e session another);
+  dropped = λ h d s i back link. absurd (nowhere isTake refl backOnce refl i (ap (λ (e : Effect). isTake (e .action)) (link .take)));
+}
+  where
+    isTake : Action → Bool
+    isTake action = eqb (part 0 (action by 0)) 1
+
+    only-back : (h d s : ℕ) → effectAt backOnce h ≡ handsBack s by d → h ≡ 2
+    only-back h d s back = only-at isHandBack refl backOnce 2 refl h (ap (λ (e : Effect). isHandBack (e .action)) back)
+
+    retired : (h d s : ℕ) → effectAt backOnce h ≡ handsBack s by d → retires 5 by 2 ≡ retires s by d
+    retired h d s back =
+        let at : handsBack 5 by 2 ≡ handsBack s by d = sym (ap (effectAt backOnce) (only-back h d s back)) ∙ back in
+        ap (λ (session : ℕ). retires session by 2) (ap (part 2) at) ∙ ap (λ (desk : ℕ). retires s by desk) (ap (part 1) at)
+
 -- ---- Answers that the guarantee refuses, one field at a time.
 
 -- "hand-backs can be paired with earlier retirements": the only retirement of 5 comes after its hand-back
@@ -368,11 +431,11 @@ refuses-another-desk g =
 
 -- "none twice": one retirement, and two hand-backs
 abbrev backTwice : List Event
-backTwice = (1 sends Retire ⇒ ok 5) ∷ (1 sends Collect ⇒ ok 5) ∷ (1 sends Collect ⇒ ok 5) ∷ []
+backTwice = (3 sends Retire ⇒ ok 5) ∷ (3 sends Collect ⇒ ok 5) ∷ (3 sends Collect ⇒ ok 5) ∷ []
 
 pub refuses-paired-twice : Guarantee (effectAt backTwice) → ⊥
 refuses-paired-twice g =
-    omega (arith, g .once 1 1 5 2 1 5 refl refl (paired-with backTwice 0 1 1 5 refl refl g ∙ sym (paired-with backTwice 0 2 1 5 refl refl g)))
+    omega (arith, g .once 1 3 5 2 3 5 refl refl (paired-with backTwice 0 1 3 5 refl refl g ∙ sym (paired-with backTwice 0 2 3 5 refl refl g)))
 
 -- "each take linked to a retirement was dropped before its hand-back": the only retirement of 5, at index 4, is linked to the take at
 -- index 2, of desk 2's screen 1. Its screen is dropped before the take, another screen and another desk's between, and its own only after
@@ -473,6 +536,12 @@ pub refuses-linked-session : Demand2 (hallOf 1 1 1) retiresAnother emptyTables �
 refuses-linked-session demand =
     let same : _≡_ {A = ℕ} 5 6 = demand .sessions 0 2 (linked-at-once (effectAt retiresAnother) 0 1 1 1 5 1 6 refl refl refl) in
     omega arith
+
+-- A desk's list and the sum of its counts, in the wide hall of Cases: desks 1 and 2, and those on either side that the hall has not.
+pub lists-of-desks :
+    (map (listOfDesk wide wideWords) (0 ∷ 1 ∷ 2 ∷ 3 ∷ []) ≡ [] ∷ (20 ∷ []) ∷ (17 ∷ 11 ∷ 12 ∷ 65535 ∷ 19 ∷ 13 ∷ 18 ∷ []) ∷ [] ∷ [])
+    × (map (countsOfDesk wide wideWords) (0 ∷ 1 ∷ 2 ∷ 3 ∷ []) ≡ 0 ∷ 1 ∷ 7 ∷ 0 ∷ [])
+lists-of-desks = (refl, refl)
 
 -- "Per desk and session, accepted retirements equal hand-backs plus copies on the list": 5 was retired, and the list is empty, or holds 6,
 -- or the copy is on another desk's list

@@ -11,7 +11,7 @@ use borrow.Author.Tests.{eq-eqb, eqb-false, eqb-true, lt-ltb, ltb-true, not-true
 use Rattle.rules.specs.Closing.{PutFresh, Unreferenced, putAt}
 use Rattle.rules.specs.Demands.{listOfDesk}
 use Rattle.rules.specs.Hall.{Hall}
-use Rattle.rules.specs.History.{Action, DroppedBefore, Effect, Linked, NextRetire, NextSwap, Unshown, _by_, collects, drops, effectAt, effectOf, handsBack}
+use Rattle.rules.specs.History.{Action, Effect, Unshown, _by_, collects, drops, effectAt, effectOf, handsBack}
 use Rattle.rules.specs.History.{noAction, outOfRoom, retires, swaps, takes}
 use Rattle.rules.specs.Lists.{every, occurrences, toNat}
 use Rattle.rules.specs.Steps.{Event}
@@ -127,45 +127,6 @@ none-between test i j none m after before passes =
     let here = up-to j (λ m. not (ltb i m && (ltb m j && test m))) none m (omega arith) (omega arith) in
     let all = and-true (ltb i m) (ltb m j && test m) (lt-ltb i m after) (and-true (ltb m j) (test m) (lt-ltb m j before) passes) in
     true≢false (sym all ∙ not-true _ here)
-
--- ---- Links and drops.
-
--- Two indices, neither before the other.
-unordered : (j k : ℕ) → (j < k → ⊥) → (k < j → ⊥) → j ≡ k
-unordered j k not-before not-after = by-order (decLe (suc j) k) (decLe (suc k) j)
-  where
-    by-order : Dec (suc j ≤ k) → Dec (suc k ≤ j) → j ≡ k
-    by-order (yes before) after = absurd (not-before before)
-    by-order (no here) (yes after) = absurd (not-after after)
-    by-order (no here) (no there) = omega arith
-
-pub next-swap-is-unique : (f : ℕ → Effect) (i p d j e k : ℕ) → NextSwap f i p d j → NextSwap f i p e k → j ≡ k
-next-swap-is-unique f i p d j e k one other =
-    unordered j k (λ before. other .first j d (one .later) before (one .here)) (λ after. one .first k e (other .later) after (other .here))
-
-pub next-retire-is-unique : (f : ℕ → Effect) (j d s r s′ r′ : ℕ) → NextRetire f j d s r → NextRetire f j d s′ r′ → r ≡ r′
-next-retire-is-unique f j d s r s′ r′ one other =
-    unordered r r′ (λ before. other .first r s (one .later) before (one .here)) (λ after. one .first r′ s′ (other .later) after (other .here))
-
--- A take is linked to one retirement.
-pub link-is-unique : (f : ℕ → Effect) (i r r′ : ℕ) → Linked f i r → Linked f i r′ → r ≡ r′
-link-is-unique f i r r′ one other =
-    let position : one .position ≡ other .position = sym (ap (part 3) (one .take)) ∙ ap (part 3) (other .take) in
-    let moved = subst (λ (p : ℕ). NextSwap f i p (one .swapper) (one .swapAt)) position (one .swap) in
-    let swapAt = next-swap-is-unique f i (other .position) (one .swapper) (one .swapAt) (other .swapper) (other .swapAt) moved (other .swap) in
-    let swapper : one .swapper ≡ other .swapper = sym (ap (part 1) (one .swap .here)) ∙ ap (λ (j : ℕ). part 1 (f j)) swapAt ∙ ap (part 1) (other .swap .here) in
-    next-retire-is-unique f (other .swapAt) (other .swapper) (one .session) r (other .session) r′
-    (subst (λ (d : ℕ). NextRetire f (other .swapAt) d (one .session) r) swapper (subst (λ (j : ℕ). NextRetire f j (one .swapper) (one .session) r) swapAt (one .retire)))
-    (other .retire)
-
--- A take is not dropped before an index where no drop of its screen stands between.
-pub not-dropped : (f : ℕ → Effect) (i h d c p s : ℕ) → f i ≡ takes c p s by d → noneBetween (λ m. isDropOf d c (f m)) i h ≡ true → DroppedBefore f i h → ⊥
-not-dropped f i h d c p s take none dropped =
-    let desk : dropped .desk ≡ d = sym (ap (part 1) (dropped .take)) ∙ ap (part 1) take in
-    let screen : dropped .screen ≡ c = sym (ap (part 2) (dropped .take)) ∙ ap (part 2) take in
-    let here : f (dropped .dropAt) ≡ drops c by d = subst (λ (x : ℕ). f (dropped .dropAt) ≡ drops c by x) desk (subst (λ (x : ℕ). f (dropped .dropAt) ≡ drops x by dropped .desk) screen (dropped .drop .here)) in
-    none-between (λ m. isDropOf d c (f m)) i h none (dropped .dropAt) (dropped .drop .later) (dropped .before)
-    (ap (isDropOf d c) here ∙ and-true (eqb d d) (eqb c c) (eq-eqb d d refl) (eq-eqb c c refl))
 
 -- ---- What a screen shows.
 

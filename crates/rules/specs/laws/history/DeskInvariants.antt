@@ -6,7 +6,7 @@ use mathlib.Core.Bool.{Bool, true, false, cond, not, true≢false}
 use mathlib.Core.List.{List, [], _∷_}
 use lib.ListN.{length}
 use lib.Dec.{eqb}
-use borrow.Author.Tests.{eq-eqb, ne-eqb}
+use borrow.Author.Tests.{ne-eqb}
 use Rattle.rules.specs.Hall.{Desk, Formed, Hall, State, allScreens, deskOf, usedSlots}
 use Rattle.rules.specs.History.{Action, CollectBetween, CollectsBetweenRetires, Effect, _by_, actionsBy, byDesk, collects, collectsOf, drops, effectAt}
 use Rattle.rules.specs.History.{handBacks, handBacksOf, handsBack, isCollect, isHandBackWith, isRetireAttempt, isRetirementOf, isRetirementWith, noAction}
