@@ -61,6 +61,7 @@ step "sheets" 1 "$CARGO_TARGET_DIR/release/sheets" "$program" \
 step "sheet_cases" 1 "$root/tests/sheet_cases.py" --check --reference \
     "$CARGO_TARGET_DIR/release/day_sheet_reference"
 step "tool" 1 "$root/tests/tool.sh" "$program"
+step "sheet_errors" 1 "$root/tests/sheet_errors.sh" "$program"
 step "building the example" 0 link host_example "$root/examples/host.c"
 step "the example" 0 "$CARGO_TARGET_DIR/host_example"
 step "documents" 1 "$root/tests/documents.py"
