@@ -11,8 +11,8 @@ use lib.Seq.{take-at, drop-at}
 use Rattle.rules.specs.Hall.{hallLimits}
 use Rattle.rules.specs.Numbers.{Parsed, parsed, refusalOf, refused}
 use Rattle.rules.specs.Steps.{Result}
-use Rattle.lines.specs.Put.{Put, overwriteAt}
-use Rattle.lines.specs.laws.Put.{put-none, put-on}
+use Rattle.buffer.specs.Put.{Put, overwriteAt}
+use Rattle.buffer.specs.laws.Put.{put-none, put-on}
 use Rattle.reply.specs.Answer.{answerOf, answerWith, tableResult}
 use Rattle.reader.specs.Results.{carriedOf}
 use Rattle.sheet_rules.specs.Edition1.{hallEdition}

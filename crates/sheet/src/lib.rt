@@ -25,7 +25,7 @@ ghost use mathlib.Core.List.{_++_};
 ghost use Prim.Native.Nat.{_+_, _≤_};
 ghost use lib.ListN.{length};
 ghost use Rattle.rules.specs.Bytes.{wordsOfBytes};
-ghost use Rattle.lines.specs.Put.{Put};
+ghost use Rattle.buffer.specs.Put.{Put};
 ghost use Rattle.reader.specs.Results.{recordOf};
 ghost use Rattle.sheet_rules.specs.Lines.{endLine, line};
 ghost use Rattle.sheet_rules.specs.Sheet.{lentTable};
