@@ -1,36 +1,44 @@
 // Prints the lines of a sheet to standard output: all that the programs share.
+use board::Board;
 use sheet::fill;
 use sheet::start;
-ghost use mathlib.Core.Path.{_≡_};
-ghost use mathlib.Core.Bool.{true};
-ghost use Prim.Native.Nat.{_≤_};
-ghost use lib.ListN.{length};
-ghost use Rattle.rules.specs.Bytes.{wordsOfBytes};
-ghost use Rattle.sheet.specs.Batch.{recordRoom, sheetTable};
-ghost use Rattle.sheet_rules.specs.Sheet.{lentTable};
+ghost use Rattle.printing.specs.Output.{HandedOver};
 
 // Standard output.
 const OUTPUT: i32 = 1;
 
-// Prints the lines of a sheet, a buffer at a time, and answers whether the output took them all: then all steps of the sheet
-// were run. It stops where the output takes no more.
-// It requires what `start` and `fill` do: its callers lend the table as the rules have it and a buffer with room.
-pub fn print(sheet: &[u8], table: &mut [u8], out: &mut [u8]) -> bool
-    requires { ⌜ (wordsOfBytes (now table) ≡ lentTable) × (recordRoom ≤ length (now out)) ⌝ }
-    ensures { λ r. ⌜ (r ≡ true → wordsOfBytes (now (table .exit)) ≡ sheetTable (now (sheet .entry))) ⌝ }
+// What printing a sheet came to: how many bytes were handed to the output, and whether it took them all to the last line.
+pub struct Printed {
+    pub complete: bool,
+    pub bytes: usize,
+}
+
+// Runs a sheet and prints its lines, a batch at a time. It stops at a batch that the output does not take.
+pub fn print(sheet: &[u8]) -> Printed
+    ensures { λ r. ⌜ HandedOver (now (sheet .entry)) (r .complete) (r .bytes) ⌝ }
 {
-    let first = start(sheet, table, out);
+    let mut table = [0u8; Board::MAX_BYTES];
+    let mut out = io::large_buffer();
+    let first = start(sheet, &mut table, &mut out);
     let put = first.put;
     let mut state = first.state;
-    let mut printed = io::write_all(OUTPUT, &out[..put]);
-    while printed {
+    let mut bytes = put;
+    let mut taken = io::write_all(OUTPUT, &out[..put]);
+    while taken {
         if state.finished {
-            return true;
+            return Printed {
+                complete: true,
+                bytes: bytes,
+            };
         }
-        let filled = fill(sheet, state, table, out);
+        let filled = fill(sheet, state, &mut table, &mut out);
         let put = filled.put;
         state = filled.state;
-        printed = io::write_all(OUTPUT, &out[..put]);
+        bytes = bytes + put;
+        taken = io::write_all(OUTPUT, &out[..put]);
     }
-    false
+    Printed {
+        complete: false,
+        bytes: bytes,
+    }
 }

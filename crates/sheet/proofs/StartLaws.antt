@@ -4,12 +4,13 @@ use native.Mathlib.Omega.{arith}
 use mathlib.Core.Path.{_≡_, refl, sym, ap, _∙_}
 use mathlib.Core.Bool.{false}
 use mathlib.Core.List.{List, _++_, append-nil}
-use lib.ListN.{length}
+use lib.ListN.{length, length-append}
 use Rattle.rules.specs.Hall.{Hall, hallLimits}
 use Rattle.rules.specs.Numbers.{parsed, refusalOf}
 use Rattle.rules.specs.Steps.{Answer, Result, decide}
 use Rattle.rules.specs.Table.{openTable, openedTable}
 use Rattle.buffer.specs.Put.{Put}
+use Rattle.sheet.specs.laws.Length.{line-some}
 use Rattle.reply.specs.Answer.{answerOf, tableResult}
 use Rattle.sheet_rules.specs.Edition1.{hallEdition}
 use Rattle.sheet_rules.specs.Lines.{answerLine, endLine, line, linesFrom, linesOf, printed}
@@ -53,9 +54,10 @@ module _ {sheet out outAfter : List ℕ} {end : ℕ} where
       → Put out outAfter 0 (line 0 0 number 0 ++ endLine zeros) end → is ≡ finishedAt atHeader
       → Started sheet out is after outAfter end
   unfolding printed
-  started-stopped reads same put finished = rw finished (record {
+  started-stopped {number} reads same put finished = rw finished (record {
     within = put-within put;
     output = append-nil _ ∙ put-first put ∙ sym (ap linesOf reads);
+    some = omega (arith, put .offset, length-append (line 0 0 number 0) (endLine zeros), line-some 0 0 number 0);
     run = sym (ap callsOf reads);
     table = same ∙ sym (ap startTable reads);
     rest = put-rest put;
@@ -88,6 +90,7 @@ module _ {sheet out outAfter : List ℕ} {end : ℕ} where
           (λ i. put-first put i ++ linesFrom (leaves i) 1 zeros (remainingRecords sheet (atFirst next)))
           ∙ ap (λ (answer : Answer). answerLine 0 0 answer ++ linesFrom (openTable hallLimits hall lentTable .after) 1 zeros (remainingRecords sheet (atFirst next))) (sym answers)
           ∙ sym (ap linesOf reads);
+      some = omega (arith, put .offset, line-some 0 0 0 0);
       run = sym (ap callsOf reads);
       table = leaves ∙ sym (ap startTable reads);
       rest = put-rest put;

@@ -89,6 +89,7 @@ sheetTable sheet = end (stepTable hallLimits) (startTable (reading hallEdition s
 pub record Started (sheet out : List ℕ) (is : State) (after outAfter : List ℕ) (put : ℕ) : Type 0 where
   pub within : put ≤ length outAfter
   pub output : take put outAfter ++ remainingOutput sheet is after ≡ printed hallEdition sheet
+  pub some : 1 ≤ put
   pub run : remainingCalls sheet is ≡ callsOf (reading hallEdition sheet)
   pub table : after ≡ startTable (reading hallEdition sheet)
   pub rest : drop put outAfter ≡ drop put out

@@ -1,6 +1,5 @@
 // Prints the lines of one sheet after another: the cases of `tests/sheet_cases.txt`. Standard input has each sheet after its
 // length, three bytes, low byte first.
-use board::Board;
 use printing::print;
 
 // Standard input and output.
@@ -27,7 +26,7 @@ fn print_title(case: u64) {
 }
 
 // Reads the next sheet into a buffer and prints its lines. It answers false where there is no whole sheet, or none that fits, or the
-// output takes no more.
+// output does not take the lines.
 fn print_next(case: u64, bytes: &mut [u8]) -> bool {
     let mut length = [0u8; 3];
     if io::read_full(INPUT, &mut length) < 3 {
@@ -41,9 +40,8 @@ fn print_next(case: u64, bytes: &mut [u8]) -> bool {
         return false;
     }
     print_title(case);
-    let mut table = [0u8; Board::MAX_BYTES];
-    let mut out = io::large_buffer();
-    print(&bytes[..n], &mut table, &mut out)
+    let printed = print(&bytes[..n]);
+    printed.complete
 }
 
 fn main() {

@@ -1,36 +1,75 @@
--- `day_sheet::main` meets its contract: it is safe, and it ends. The table that it lends is the rules' own.
+-- `day_sheet::main` meets its contract: it is safe, and it ends.
+use mathlib.Core.Path.{subst}
 use borrow.Author.Needs.{needs}
-use Rattle.sheet_rules.specs.laws.Sheet.{lent-bytes}
+use Rattle.io.specs.Counts.{Counts}
+use Rattle.input.specs.Input.{ReadInto}
+use Rattle.input.specs.declared.Input.{Input as Answer}
 use Rattle.day_sheet.proofs.main.Statement.{statement}
 use Rattle.day_sheet.proofs.main.Tie as tie
 
-slice-aggregate-read-full : tie.Need-slice-aggregate-read-full
-slice-aggregate-read-full c = search needs
+-- the bytes that were read are within the buffer
+bytes-read : (c : tie.After-known-told) → Counts (c .before .n .given .0 .0) (c .before .before .before .before .read-to-end .last .1 .0)
+bytes-read c =
+    let read = c .before .before .before .before .read-to-end in
+    subst (λ (answer : Answer). ReadInto answer (read .last .1 .0)) (c .before .n .given .1) (read .ensures)
 
-read-full-requires : tie.Need-read-full-requires
-read-full-requires c κs = search needs
+arg-count-requires : tie.Need-arg-count-requires
+arg-count-requires c κs = search needs
 
-large-buffer-requires : tie.Need-large-buffer-requires
-large-buffer-requires c κs = search needs
-
-array-share-prefix-bytes : tie.Need-array-share-prefix-bytes
-array-share-prefix-bytes c = search needs
-
-slice-aggregate-print : tie.Need-slice-aggregate-print
-slice-aggregate-print c = search needs
-
-slice-aggregate-print-2 : tie.Need-slice-aggregate-print-2
-slice-aggregate-print-2 c = search needs
-
-slice-aggregate-print-3 : tie.Need-slice-aggregate-print-3
-slice-aggregate-print-3 c = search needs
-
-print-requires : tie.Need-print-requires
-print-requires c κs = (lent-bytes, search needs)
+answer-arguments-requires : tie.Need-answer-arguments-requires
+answer-arguments-requires c κs = search needs
 
 returns : tie.Need-returns
 returns c = search needs
 
+slice-aggregate-read-to-end : tie.Need-slice-aggregate-read-to-end
+slice-aggregate-read-to-end c = search needs
+
+read-to-end-requires : tie.Need-read-to-end-requires
+read-to-end-requires c κs = search needs
+
+enum-told : tie.Need-enum-told
+enum-told c = search needs
+
+slice-aggregate-fail : tie.Need-slice-aggregate-fail
+slice-aggregate-fail c = search needs
+
+fail-requires : tie.Need-fail-requires
+fail-requires c κs = search needs
+
+enum-known-n : tie.Need-enum-known-n
+enum-known-n c = search needs
+
+array-share-prefix-bytes : tie.Need-array-share-prefix-bytes
+array-share-prefix-bytes c = bytes-read c .0
+
+slice-aggregate-print-sheet : tie.Need-slice-aggregate-print-sheet
+slice-aggregate-print-sheet c = bytes-read (c .before) .1
+
+print-sheet-requires : tie.Need-print-sheet-requires
+print-sheet-requires c κs = search needs
+
+returns-2 : tie.Need-returns-2
+returns-2 c = search needs
+
+returns-3 : tie.Need-returns-3
+returns-3 c = search needs
+
 pub main-spec : {M : Type 1} → statement M
 main-spec =
-    tie.close (tie.spec slice-aggregate-read-full read-full-requires large-buffer-requires array-share-prefix-bytes slice-aggregate-print slice-aggregate-print-2 slice-aggregate-print-3 print-requires returns)
+    tie.close
+    (tie.spec
+    arg-count-requires
+    answer-arguments-requires
+    returns
+    slice-aggregate-read-to-end
+    read-to-end-requires
+    enum-told
+    slice-aggregate-fail
+    fail-requires
+    enum-known-n
+    array-share-prefix-bytes
+    slice-aggregate-print-sheet
+    print-sheet-requires
+    returns-2
+    returns-3)

@@ -12,7 +12,7 @@ use Rattle.sheet.specs.Batch.{BatchResult, Batches, Emitted, Progress, S
 use Rattle.sheet.specs.Batch.{remainingOutput, sheetTable}
 use Rattle.sheet.specs.declared.State.{State}
 
-end-append : (table : List ℕ) (calls more : List Call)
+pub end-append : (table : List ℕ) (calls more : List Call)
     → end (stepTable hallLimits) table (calls ++ more) ≡ end (stepTable hallLimits) (end (stepTable hallLimits) table calls) more
 end-append table [] more = refl
 end-append table (call ∷ calls) more = end-append (stepTable hallLimits table call .after) calls more

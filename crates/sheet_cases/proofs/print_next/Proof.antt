@@ -1,10 +1,9 @@
--- `sheet_cases::print_next` meets its contract: it is safe, and it ends. The table that it lends is the rules' own.
+-- `sheet_cases::print_next` meets its contract: it is safe, and it ends.
 use mathlib.Core.Path.{sym}
 use mathlib.Core.List.{_++_}
 use lib.ListN.{drop}
 use lib.Seq.{length-take-le}
 use borrow.Author.Needs.{needs}
-use Rattle.sheet_rules.specs.laws.Sheet.{lent-bytes}
 use Rattle.sheet_cases.proofs.print_next.Statement.{statement}
 use Rattle.sheet_cases.proofs.print_next.Tie as tie
 
@@ -50,23 +49,14 @@ returns-3 c = search needs
 print-title-requires : tie.Need-print-title-requires
 print-title-requires c κs = search needs
 
-large-buffer-requires : tie.Need-large-buffer-requires
-large-buffer-requires c κs = search needs
-
 slice-reshare-prefix-print : tie.Need-slice-reshare-prefix-print
 slice-reshare-prefix-print c = search needs
 
 slice-aggregate-print : tie.Need-slice-aggregate-print
-slice-aggregate-print c = sym (length-take-le (c .before .before .before .before .before .before .before .before .before .length-of .result) (c .before .before .before .before .before .before .read-full2 .last .1 .0 ++ drop (c .before .before .before .before .before .before .before .before .before .length-of .result) (c .before .before .before .before .before .before .before .before .before .before .before .before .before .before .before .args .bytes .now)) (slice-reshare-prefix-print (c .before)))
-
-slice-aggregate-print-2 : tie.Need-slice-aggregate-print-2
-slice-aggregate-print-2 c = search needs
-
-slice-aggregate-print-3 : tie.Need-slice-aggregate-print-3
-slice-aggregate-print-3 c = search needs
+slice-aggregate-print c = sym (length-take-le (c .before .before .before .before .before .before .before .before .length-of .result) (c .before .before .before .before .before .read-full2 .last .1 .0 ++ drop (c .before .before .before .before .before .before .before .before .length-of .result) (c .before .before .before .before .before .before .before .before .before .before .before .before .before .before .args .bytes .now)) (slice-reshare-prefix-print (c .before)))
 
 print-requires : tie.Need-print-requires
-print-requires c κs = (lent-bytes, search needs)
+print-requires c κs = search needs
 
 same-length-2 : tie.Need-same-length-2
 same-length-2 c = search needs
@@ -92,11 +82,8 @@ print-next-spec =
     same-length
     returns-3
     print-title-requires
-    large-buffer-requires
     slice-reshare-prefix-print
     slice-aggregate-print
-    slice-aggregate-print-2
-    slice-aggregate-print-3
     print-requires
     same-length-2
     returns-4)

@@ -1,0 +1,2 @@
+-- The definition that the contract of this crate cites.
+pub mod Input

@@ -1,0 +1,4 @@
+-- The definitions that the contract of this crate cites, beside those of the sheet, and what follows from it.
+pub mod Output
+pub mod Whole
+pub mod laws

@@ -1,0 +1,31 @@
+-- How much of a sheet's output was handed over. Document 01, "The day sheet": "The sheet program reads standard input and prints".
+use Prim.Native.Nat.{ℕ, _≤_}
+use mathlib.Core.Path.{_≡_}
+use mathlib.Core.Bool.{Bool, true}
+use mathlib.Core.List.{List, _++_}
+use lib.ListN.{length, drop}
+use Rattle.rules.specs.Hall.{hallLimits}
+use Rattle.rules.specs.Steps.{Call, end}
+use Rattle.rules.specs.Table.{stepTable}
+use Rattle.sheet.specs.Batch.{callsOf, remainingCalls, remainingOutput, startTable}
+use Rattle.sheet.specs.declared.State.{State}
+use Rattle.sheet_rules.specs.Edition1.{hallEdition}
+use Rattle.sheet_rules.specs.Lines.{printed}
+use Rattle.sheet_rules.specs.Sheet.{reading}
+
+-- A state of the sheet: what remains at it is the output after the first so many bytes, and the table is as the calls before it leave it.
+pub record Reached (sheet : List ℕ) (bytes : ℕ) (state : State) (table : List ℕ) : Type 0 where
+  pub within : bytes ≤ length (printed hallEdition sheet)
+  pub output : remainingOutput sheet state table ≡ drop bytes (printed hallEdition sheet)
+  pub calls : List Call
+  pub run : calls ++ remainingCalls sheet state ≡ callsOf (reading hallEdition sheet)
+  pub left : table ≡ end (stepTable hallLimits) (startTable (reading hallEdition sheet)) calls
+
+-- The first so many bytes of the output were handed over: at least the header's line, and whole lines. Complete: all of them.
+-- (What the output did with them, no contract can say.)
+pub record HandedOver (sheet : List ℕ) (complete : Bool) (bytes : ℕ) : Type 0 where
+  pub some : 1 ≤ bytes
+  pub state : State
+  pub table : List ℕ
+  pub reached : Reached sheet bytes state table
+  pub finished : complete ≡ true → state .finished ≡ true
