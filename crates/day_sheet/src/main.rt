@@ -1,5 +1,5 @@
-// The sheet program: reads a day sheet from standard input and prints its lines. Where it cannot read or write, a line on standard
-// error says why.
+// The sheet program: reads a day sheet from standard input and prints its lines. Where it cannot read or write, it says why on
+// standard error. After a read that failed it prints no lines.
 use input::Input;
 use input::read_to_end;
 use libc::STDERR_FILENO;
@@ -10,28 +10,58 @@ use printing::print;
 // One byte more than a sheet may have: a sheet that fills them is too long.
 const BYTES: usize = 65537;
 
-// Answers a call with arguments: `--help` alone with a help on standard output, any others with a line on standard error.
-fn answer_arguments(count: usize) {
+// Says on standard error why the last write to standard output failed.
+fn report_output() {
+    os::fail(b"day_sheet: cannot write standard output");
+}
+
+// Whether the program's only argument is `--help`. (A longer argument does not fit, and is read as none.)
+fn asks_for_help(arguments: usize) -> bool {
     let mut argument = [0u8; 8];
     let n = os::arg(1, &mut argument);
-    if count != 2 || !check::same(&argument[..n], b"--help") {
+    arguments == 2 && check::same(&argument[..n], b"--help")
+}
+
+// Prints the help, and answers whether the output took it.
+fn print_help() -> bool {
+    io::write_all(STDOUT_FILENO, b"usage: day_sheet < SHEET\n\n")
+        && io::write_all(
+            STDOUT_FILENO,
+            b"Runs the steps of a day sheet on a session board and prints a line for each record:\n",
+        )
+        && io::write_all(
+            STDOUT_FILENO,
+            b"record number, step code, reply number, session. The last line is 'end', steps\n",
+        )
+        && io::write_all(
+            STDOUT_FILENO,
+            b"accepted, steps refused by the board, sessions handed back.\n\n",
+        )
+        && io::write_all(
+            STDOUT_FILENO,
+            b"An error of reading or writing is a line on standard error; the exit status stays 0.\n",
+        )
+}
+
+// Answers a call with arguments: the help, or a line on standard error.
+fn answer_arguments(arguments: usize) {
+    if !asks_for_help(arguments) {
         io::write_all(
             STDERR_FILENO,
             b"usage: day_sheet < SHEET, or day_sheet --help\n",
         );
         return;
     }
-    io::write_all(
-        STDOUT_FILENO,
-        b"usage: day_sheet < SHEET\nReads a day sheet from standard input and prints a line for each record.\n",
-    );
+    if !print_help() {
+        report_output();
+    }
 }
 
-// Prints the lines of a sheet. A read error comes before: it prints nothing here.
+// Prints the lines of a sheet.
 fn print_sheet(sheet: &[u8]) {
     let printed = print(sheet);
     if !printed.complete {
-        os::fail(b"day_sheet: cannot write standard output");
+        report_output();
     }
 }
 
