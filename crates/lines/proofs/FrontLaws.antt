@@ -2,8 +2,8 @@
 use Prim.Native.Nat.{ℕ}
 use mathlib.Core.List.{List, [], _∷_, _++_}
 use lib.Seq.{append-snoc}
-use Rattle.lines.specs.Put.{Put}
-use Rattle.lines.specs.laws.Put.{put-on}
+use Rattle.buffer.specs.Put.{Put}
+use Rattle.buffer.specs.laws.Put.{put-on}
 
 pub rest-put : (front : List ℕ) (byte : ℕ) {rest before middle after : List ℕ} {at between next : ℕ}
     → Put before middle at (front ++ (byte ∷ [])) between → Put middle after between rest next

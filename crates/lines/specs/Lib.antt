@@ -1,3 +1,2 @@
--- What the contracts of this crate cite, beside the rules, and the laws that callers use.
-pub mod Put
+-- The laws that callers use.
 pub mod laws

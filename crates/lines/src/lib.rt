@@ -1,19 +1,11 @@
+use buffer::put_byte;
 ghost use mathlib.Core.List.{[], _∷_, _++_};
 ghost use Rattle.sheet_rules.specs.Lines.{decimal, endLine, line};
 ghost use Rattle.sheet_rules.specs.Tally.{tallyOf};
-ghost use Rattle.lines.specs.Put.{Fits, Put};
+ghost use Rattle.buffer.specs.Put.{Fits, Put};
 
 // Each function puts bytes at an offset of the buffer that its caller lends, and answers the offset after them.
 // Each requires that there is room for exactly those bytes.
-
-// One byte.
-fn put_byte(out: &mut [u8], at: usize, byte: u8) -> usize
-    requires { ⌜ Fits (now out) at (byte ∷ []) ⌝ }
-    ensures { λ r. ⌜ Put (now (out .entry)) (now (out .exit)) at (byte ∷ []) r ⌝ }
-{
-    out[at] = byte;
-    at + 1
-}
 
 // The decimal digits of a number: those of its tenth, and then the last.
 fn put_digits(out: &mut [u8], at: usize, value: u64) -> usize

@@ -85,17 +85,17 @@ pub fn read_number(sheet: &[u8], at: usize, limit: u16) -> Number
 // Which fields follow each code: a row for take, drop, swap, retire and collect; a column for desk, screen, position and session.
 const FIELDS: [u8; 20] = [1, 1, 1, 0, 1, 1, 0, 0, 1, 0, 1, 1, 1, 0, 0, 0, 1, 0, 0, 0];
 
-const DESK: usize = 0;
+pub const DESK: usize = 0;
 
-const SCREEN: usize = 1;
+pub const SCREEN: usize = 1;
 
-const POSITION: usize = 2;
+pub const POSITION: usize = 2;
 
-const SESSION: usize = 3;
+pub const SESSION: usize = 3;
 
 // Whether a field follows a code.
 // It requires one of the five codes: 17 is asked before the fields are read.
-fn follows(code: u16, field: usize) -> bool
+pub fn follows(code: u16, field: usize) -> bool
     requires { ⌜ (1 ≤ code) × (code ≤ 5) × (field < 4) ⌝ }
     ensures { λ r. ⌜ r ≡ followsCode code field ⌝ }
 {

@@ -11,8 +11,8 @@ use lib.Seq.{take-at, drop-at}
 use Rattle.rules.specs.Hall.{hallLimits}
 use Rattle.rules.specs.Numbers.{Parsed, parsed, refusalOf, refused}
 use Rattle.rules.specs.Steps.{Result}
-use Rattle.lines.specs.Put.{Put, overwriteAt}
-use Rattle.lines.specs.laws.Put.{put-none, put-on}
+use Rattle.buffer.specs.Put.{Put, overwriteAt}
+use Rattle.buffer.specs.laws.Put.{put-none, put-on}
 use Rattle.reply.specs.Answer.{answerOf, answerWith, tableResult}
 use Rattle.reader.specs.Results.{carriedOf}
 use Rattle.sheet_rules.specs.Edition1.{hallEdition}
@@ -149,7 +149,7 @@ pub finished-progress : {sheet : List ℕ} {was is : State} → is ≡ finishedA
 finished-progress same numbered = rw same (record { fewer = omega arith; numbered = numbered })
 
 -- ---- A batch, record after record, at the loop's test.
-pub record Reached (sheet : List ℕ) (was : State) (before out : List ℕ) (is : State) (after outAfter : List ℕ) (at : ℕ) : Type 0 where
+pub record InBatch (sheet : List ℕ) (was : State) (before out : List ℕ) (is : State) (after outAfter : List ℕ) (at : ℕ) : Type 0 where
   pub partial : PartialBatch sheet was before out 0 is after outAfter at
   pub numbered : is .index ≤ is .offset
   pub noMore : batchesLeft sheet is ≤ batchesLeft sheet was
@@ -157,8 +157,8 @@ pub record Reached (sheet : List ℕ) (was : State) (before out : List ℕ) (is 
   pub fewer : (at ≡ 0) ⊎ (batchesLeft sheet is ≤ batchesLeft sheet was - 1)
   pub sameOut : length outAfter ≡ length out
 
-pub reached-first : {sheet : List ℕ} {was : State} {before out : List ℕ} → was .index ≤ was .offset → Reached sheet was before out was before out 0
-reached-first {out = out} numbered = record {
+pub in-batch-first : {sheet : List ℕ} {was : State} {before out : List ℕ} → was .index ≤ was .offset → InBatch sheet was before out was before out 0
+in-batch-first {out = out} numbered = record {
   partial = record { bytes = []; put = put-none out 0; emitted = emitted-none };
   numbered = numbered;
   noMore = omega arith;
@@ -167,33 +167,33 @@ reached-first {out = out} numbered = record {
 }
 
 module _ {sheet : List ℕ} {was : State} {before out : List ℕ} {is : State} {after outAfter : List ℕ} {at : ℕ}
-    (reached : Reached sheet was before out is after outAfter at) where
-  pub reached-within : at ≤ length outAfter
-  reached-within = put-within (reached .partial .put)
+    (batch : InBatch sheet was before out is after outAfter at) where
+  pub in-batch-within : at ≤ length outAfter
+  in-batch-within = put-within (batch .partial .put)
 
   -- one record more
-  pub reached-next : {next : State} {tableNext outNext : List ℕ} {end : ℕ} → PartialBatch sheet is after outAfter at next tableNext outNext end
+  pub in-batch-next : {next : State} {tableNext outNext : List ℕ} {end : ℕ} → PartialBatch sheet is after outAfter at next tableNext outNext end
       → Progress sheet is next
       → length outNext ≡ length outAfter
-      → Reached sheet was before out next tableNext outNext end
-  reached-next partial progress sameOut = record {
+      → InBatch sheet was before out next tableNext outNext end
+  in-batch-next partial progress sameOut = record {
     partial = record {
-      bytes = reached .partial .bytes ++ partial .bytes;
-      put = put-on (reached .partial .put) (partial .put);
-      emitted = emitted-append (reached .partial .emitted) (partial .emitted);
+      bytes = batch .partial .bytes ++ partial .bytes;
+      put = put-on (batch .partial .put) (partial .put);
+      emitted = emitted-append (batch .partial .emitted) (partial .emitted);
     };
     numbered = progress .numbered;
-    noMore = omega (arith, progress .fewer, reached .noMore);
-    fewer = inr (omega (arith, progress .fewer, reached .noMore));
-    sameOut = sameOut ∙ reached .sameOut;
+    noMore = omega (arith, progress .fewer, batch .noMore);
+    fewer = inr (omega (arith, progress .fewer, batch .noMore));
+    sameOut = sameOut ∙ batch .sameOut;
   }
 
   as-batch : batchesLeft sheet is ≤ batchesLeft sheet was - 1 → Batch sheet was before out is after outAfter at
   as-batch fewer = record {
-    within = reached-within;
-    emitted = rw (put-first (reached .partial .put)) (reached .partial .emitted);
-    rest = put-rest (reached .partial .put);
-    progress = record { fewer = fewer; numbered = reached .numbered };
+    within = in-batch-within;
+    emitted = rw (put-first (batch .partial .put)) (batch .partial .emitted);
+    rest = put-rest (batch .partial .put);
+    progress = record { fewer = fewer; numbered = batch .numbered };
   }
 
   -- the batch ends because the last line is put
@@ -202,4 +202,4 @@ module _ {sheet : List ℕ} {was : State} {before out : List ℕ} {is : State} {
 
   -- or because there is no more room
   pub batch-full : recordRoom ≤ length out → length outAfter - at < recordRoom → Batch sheet was before out is after outAfter at
-  batch-full room full = as-batch (⊎-elim (λ first. absurd (omega (arith, first, reached .sameOut))) (λ fewer. fewer) (reached .fewer))
+  batch-full room full = as-batch (⊎-elim (λ first. absurd (omega (arith, first, batch .sameOut))) (λ fewer. fewer) (batch .fewer))

@@ -9,7 +9,7 @@ use Rattle.rules.specs.Hall.{Hall, hallLimits}
 use Rattle.rules.specs.Numbers.{parsed, refusalOf}
 use Rattle.rules.specs.Steps.{Answer, Result, decide}
 use Rattle.rules.specs.Table.{openTable, openedTable}
-use Rattle.lines.specs.Put.{Put}
+use Rattle.buffer.specs.Put.{Put}
 use Rattle.sheet.specs.laws.Length.{line-some}
 use Rattle.reply.specs.Answer.{answerOf, tableResult}
 use Rattle.sheet_rules.specs.Edition1.{hallEdition}

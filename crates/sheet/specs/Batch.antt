@@ -8,7 +8,7 @@ use lib.ListN.{length, take, drop}
 use Rattle.rules.specs.Hall.{hallLimits}
 use Rattle.rules.specs.Steps.{Call, end}
 use Rattle.rules.specs.Table.{openTable, stepTable}
-use Rattle.lines.specs.Put.{Put}
+use Rattle.buffer.specs.Put.{Put}
 use Rattle.reader.specs.Results.{carriedOf}
 use Rattle.sheet_rules.specs.Edition1.{hallEdition}
 use Rattle.sheet_rules.specs.Lines.{linesFrom, printed}

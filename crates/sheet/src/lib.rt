@@ -25,7 +25,7 @@ ghost use mathlib.Core.List.{_++_};
 ghost use Prim.Native.Nat.{_+_, _≤_};
 ghost use lib.ListN.{length};
 ghost use Rattle.rules.specs.Bytes.{wordsOfBytes};
-ghost use Rattle.lines.specs.Put.{Put};
+ghost use Rattle.buffer.specs.Put.{Put};
 ghost use Rattle.reader.specs.Results.{recordOf};
 ghost use Rattle.sheet_rules.specs.Lines.{endLine, line};
 ghost use Rattle.sheet_rules.specs.Sheet.{lentTable};
@@ -167,21 +167,21 @@ pub fn fill(sheet: &[u8], state: State, table: &mut [u8], out: &mut [u8]) -> Fil
     requires { ⌜ (state .index ≤ state .offset) × (recordRoom ≤ length (now out)) ⌝ }
     ensures { λ r. ⌜ Batch (now (sheet .entry)) state (wordsOfBytes (now (table .entry))) (now (out .entry)) (r .state) (wordsOfBytes (now (table .exit))) (now (out .exit)) (r .put) ⌝ }
 {
-    let mut reached = state;
+    let mut current = state;
     let mut at = 0;
     while ROOM <= out.len() - at {
-        if reached.finished {
+        if current.finished {
             return Filled {
-                state: reached,
+                state: current,
                 put: at,
             };
         }
-        let filled = put_record(sheet, reached, table, out, at);
-        reached = filled.state;
+        let filled = put_record(sheet, current, table, out, at);
+        current = filled.state;
         at = filled.put;
     }
     Filled {
-        state: reached,
+        state: current,
         put: at,
     }
 }

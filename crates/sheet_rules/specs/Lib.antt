@@ -6,5 +6,6 @@ pub mod Tally
 pub mod Lines
 pub mod SheetTheorems
 pub mod SheetCases
+pub mod RunCases
 pub mod SheetExamples
 pub mod laws

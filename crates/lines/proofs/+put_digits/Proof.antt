@@ -5,12 +5,12 @@ use lib.ListN.{length-append}
 use borrow.Author.Needs.{needs}
 use borrow.Fn.Kinds.{In}
 use borrow.Fn.PlainCycle.{Measures, is, falls, and}
-use Rattle.lines.specs.laws.Put.{put-on}
+use Rattle.buffer.specs.laws.Put.{put-on}
 use Rattle.lines.proofs.DigitLaws.{decimal-more, decimal-one}
 use Rattle.lines.proofs.put_digits.Reads as put-digits
 use Rattle.lines.proofs.put_digits.Kinds as put-digits-kinds
 use Rattle.lines.proofs.+put_digits.Lts-put_digits as put-digits-lts
-use Rattle.lines.proofs.put_byte.Reads as put-byte-reads
+use Rattle.buffer.proofs.put_byte.Reads as put-byte-reads
 use Rattle.lines.proofs.+put_digits.{statement}
 use Rattle.lines.proofs.+put_digits.Tie.{close}
 

@@ -5,21 +5,21 @@ use lib.ListN.{length}
 use Rattle.rules.specs.Bytes.{wordsOfBytes}
 use Rattle.sheet.specs.Batch.{batchesLeft}
 use Rattle.sheet.specs.laws.Batches.{fewer-left}
-use Rattle.sheet.proofs.BatchLaws.{Reached, reached-first, reached-next, reached-within, batch-finished, batch-full}
+use Rattle.sheet.proofs.BatchLaws.{InBatch, batch-finished, batch-full, in-batch-first, in-batch-next, in-batch-within}
 use Rattle.sheet.proofs.fill.Statement.{statement}
 use Rattle.sheet.proofs.fill.Tie as tie
 
 abbrev Inv-loop : tie.InvT-loop
-Inv-loop sheet table₀ out₀ reached₀ at₀ table out reached at = (length table ≡ length table₀) × Reached sheet reached₀ (wordsOfBytes table₀) out₀ reached (wordsOfBytes table) out at
+Inv-loop sheet table₀ out₀ current₀ at₀ table out current at = (length table ≡ length table₀) × InBatch sheet current₀ (wordsOfBytes table₀) out₀ current (wordsOfBytes table) out at
 
 abbrev μ-loop : tie.MeasureT-loop
-μ-loop sheet table₀ out₀ reached₀ at₀ table out reached at = batchesLeft sheet reached
+μ-loop sheet table₀ out₀ current₀ at₀ table out current at = batchesLeft sheet current
 
 loop-holds : tie.Need-loop-holds Inv-loop μ-loop
-loop-holds c = (refl, reached-first (c .before .before .before .pre .0))
+loop-holds c = (refl, in-batch-first (c .before .before .before .pre .0))
 
 sub-loop : tie.Need-sub-loop Inv-loop μ-loop
-sub-loop c = omega (arith, reached-within (c .loop .inv .1))
+sub-loop c = omega (arith, in-batch-within (c .loop .inv .1))
 
 same-length : tie.Need-same-length Inv-loop μ-loop
 same-length c = omega (arith, c .before .before .loop .inv .0)
@@ -33,7 +33,7 @@ returns c = batch-finished (c .before .before .loop .inv .1) (c .if1 .taken)
 put-record-requires : tie.Need-put-record-requires Inv-loop μ-loop
 put-record-requires c κs =
     let inv = c .before .before .before .before .loop .inv .1 in
-    (c .before .before .if1 .left, inv .numbered, omega (arith, reached-within inv, c .before .before .before .loop-test .taken))
+    (c .before .before .if1 .left, inv .numbered, omega (arith, in-batch-within inv, c .before .before .before .loop-test .taken))
 
 loop-less : tie.Need-loop-less Inv-loop μ-loop
 loop-less c = fewer-left (c .before .before .before .before .before .before .before .before .if1 .left) (c .before .before .before .before .before .put-record .ensures .1)
@@ -42,7 +42,7 @@ loop-again : tie.Need-loop-again Inv-loop μ-loop
 loop-again c =
     let put = c .before .before .before .before .before .put-record in
     let inv = c .before .before .before .before .before .before .before .before .before .before .loop .inv in
-    (put .kept .1 .1 .0 ∙ inv .0, reached-next (inv .1) (put .ensures .0) (put .ensures .1) (put .kept .1 .1 .1 .0))
+    (put .kept .1 .1 .0 ∙ inv .0, in-batch-next (inv .1) (put .ensures .0) (put .ensures .1) (put .kept .1 .1 .1 .0))
 
 same-length-3 : tie.Need-same-length-3 Inv-loop μ-loop
 same-length-3 c = omega (arith, c .before .loop .inv .0)

@@ -2,7 +2,7 @@
 use native.Mathlib.Omega.{arith}
 use borrow.Author.Needs.{needs}
 use Rattle.lines.specs.laws.Longest.{line-length}
-use Rattle.lines.specs.laws.Put.{put-on}
+use Rattle.buffer.specs.laws.Put.{put-on}
 use Rattle.sheet.proofs.stop.Statement.{statement}
 use Rattle.sheet.proofs.stop.Tie as tie
 

@@ -7,7 +7,7 @@ use mathlib.Core.Path.{_≡_, refl, sym, ap, _∙_}
 use mathlib.Core.List.{List, [], _∷_, _++_, append-assoc, append-nil}
 use lib.ListN.{length, take, drop, set, length-append, take-append-drop, drop-of-length-le}
 use lib.Seq.{length-take-le, take-all, take-at, drop-at, drop-drop, set-split}
-use Rattle.lines.specs.Put.{Put, overwriteAt}
+use Rattle.buffer.specs.Put.{Put, overwriteAt}
 
 -- ---- The buffer with bytes laid in it, at any offset: so that whoever puts bytes after bytes need not show again that they fit.
 
@@ -30,7 +30,7 @@ module _ (out : List ℕ) (at : ℕ) (bytes : List ℕ) where
     take-overwritten : take (at + length bytes) (overwriteAt out at bytes) ≡ take at out ++ bytes
     take-overwritten = ap (take (at + length bytes)) in-two ∙ take-at (take at out ++ bytes) (drop (at + length bytes) out) (at + length bytes) front-length
 
-    drop-overwritten : drop (at + length bytes) (overwriteAt out at bytes) ≡ drop (at + length bytes) out
+    pub drop-overwritten : drop (at + length bytes) (overwriteAt out at bytes) ≡ drop (at + length bytes) out
     drop-overwritten = ap (drop (at + length bytes)) in-two ∙ drop-at (take at out ++ bytes) (drop (at + length bytes) out) (at + length bytes) front-length
 
   overwrite-on : (more : List ℕ) → overwriteAt (overwriteAt out at bytes) (at + length bytes) more ≡ overwriteAt out at (bytes ++ more)

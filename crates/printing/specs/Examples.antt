@@ -1,0 +1,43 @@
+-- The contract says something: what is handed over of the empty sheet, to its end and up to its first line.
+use native.Mathlib.Omega.{arith}
+use mathlib.Core.Path.{_≡_, refl}
+use mathlib.Core.Bool.{Bool, true, false}
+use mathlib.Core.List.{[]}
+use lib.ListN.{length}
+use Rattle.rules.specs.Numbers.{decodeNumber}
+use Rattle.reader.specs.declared.Carried.the-variants.{NoDesk}
+use Rattle.sheet.specs.declared.State.{State}
+use Rattle.sheet_rules.specs.Edition1.{decodeHeader, hallEdition}
+use Rattle.sheet_rules.specs.Lines.{decimal, endLine, line, printed}
+use Rattle.sheet_rules.specs.Sheet.{lentTable, reading}
+use Rattle.printing.specs.Output.{HandedOver}
+use Rattle.printing.specs.Whole.{complete-output}
+
+abbrev emptyState : Bool → State
+emptyState finished =
+    record { offset = 0; index = 0; carried = NoDesk; tally = record { accepted = 0; refused = 0; «handed_back» = 0 }; finished = finished }
+
+-- `0 0 15 0` and `end 0 0 0`, each with its newline, are 19 bytes;
+pub all-of-empty : HandedOver [] true 19
+unfolding printed reading decodeHeader decodeNumber decimal line endLine
+all-of-empty = record {
+  some = omega arith;
+  state = emptyState true;
+  table = lentTable;
+  reached = record { within = omega arith; output = refl; calls = []; run = refl; left = refl };
+  finished = λ complete. refl;
+}
+
+pub all-are-19 : 19 ≡ length (printed hallEdition [])
+all-are-19 = complete-output [] 19 all-of-empty
+
+-- the first line alone is 9.
+pub first-of-empty : HandedOver [] false 9
+unfolding printed reading decodeHeader decodeNumber decimal line endLine
+first-of-empty = record {
+  some = omega arith;
+  state = emptyState false;
+  table = lentTable;
+  reached = record { within = omega arith; output = refl; calls = []; run = refl; left = refl };
+  finished = λ (complete : false ≡ true). cc;
+}

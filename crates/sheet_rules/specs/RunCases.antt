@@ -1,0 +1,102 @@
+-- Computed cases of running records, of the tally and of the printed numbers: each is decided by one clause of a definition.
+use mathlib.Core.Path.{_≡_, refl}
+use mathlib.Core.List.{List, [], _∷_, map}
+use mathlib.Core.Option.{none, some}
+use Prim.Native.Nat.{ℕ}
+use Rattle.rules.specs.Hall.{hallLimits}
+use Rattle.rules.specs.Steps.{Answer, Collect, Drop, Retire, Swap, Take, _sends_, refuse}
+use Rattle.rules.specs.Table.{sound, stepTable}
+use Rattle.sheet_rules.specs.Lines.{decimal, endLine, line, linesFrom}
+use Rattle.sheet_rules.specs.Run.{callOf, callsIn, runRecord}
+use Rattle.sheet_rules.specs.Sheet.{complete, more, recordFor}
+use Rattle.sheet_rules.specs.SheetCases.{text}
+use Rattle.sheet_rules.specs.Tally.{Tally, addStep, tallyOf, zeros}
+
+-- ---- The call that each code asks for: 1 to 5 each its own, 0, 6 and 65,535 none.
+pub calls-of-codes :
+    map (λ (code : ℕ). callOf (recordFor code 2 3 4 500)) (0 ∷ 1 ∷ 2 ∷ 3 ∷ 4 ∷ 5 ∷ 6 ∷ 65535 ∷ [])
+    ≡ none
+    ∷ some (2 sends Take 3 4)
+    ∷ some (2 sends Drop 3)
+    ∷ some (2 sends Swap 4 500)
+    ∷ some (2 sends Retire)
+    ∷ some (2 sends Collect)
+    ∷ none
+    ∷ none
+    ∷ []
+calls-of-codes = refl
+
+-- Code 0 and code 6 are answered 17, and the table is as it was. A collect is the board's: it finds the table of three words unsound.
+pub other-codes-are-17 :
+    map (λ (code : ℕ). runRecord hallLimits (7 ∷ 8 ∷ 9 ∷ []) (recordFor code 1 1 1 1)) (0 ∷ 6 ∷ 5 ∷ [])
+    ≡ refuse 17 (7 ∷ 8 ∷ 9 ∷ []) ∷ refuse 17 (7 ∷ 8 ∷ 9 ∷ []) ∷ refuse 5 (7 ∷ 8 ∷ 9 ∷ []) ∷ []
+unfolding stepTable sound
+other-codes-are-17 = refl
+
+-- A record that asks for no call is none of the calls, and the records after it are run.
+pub calls-without-17 : callsIn (more (recordFor 6 1 0 0 0) (more (recordFor 4 2 0 0 0) complete)) ≡ (2 sends Retire) ∷ []
+calls-without-17 = refl
+
+-- It has its line, and is not counted.
+pub line-of-17 :
+    linesFrom (7 ∷ 8 ∷ 9 ∷ []) 1 zeros (more (recordFor 6 1 0 0 0) (more (recordFor 4 2 0 0 0) complete))
+    ≡ text ("1 6 17 0" ∷ "2 4 5 0" ∷ "end 0 1 0" ∷ [])
+unfolding stepTable sound addStep decimal line endLine
+line-of-17 = refl
+
+-- ---- The tally: what a step with this code and answer adds.
+pub record TallyCase : Type 0 where
+  pub before : Tally
+  pub code : ℕ
+  pub answer : Answer
+  pub after : Tally
+
+abbrev pub tallyCase : Tally → ℕ → ℕ → ℕ → Tally → TallyCase
+tallyCase before code number session after = record {
+  before = before;
+  code = code;
+  answer = record { number = number; session = session };
+  after = after;
+}
+
+abbrev pub tallies : List TallyCase
+tallies =
+    -- "Each count is 32 bits wide and stays at its largest once there."
+    tallyCase (tallyOf 4294967294 0 0) 1 0 9 (tallyOf 4294967295 0 0)
+    ∷ tallyCase (tallyOf 4294967295 0 0) 1 0 9 (tallyOf 4294967295 0 0)
+    ∷ tallyCase (tallyOf 0 4294967294 0) 1 9 0 (tallyOf 0 4294967295 0)
+    ∷ tallyCase (tallyOf 0 4294967295 0) 1 9 0 (tallyOf 0 4294967295 0)
+    ∷ tallyCase (tallyOf 0 0 4294967294) 5 0 9 (tallyOf 1 0 4294967295)
+    ∷ tallyCase (tallyOf 0 0 4294967295) 5 0 9 (tallyOf 1 0 4294967295)
+    -- "replies to collect other than 0": a session that another step replies is not handed back,
+    ∷ tallyCase zeros 1 0 9 (tallyOf 1 0 0)
+    ∷ tallyCase zeros 2 0 9 (tallyOf 1 0 0)
+    ∷ tallyCase zeros 3 0 9 (tallyOf 1 0 0)
+    ∷ tallyCase zeros 4 0 9 (tallyOf 1 0 0)
+    -- nor is 0,
+    ∷ tallyCase zeros 5 0 0 (tallyOf 1 0 0)
+    ∷ tallyCase zeros 5 0 1 (tallyOf 1 0 1)
+    -- nor a session in a refusal.
+    ∷ tallyCase zeros 5 6 9 (tallyOf 0 1 0)
+    -- "A refused step changes only the count of refused steps."
+    ∷ tallyCase (tallyOf 3 4 5) 4 13 0 (tallyOf 3 5 5)
+    ∷ tallyCase (tallyOf 3 4 5) 5 6 0 (tallyOf 3 5 5)
+    -- A code outside 1 to 5 counts nothing, whatever the answer.
+    ∷ tallyCase (tallyOf 3 4 5) 0 0 9 (tallyOf 3 4 5)
+    ∷ tallyCase (tallyOf 3 4 5) 6 0 9 (tallyOf 3 4 5)
+    ∷ tallyCase (tallyOf 3 4 5) 6 17 0 (tallyOf 3 4 5)
+    ∷ []
+
+pub our-tallies : map (λ (case : TallyCase). addStep (case .before) (case .code) (case .answer)) tallies ≡ map (λ (case : TallyCase). case .after) tallies
+unfolding addStep
+our-tallies = refl
+
+-- ---- Numbers in decimal, of one digit and of more.
+pub our-lines : map (line 0 9 10) (99 ∷ 100 ∷ 65535 ∷ []) ≡ text ("0 9 10 99" ∷ []) ∷ text ("0 9 10 100" ∷ []) ∷ text ("0 9 10 65535" ∷ []) ∷ []
+unfolding decimal line
+our-lines = refl
+
+-- "`end`, steps accepted, steps refused by the board, sessions handed back"
+pub our-end : endLine (tallyOf 12345 0 4294967295) ≡ text ("end 12345 0 4294967295" ∷ [])
+unfolding decimal endLine
+our-end = refl
