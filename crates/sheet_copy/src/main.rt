@@ -1,4 +1,5 @@
-// Reads a day sheet from standard input and writes it anew, each number in its shortest form, up to what ends the reading.
+// Reads a day sheet from standard input and writes it anew, each number in its shortest form, up to what ends the reading. The stored
+// sheet has each code, numbers of one, two and three bytes, padded ones too, and a last record that is cut.
 use reader::Carried;
 use reader::Format;
 use reader::ParsedHeader;

@@ -11,8 +11,8 @@ use Rattle.sheet_rules.specs.Sheet.{Carried, Edition, GoodRecord, Record
 
 -- Bytes that stand in a sheet, from an offset up to the next.
 pub record Stands (bytes sheet : List ℕ) (at next : ℕ) : Type 0 where
-  pub here : drop at sheet ≡ bytes ++ drop next sheet
-  pub far : next ≡ at + length bytes
+  pub content : drop at sheet ≡ bytes ++ drop next sheet
+  pub end : next ≡ at + length bytes
 
 -- A parser finds a value wherever its bytes stand.
 abbrev pub ReadsBack : {A : Type 0} → (List ℕ → ℕ → Parsed A) → List ℕ → A → Type 0
@@ -29,16 +29,25 @@ CarriedHolds noDesk = Unit {0}
 CarriedHolds (lastDesk desk) = desk ≤ maxNumber
 
 pub record Lawful (edition : Edition) (maxSession : ℕ) : Type 0 where
+  -- A header that opens is read back.
   pub header-read-back : (hall : Hall) → openingNumber hall ≡ 0 → ReadsBack (edition .decodeHeader) (edition .encodeHeader hall) hall
+  -- A header that is read takes bytes.
   pub header-moves : (sheet : List ℕ) (at : ℕ) (hall : Hall) (next : ℕ) → edition .decodeHeader sheet at ≡ parsed hall next → Moved sheet at next
+  -- A good record is read back, if the same was carried over when it was written.
   pub record-read-back : (carried : Carried) (entry : Record) → GoodRecord maxSession entry
       → ReadsBack (edition .decodeRecord carried) (edition .encodeRecord carried entry) entry
+  -- A record that is read takes bytes,
   pub record-moves : (carried : Carried) (sheet : List ℕ) (at : ℕ) (entry : Record) (next : ℕ)
-      → edition .decodeRecord carried sheet at ≡ parsed entry next → Moved sheet at next
+      → edition .decodeRecord carried sheet at ≡ parsed entry next
+      → Moved sheet at next
+  -- it has a step's code,
   pub record-code : (carried : Carried) (sheet : List ℕ) (at : ℕ) (entry : Record) (next : ℕ)
-      → edition .decodeRecord carried sheet at ≡ parsed entry next → isCode (entry .code) ≡ true
+      → edition .decodeRecord carried sheet at ≡ parsed entry next
+      → isCode (entry .code) ≡ true
+  -- and it is good, if the desk that was carried over is.
   pub record-good : (carried : Carried) (sheet : List ℕ) (at : ℕ) (entry : Record) (next : ℕ) → CarriedHolds carried
-      → edition .decodeRecord carried sheet at ≡ parsed entry next → GoodRecord maxSession entry
+      → edition .decodeRecord carried sheet at ≡ parsed entry next
+      → GoodRecord maxSession entry
 
 -- What edition 1 asks of a reader of numbers: it reads back the shortest form, and what it reads takes bytes and is within its limit.
 pub record LawfulNumbers (readNumber : NumberReader) : Type 0 where

@@ -102,7 +102,7 @@ module _ (format : Format) (numbers : LawfulNumbers (format .readNumber)) where
   field-read-back : (present : Bool) (limit value : ℕ) → limit ≤ maxNumber → FieldHolds present limit value
       → ReadsBack (decodeField (format .readNumber) present limit) (encodeField present value) value
   field-read-back true limit value fits holds = numbers .read-back limit value holds fits
-  field-read-back false limit value fits holds = λ sheet at next stands. (let offset : next ≡ at = omega (arith, stands .far) in cc)
+  field-read-back false limit value fits holds = λ sheet at next stands. (let offset : next ≡ at = omega (arith, stands .end) in cc)
 
   module _ (fits : format .maxSession ≤ maxNumber) where
     rest-read-back : (entry : Record) → GoodRecord (format .maxSession) entry

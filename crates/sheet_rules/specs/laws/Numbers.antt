@@ -87,8 +87,8 @@ number-read-back : (limit value : ℕ) → value ≤ limit → limit ≤ maxNumb
 unfolding decodeNumber encodeNumber
 number-read-back limit value h g sheet at next stands =
     let back = shortest-read-back 3 value (drop next sheet) (omega arith) (omega arith) in
-    let offset : at + length (back .groups) ≡ next = omega (arith, back .long, stands .far) in
-    simp (stands .here, back .found, back .same, le-leb value limit h, offset)
+    let offset : at + length (back .groups) ≡ next = omega (arith, back .long, stands .end) in
+    simp (stands .content, back .found, back .same, le-leb value limit h, offset)
 
 pub numbers-lawful : LawfulNumbers decodeNumber
 numbers-lawful = record {

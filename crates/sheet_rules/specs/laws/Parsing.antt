@@ -36,10 +36,10 @@ same-parsed P first second at next e holds =
 pub stands-split : (first second sheet : List ℕ) (at next : ℕ) → Stands (first ++ second) sheet at next
     → Stands first sheet at (at + length first) × Stands second sheet (at + length first) next
 stands-split first second sheet at next h =
-    (record { here = one; far = refl }, record { here = two; far = omega (arith, h .far, length-append first second) })
+    (record { content = one; end = refl }, record { content = two; end = omega (arith, h .end, length-append first second) })
   where
     all : drop at sheet ≡ first ++ (second ++ drop next sheet)
-    all = h .here ∙ append-assoc first second (drop next sheet)
+    all = h .content ∙ append-assoc first second (drop next sheet)
 
     two : drop (at + length first) sheet ≡ second ++ drop next sheet
     two = sym (drop-drop (length first) at sheet) ∙ ap (drop (length first)) all ∙ drop-append-seam first (second ++ drop next sheet)
@@ -49,7 +49,7 @@ stands-split first second sheet at next h =
 
 pub stands-whole : (sheet : List ℕ) → Stands sheet sheet 0 (length sheet)
 stands-whole sheet =
-    record { here = sym (append-nil sheet) ∙ ap (λ (rest : List ℕ). sheet ++ rest) (sym (drop-length sheet)); far = omega arith }
+    record { content = sym (append-nil sheet) ∙ ap (λ (rest : List ℕ). sheet ++ rest) (sym (drop-length sheet)); end = omega arith }
 
 -- ---- Values that are read back.
 

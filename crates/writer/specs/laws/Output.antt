@@ -21,10 +21,10 @@ module _ (out : List ℕ) (at : ℕ) (bytes : List ℕ) where
   unfolding overwriteAt
   laid-stands fits =
       record {
-        here =
+        content =
             drop-at (take at out) (bytes ++ drop (at + length bytes) out) at (length-take-le at out (omega (arith, fits)))
             ∙ ap (λ (rest : List ℕ). bytes ++ rest) (sym (drop-overwritten out at bytes (omega (arith, fits))));
-        far = refl;
+        end = refl;
       }
 
   pub written-stands : (after : List ℕ) (next : ℕ) → writeAt out at bytes ≡ put after next → Stands bytes after at next
