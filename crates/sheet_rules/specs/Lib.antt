@@ -6,6 +6,8 @@ pub mod Tally
 pub mod Lines
 pub mod SheetTheorems
 pub mod SheetCases
+pub mod ReadingCases
 pub mod RunCases
+pub mod SheetInstances
 pub mod SheetExamples
 pub mod laws

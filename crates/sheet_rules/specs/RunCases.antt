@@ -3,14 +3,15 @@ use mathlib.Core.Path.{_≡_, refl}
 use mathlib.Core.List.{List, [], _∷_, map}
 use mathlib.Core.Option.{none, some}
 use Prim.Native.Nat.{ℕ}
+use Rattle.rules.specs.Cases.{_⇒_, ok, refusedWith}
 use Rattle.rules.specs.Hall.{hallLimits}
-use Rattle.rules.specs.Steps.{Answer, Collect, Drop, Retire, Swap, Take, _sends_, refuse}
+use Rattle.rules.specs.Steps.{Answer, Collect, Drop, Event, Retire, Swap, Take, _sends_, refuse}
 use Rattle.rules.specs.Table.{sound, stepTable}
-use Rattle.sheet_rules.specs.Lines.{decimal, endLine, line, linesFrom}
+use Rattle.sheet_rules.specs.Lines.{decimal, endLine, eventLines, line, linesFrom}
 use Rattle.sheet_rules.specs.Run.{callOf, callsIn, runRecord}
 use Rattle.sheet_rules.specs.Sheet.{complete, more, recordFor}
 use Rattle.sheet_rules.specs.SheetCases.{text}
-use Rattle.sheet_rules.specs.Tally.{Tally, addStep, tallyOf, zeros}
+use Rattle.sheet_rules.specs.Tally.{Tally, addStep, addSteps, countsIn, tallyOf, zeros}
 
 -- ---- The call that each code asks for: 1 to 5 each its own, 0, 6 and 65,535 none.
 pub calls-of-codes :
@@ -100,3 +101,23 @@ our-lines = refl
 pub our-end : endLine (tallyOf 12345 0 4294967295) ≡ text ("end 12345 0 4294967295" ∷ [])
 unfolding decimal endLine
 our-end = refl
+
+-- ---- Lists of steps with their answers: four accepted, of which one hands 300 back, and two refused.
+abbrev events : List Event
+events =
+    (2 sends Swap 4 300 ⇒ ok 0)
+    ∷ (2 sends Take 3 4 ⇒ ok 300)
+    ∷ (2 sends Retire ⇒ refusedWith 13)
+    ∷ (2 sends Collect ⇒ ok 300)
+    ∷ (2 sends Drop 3 ⇒ ok 300)
+    ∷ (2 sends Collect ⇒ refusedWith 5)
+    ∷ []
+
+pub tally-of-events : (addSteps zeros events ≡ tallyOf 4 2 1) × (countsIn events ≡ tallyOf 4 2 1)
+unfolding addStep
+tally-of-events = (refl, refl)
+
+-- Their lines, from record 7 on.
+pub lines-of-events : eventLines 7 events ≡ text ("7 3 0 0" ∷ "8 1 0 300" ∷ "9 4 13 0" ∷ "10 5 0 300" ∷ "11 2 0 300" ∷ "12 5 5 0" ∷ [])
+unfolding decimal line
+lines-of-events = refl

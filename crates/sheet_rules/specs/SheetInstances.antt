@@ -1,0 +1,97 @@
+-- Each statement about sheets at one instance, with numbers that all differ: what it says there.
+use Prim.Native.Nat.{ℕ, _+_, _≤_, _<_}
+use native.Mathlib.Omega.{arith}
+use mathlib.Core.Path.{_≡_, refl, sym}
+use mathlib.Core.Bool.{true, true≢false}
+use mathlib.Core.List.{List, [], _∷_, _++_}
+use lib.ListN.{length, drop}
+use Rattle.rules.specs.Hall.{hallOf}
+use Rattle.rules.specs.Numbers.{Parsed, parsed}
+use Rattle.sheet_rules.specs.Edition1.{NumberReader, encodeNumber}
+use Rattle.sheet_rules.specs.Lawful.{CarriedHolds, Lawful, LawfulNumbers, Moved, ReadsBack, Stands}
+use Rattle.sheet_rules.specs.Sheet.{Accepted, EachGood, Edition, GoodMeaning, GoodRecord, Meaning, Record, isCode, lastDesk, noDesk, opened, openingNumber}
+use Rattle.sheet_rules.specs.Sheet.{reading, recordFor, whole}
+
+-- ---- Records that a sheet can have, where sessions go up to 999: a take has no session, and a swap no screen.
+pub good-take : GoodRecord 999 (recordFor 1 65535 65535 65535 0)
+good-take = record { code = refl; desk = omega arith; screen = omega arith; position = omega arith; session = refl }
+
+pub good-swap : GoodRecord 999 (recordFor 3 65535 0 65535 999)
+good-swap = record { code = refl; desk = omega arith; screen = refl; position = omega arith; session = omega arith }
+
+-- a code that is no step's; a desk, a screen, a position and a session that are too large; a session of a take and a screen of a swap
+pub no-good-records :
+    (GoodRecord 999 (recordFor 6 0 0 0 0) → ⊥)
+    × (GoodRecord 999 (recordFor 1 65536 3 4 0) → ⊥)
+    × (GoodRecord 999 (recordFor 1 2 65536 4 0) → ⊥)
+    × (GoodRecord 999 (recordFor 1 2 3 65536 0) → ⊥)
+    × (GoodRecord 999 (recordFor 3 2 0 4 1000) → ⊥)
+    × (GoodRecord 999 (recordFor 1 2 3 4 5) → ⊥)
+    × (GoodRecord 999 (recordFor 3 2 1 4 5) → ⊥)
+no-good-records = (
+  λ good. true≢false (sym (good .code)),
+  λ good. omega (arith, good .desk),
+  λ good. omega (arith, good .screen),
+  λ good. omega (arith, good .position),
+  λ good. omega (arith, good .session),
+  λ good. omega (arith, good .session),
+  λ good. omega (arith, good .screen),
+)
+
+pub says-each-good : (first second : Record) → EachGood 999 (first ∷ second ∷ []) → GoodRecord 999 first × GoodRecord 999 second
+says-each-good first second good = (good .0, good .1 .0)
+
+pub says-good-meaning : (meaning : Meaning) → GoodMeaning 999 meaning → (openingNumber (meaning .header) ≡ 0) × EachGood 999 (meaning .records)
+says-good-meaning meaning good = (good .opens, good .records)
+
+pub says-accepted : (edition : Edition) (sheet : List ℕ) (meaning : Meaning) → Accepted edition sheet meaning → reading edition sheet ≡ opened (meaning .header) (whole (meaning .records))
+says-accepted edition sheet meaning accepted = accepted
+
+-- ---- Bytes that stand in a sheet: 8 and 9, at offset 2 up to offset 4.
+pub stands : Stands (8 ∷ 9 ∷ []) (6 ∷ 7 ∷ 8 ∷ 9 ∷ 5 ∷ []) 2 4
+stands = record { content = refl; end = refl }
+
+pub says-stands : (bytes sheet : List ℕ) → Stands bytes sheet 2 4 → (drop 2 sheet ≡ bytes ++ drop 4 sheet) × (4 ≡ 2 + length bytes)
+says-stands bytes sheet stands = (stands .content, stands .end)
+
+pub says-moved : (sheet : List ℕ) → Moved sheet 2 4 → (2 < 4) × (4 ≤ length sheet)
+says-moved sheet moved = (moved .past, moved .inside)
+
+pub says-read-back : (parser : List ℕ → ℕ → Parsed ℕ) (bytes sheet : List ℕ) → ReadsBack parser bytes 7 → Stands bytes sheet 2 4 → parser sheet 2 ≡ parsed 7 4
+says-read-back parser bytes sheet reads = reads sheet 2 4
+
+-- a desk that is carried over
+pub says-carried : CarriedHolds noDesk × CarriedHolds (lastDesk 65535) × (CarriedHolds (lastDesk 65536) → ⊥)
+says-carried = (tt, omega arith, λ holds. omega (arith, holds))
+
+-- ---- Editions, where sessions go up to 999; desk 3 is carried over.
+module _ (edition : Edition) (lawful : Lawful edition 999) (sheet : List ℕ) where
+  pub says-header-read-back : openingNumber (hallOf 2 3 4) ≡ 0 → ReadsBack (edition .decodeHeader) (edition .encodeHeader (hallOf 2 3 4)) (hallOf 2 3 4)
+  says-header-read-back = lawful .header-read-back (hallOf 2 3 4)
+
+  pub says-header-moves : edition .decodeHeader sheet 5 ≡ parsed (hallOf 2 3 4) 8 → Moved sheet 5 8
+  says-header-moves = lawful .header-moves sheet 5 (hallOf 2 3 4) 8
+
+  module _ (entry : Record) where
+    pub says-record-read-back : GoodRecord 999 entry → ReadsBack (edition .decodeRecord (lastDesk 3)) (edition .encodeRecord (lastDesk 3) entry) entry
+    says-record-read-back = lawful .record-read-back (lastDesk 3) entry
+
+    pub says-record-moves : edition .decodeRecord (lastDesk 3) sheet 5 ≡ parsed entry 8 → Moved sheet 5 8
+    says-record-moves = lawful .record-moves (lastDesk 3) sheet 5 entry 8
+
+    pub says-record-code : edition .decodeRecord (lastDesk 3) sheet 5 ≡ parsed entry 8 → isCode (entry .code) ≡ true
+    says-record-code = lawful .record-code (lastDesk 3) sheet 5 entry 8
+
+    pub says-record-good : CarriedHolds (lastDesk 3) → edition .decodeRecord (lastDesk 3) sheet 5 ≡ parsed entry 8 → GoodRecord 999 entry
+    says-record-good = lawful .record-good (lastDesk 3) sheet 5 entry 8
+
+-- Numbers up to 999: 7, at offset 5 up to offset 8.
+module _ (readNumber : NumberReader) (lawful : LawfulNumbers readNumber) (sheet : List ℕ) where
+  pub says-number-read-back : 7 ≤ 999 → 999 ≤ 65535 → ReadsBack (readNumber 999) (encodeNumber 7) 7
+  says-number-read-back = lawful .read-back 999 7
+
+  pub says-number-small : readNumber 999 sheet 5 ≡ parsed 7 8 → 7 ≤ 999
+  says-number-small = lawful .small 999 sheet 5 7 8
+
+  pub says-number-moves : readNumber 999 sheet 5 ≡ parsed 7 8 → Moved sheet 5 8
+  says-number-moves = lawful .moves 999 sheet 5 7 8
