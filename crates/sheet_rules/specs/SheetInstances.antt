@@ -12,12 +12,16 @@ use Rattle.sheet_rules.specs.Lawful.{CarriedHolds, Lawful, LawfulNumbers
 use Rattle.sheet_rules.specs.Sheet.{Accepted, EachGood, Edition, GoodMeaning, GoodRecord, Meaning, Record, isCode, lastDesk, noDesk, opened, openingNumber}
 use Rattle.sheet_rules.specs.Sheet.{reading, recordFor, whole}
 
--- ---- Records that a sheet can have, where sessions go up to 999: a take has no session, and a swap no screen.
+-- ---- Records that a sheet can have, where sessions go up to 999: a take has no session, a swap no screen, and a retire
+-- neither, and no position.
 pub good-take : GoodRecord 999 (recordFor 1 65535 65535 65535 0)
 good-take = record { code = refl; desk = omega arith; screen = omega arith; position = omega arith; session = refl }
 
 pub good-swap : GoodRecord 999 (recordFor 3 65535 0 65535 999)
 good-swap = record { code = refl; desk = omega arith; screen = refl; position = omega arith; session = omega arith }
+
+pub good-retire : GoodRecord 999 (recordFor 4 65535 0 0 0)
+good-retire = record { code = refl; desk = omega arith; screen = refl; position = refl; session = refl }
 
 -- a code that is no step's; a desk, a screen, a position and a session that are too large; a session of a take and a screen of a swap
 pub no-good-records :
