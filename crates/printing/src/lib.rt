@@ -1,11 +1,9 @@
 // Prints the lines of a sheet to standard output: all that the programs share.
 use board::Board;
+use libc::STDOUT_FILENO;
 use sheet::fill;
 use sheet::start;
 ghost use Rattle.printing.specs.Output.{HandedOver};
-
-// Standard output.
-const OUTPUT: i32 = 1;
 
 // What printing a sheet came to: how many bytes were handed to the output, and whether it took them all to the last line.
 pub struct Printed {
@@ -23,7 +21,7 @@ pub fn print(sheet: &[u8]) -> Printed
     let put = first.put;
     let mut state = first.state;
     let mut bytes = put;
-    let mut taken = io::write_all(OUTPUT, &out[..put]);
+    let mut taken = io::write_all(STDOUT_FILENO, &out[..put]);
     while taken {
         if state.finished {
             return Printed {
@@ -35,7 +33,7 @@ pub fn print(sheet: &[u8]) -> Printed
         let put = filled.put;
         state = filled.state;
         bytes = bytes + put;
-        taken = io::write_all(OUTPUT, &out[..put]);
+        taken = io::write_all(STDOUT_FILENO, &out[..put]);
     }
     Printed {
         complete: false,

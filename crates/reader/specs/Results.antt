@@ -28,7 +28,7 @@ abbrev pub numberResult : Number → Parsed ℕ
 numberResult (Value value next) = parsed value next
 numberResult (Refused fault first) = refusal 0 (numberOf fault) first
 
--- how a reader in this format reads
+-- the rules' format for a reader's: it reads numbers as the rules do
 abbrev pub formatOf : ReaderFormat → Format
 formatOf format = record { readNumber = decodeNumber; maxSession = format .«max_session» }
 

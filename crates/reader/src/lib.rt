@@ -1,3 +1,8 @@
+use fields::DESK;
+use fields::POSITION;
+use fields::SCREEN;
+use fields::SESSION;
+use fields::follows;
 ghost use mathlib.Core.Path.{_≡_};
 ghost use Prim.Native.Nat.{_≤_, _<_};
 ghost use Rattle.rules.specs.Numbers.{decodeNumber, withinLimit};
@@ -80,26 +85,6 @@ pub fn read_number(sheet: &[u8], at: usize, limit: u16) -> Number
         );
     }
     Number::Refused(Fault::TooLarge, at)
-}
-
-// Which fields follow each code: a row for take, drop, swap, retire and collect; a column for desk, screen, position and session.
-const FIELDS: [u8; 20] = [1, 1, 1, 0, 1, 1, 0, 0, 1, 0, 1, 1, 1, 0, 0, 0, 1, 0, 0, 0];
-
-pub const DESK: usize = 0;
-
-pub const SCREEN: usize = 1;
-
-pub const POSITION: usize = 2;
-
-pub const SESSION: usize = 3;
-
-// Whether a field follows a code.
-// It requires one of the five codes: 17 is asked before the fields are read.
-pub fn follows(code: u16, field: usize) -> bool
-    requires { ⌜ (1 ≤ code) × (code ≤ 5) × (field < 4) ⌝ }
-    ensures { λ r. ⌜ r ≡ followsCode code field ⌝ }
-{
-    FIELDS[(code as usize - 1) * 4 + field] == 1
 }
 
 // A field that follows its code is read; one that does not is 0 and takes no byte.

@@ -1,11 +1,8 @@
 // Prints the lines of one sheet after another: the cases of `tests/sheet_cases.txt`. Standard input has each sheet after its
 // length, three bytes, low byte first.
+use libc::STDIN_FILENO;
+use libc::STDOUT_FILENO;
 use printing::print;
-
-// Standard input and output.
-const INPUT: i32 = 0;
-
-const OUTPUT: i32 = 1;
 
 // One byte more than a sheet may have, as the sheet program has it: a longer sheet would be read no further.
 const BYTES: usize = 65537;
@@ -20,23 +17,23 @@ fn length_of(low: u8, middle: u8, high: u8) -> usize {
 
 // A line with the number of a case.
 fn print_title(case: u64) {
-    io::write_all(OUTPUT, b"case ");
-    io::print_decimal(OUTPUT, case);
-    io::write_all(OUTPUT, b"\n");
+    io::write_all(STDOUT_FILENO, b"case ");
+    io::print_decimal(STDOUT_FILENO, case);
+    io::write_all(STDOUT_FILENO, b"\n");
 }
 
 // Reads the next sheet into a buffer and prints its lines. It answers false where there is no whole sheet, or none that fits, or the
 // output does not take the lines.
 fn print_next(case: u64, bytes: &mut [u8]) -> bool {
     let mut length = [0u8; 3];
-    if io::read_full(INPUT, &mut length) < 3 {
+    if io::read_full(STDIN_FILENO, &mut length) < 3 {
         return false;
     }
     let n = length_of(length[0], length[1], length[2]);
     if bytes.len() < n {
         return false;
     }
-    if io::read_full(INPUT, &mut bytes[..n]) < n {
+    if io::read_full(STDIN_FILENO, &mut bytes[..n]) < n {
         return false;
     }
     print_title(case);

@@ -1,5 +1,7 @@
 // Reads a day sheet from standard input and writes it anew, each number in its shortest form, up to what ends the reading. The stored
 // sheet has each code, numbers of one, two and three bytes, padded ones too, and a last record that is cut.
+use libc::STDIN_FILENO;
+use libc::STDOUT_FILENO;
 use reader::Carried;
 use reader::Format;
 use reader::ParsedHeader;
@@ -9,11 +11,6 @@ use reader::read_record;
 use writer::Written;
 use writer::write_header;
 use writer::write_record;
-
-// Standard input and output.
-const INPUT: i32 = 0;
-
-const OUTPUT: i32 = 1;
 
 // The most bytes of a sheet, and so the most records.
 const MAX_BYTES: usize = 65536;
@@ -58,10 +55,10 @@ fn copy(sheet: &[u8], out: &mut [u8]) -> usize {
 
 fn main() {
     let mut bytes = [0u8; MAX_BYTES];
-    let n = io::read_full(INPUT, &mut bytes);
+    let n = io::read_full(STDIN_FILENO, &mut bytes);
     let mut out = io::large_buffer();
     let end = copy(&bytes[..n], &mut out);
     if end <= out.len() {
-        io::write_all(OUTPUT, &out[..end]);
+        io::write_all(STDOUT_FILENO, &out[..end]);
     }
 }

@@ -1,13 +1,13 @@
 // Writes the numbers, the records and the header of a day sheet, each number in its shortest form, into a buffer that the caller lends.
 use buffer::fits;
 use buffer::put_byte;
-use reader::DESK;
+use fields::DESK;
+use fields::POSITION;
+use fields::SCREEN;
+use fields::SESSION;
+use fields::follows;
 use reader::Header;
-use reader::POSITION;
 use reader::Record;
-use reader::SCREEN;
-use reader::SESSION;
-use reader::follows;
 ghost use mathlib.Core.Path.{_≡_};
 ghost use Prim.Native.Nat.{_≤_, _<_};
 ghost use lib.ListN.{length};
