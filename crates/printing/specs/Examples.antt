@@ -1,15 +1,18 @@
--- The contract says something: what is handed over of the empty sheet, to its end and up to its first line.
+-- The contract says something: what is handed over of the empty sheet, to its end and up to its first line, and what is not.
+use Prim.Native.Nat.{ℕ}
 use native.Mathlib.Omega.{arith}
 use mathlib.Core.Path.{_≡_, refl}
-use mathlib.Core.Bool.{Bool, true, false}
-use mathlib.Core.List.{[]}
-use lib.ListN.{length}
+use mathlib.Core.Bool.{Bool, true, false, cond}
+use mathlib.Core.List.{List, []}
+use lib.ListN.{length, drop}
 use Rattle.rules.specs.Numbers.{decodeNumber}
 use Rattle.reader.specs.declared.Carried.the-variants.{NoDesk}
 use Rattle.sheet.specs.declared.State.{State}
 use Rattle.sheet_rules.specs.Edition1.{decodeHeader, hallEdition}
 use Rattle.sheet_rules.specs.Lines.{decimal, endLine, line, printed}
 use Rattle.sheet_rules.specs.Sheet.{lentTable, reading}
+use Rattle.tally.specs.Counts.{toTally}
+use Rattle.tally.specs.declared.Tally.{Tally}
 use Rattle.printing.specs.Output.{HandedOver}
 use Rattle.printing.specs.Whole.{complete-output}
 
@@ -41,3 +44,15 @@ first-of-empty = record {
   reached = record { within = omega arith; output = refl; calls = []; run = refl; left = refl };
   finished = λ (complete : false ≡ true). cc;
 }
+
+-- No constant answer meets the contract: not 0 bytes, of no sheet, and not 1 byte of the empty sheet.
+pub never-nothing : (sheet : List ℕ) (complete : Bool) → HandedOver sheet complete 0 → ⊥
+never-nothing sheet complete handed = omega (arith, handed .some)
+
+pub never-one-byte : (complete : Bool) → HandedOver [] complete 1 → ⊥
+unfolding printed reading decodeHeader decodeNumber decimal line endLine
+never-one-byte complete handed = by-end (handed .state .finished) (handed .state .tally) (handed .reached .output)
+  where
+    by-end : (finished : Bool) (tally : Tally) → cond finished [] (endLine (toTally tally)) ≡ drop 1 (printed hallEdition []) → ⊥
+    by-end true tally e = let z : _≡_ {A = ℕ} 0 1 = cc in omega arith
+    by-end false tally e = let z : _≡_ {A = ℕ} 101 32 = cc in omega arith

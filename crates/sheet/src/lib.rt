@@ -39,9 +39,6 @@ const MAX_BYTES: usize = 65536;
 // The reply number of a sheet that is longer.
 const TOO_LONG: u16 = 18;
 
-// The reply number of a code that is no step's.
-const NO_CODE: u16 = 17;
-
 // The most bytes of a record's line and the last line.
 const ROOM: usize = 84 + 67;
 
@@ -129,7 +126,7 @@ fn put_record(sheet: &[u8], state: State, table: &mut [u8], out: &mut [u8], at: 
     let carried = state.carried;
     match read_record(sheet, offset, Format::HALL, carried) {
         ParsedRecord::Refused(code, fault, _) => stop(out, at, state, code, refusal_number(fault)),
-        ParsedRecord::NoCode(code) => stop(out, at, state, code, NO_CODE),
+        ParsedRecord::NoCode(code) => stop(out, at, state, code, number(Reply::NoCode)),
         ParsedRecord::Whole(entry, next) => {
             let r = run_record(table, entry);
             let reply_number = number(r);
@@ -187,7 +184,7 @@ pub fn fill(sheet: &[u8], state: State, table: &mut [u8], out: &mut [u8]) -> Fil
 }
 
 // The first batch: asks for the sheet's length, reads the header, opens the table and puts the header's line.
-// It requires that table, all zeros, and room for a line and the last line.
+// It requires the table that the rules lend, all zeros, and room for a line and the last line.
 pub fn start(sheet: &[u8], table: &mut [u8], out: &mut [u8]) -> Filled
     requires { ⌜ (wordsOfBytes (now table) ≡ lentTable) × (recordRoom ≤ length (now out)) ⌝ }
     ensures { λ r. ⌜ Started (now (sheet .entry)) (now (out .entry)) (r .state) (wordsOfBytes (now (table .exit))) (now (out .exit)) (r .put) ⌝ }

@@ -1,4 +1,4 @@
--- Which codes are a step's, and which answers hand a session back.
+-- Which codes are a step's.
 use Prim.Native.Nat.{ℕ, _≤_, _<_}
 use mathlib.Core.Path.{_≡_}
 use mathlib.Core.Bool.{true, false}

@@ -43,6 +43,9 @@ stop-requires c κs = search needs
 enum-known-code-2 : tie.Need-enum-known-code-2
 enum-known-code-2 c = search needs
 
+number-requires : tie.Need-number-requires
+number-requires c κs = search needs
+
 stop-requires-2 : tie.Need-stop-requires-2
 stop-requires-2 c κs = search needs
 
@@ -52,8 +55,8 @@ enum-known-entry c = search needs
 run-record-requires : tie.Need-run-record-requires
 run-record-requires c κs = search needs
 
-number-requires : tie.Need-number-requires
-number-requires c κs = search needs
+number-requires-2 : tie.Need-number-requires-2
+number-requires-2 c κs = search needs
 
 session-requires : tie.Need-session-requires
 session-requires c κs = search needs
@@ -70,7 +73,7 @@ cast-put-line-3 c = search needs
 put-line-requires : tie.Need-put-line-requires
 put-line-requires c κs =
     let start = c .before .before .before .before .before .before .before .before .before .before .before .before .before .before .before .before in
-    omega (arith, line-length (start .args .state .index) (c .before .before .before .before .before .before .before .before .before .entry .given .0 .0 .code) (c .before .before .before .number .result) (c .before .before .session .result), start .pre .2)
+    omega (arith, line-length (start .args .state .index) (c .before .before .before .before .before .before .before .before .before .entry .given .0 .0 .code) (c .before .before .before .number2 .result) (c .before .before .session .result), start .pre .2)
 
 add-step-lent-requires : tie.Need-add-step-lent-requires
 add-step-lent-requires c κs = search needs
@@ -96,10 +99,11 @@ same-length-3 c = search needs
 
 returns-3 : tie.Need-returns-3
 returns-3 c =
-    let start = c .before .before .before .before .before .before .before .before .before .before .before .before in
+    let start = c .before .before .before .before .before .before .before .before .before .before .before .before .before in
     let last = c .before .before .stop2 .ensures in
-    let read = sym (c .before .before .before .before .before .before .before .read-record .ensures) ∙ ap recordResult (c .before .before .before .before .before .code2 .given .1) in
-    (reading-stopped (start .pre .0) (c .before .before .before .before .before .before .before .before .if1 .left) read (last .0) (last .1), finished-progress (last .1) (start .pre .1))
+    let code = c .before .before .before .before .before .before .code2 .given in
+    let read = sym (c .before .before .before .before .before .before .before .before .read-record .ensures) ∙ ap recordResult (code .1) ∙ ap (λ (n : ℕ). refused (refusalOf (code .0 .0) n 0)) (sym (c .before .before .before .number .ensures)) in
+    (reading-stopped (start .pre .0) (c .before .before .before .before .before .before .before .before .before .if1 .left) read (last .0) (last .1), finished-progress (last .1) (start .pre .1))
 
 same-length-4 : tie.Need-same-length-4
 same-length-4 c = search needs
@@ -113,8 +117,8 @@ returns-4 c =
     let inside = c .before .before .before .before .before .before .before .before .before .before .before .before .before .before .before .before .before .before .if1 .left in
     let read = record-read (c .before .before .before .before .before .before .before .before .before .before .before .before .before .before) in
     let ran-step = c .before .before .before .before .before .before .before .before .before .before .before .before .run-record in
-    (record-ran (start .pre .0) inside read (ran-step .result) (ran-step .ensures .words) (c .before .before .before .before .before .before .before .before .before .number .ensures) (c .before .before .before .before .before .before .before .before .session .ensures) (c .before .add-step-lent .ensures) (c .before .before .before .before .before .put-line .ensures), record-progress (start .pre .0) inside read (start .pre .1))
+    (record-ran (start .pre .0) inside read (ran-step .result) (ran-step .ensures .words) (c .before .before .before .before .before .before .before .before .before .number2 .ensures) (c .before .before .before .before .before .before .before .before .session .ensures) (c .before .add-step-lent .ensures) (c .before .before .before .before .before .put-line .ensures), record-progress (start .pre .0) inside read (start .pre .1))
 
 pub put-record-spec : {M : Type 1} → statement M
 put-record-spec =
-    tie.close (tie.spec finish-requires same-length returns read-record-requires enum-known-code refusal-number-requires stop-requires enum-known-code-2 stop-requires-2 enum-known-entry run-record-requires number-requires session-requires cast-put-line cast-put-line-2 cast-put-line-3 put-line-requires add-step-lent-requires add-index same-length-2 returns-2 same-length-3 returns-3 same-length-4 same-length-5 returns-4)
+    tie.close (tie.spec finish-requires same-length returns read-record-requires enum-known-code refusal-number-requires stop-requires enum-known-code-2 number-requires stop-requires-2 enum-known-entry run-record-requires number-requires-2 session-requires cast-put-line cast-put-line-2 cast-put-line-3 put-line-requires add-step-lent-requires add-index same-length-2 returns-2 same-length-3 returns-3 same-length-4 same-length-5 returns-4)
