@@ -556,6 +556,10 @@ waitingTables first second i =
     waiting : ℕ → List ℕ
     waiting session = (0 ∷ 0 ∷ 0 ∷ 0 ∷ 1 ∷ replicate 8 0) ++ (session ∷ 0 ∷ 0 ∷ 0 ∷ [])
 
+-- desk 2's list and counts there, in a hall with more desks than screens per desk
+pub lists-of-two : (listOfDesk (hallOf 2 1 1) (waitingTables 6 5 0) 2 ≡ 5 ∷ []) × (countsOfDesk (hallOf 2 1 1) (waitingTables 6 5 0) 2 ≡ 1)
+lists-of-two = (refl, refl)
+
 pub refuses-copies : (Demand2 (hallOf 1 1 1) oneRetired emptyTables → ⊥) × (Demand2 (hallOf 2 1 1) oneRetired (waitingTables 6 5) → ⊥)
 refuses-copies = (λ demand. omega (arith, demand .counts 1 5 1), λ demand. omega (arith, demand .counts 1 5 1))
 
