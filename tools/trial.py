@@ -20,7 +20,8 @@ LONGEST = 300
 
 def prove(crates):
     """Proves these crates in this tree, where they have changed since they were last proved."""
-    return subprocess.run(['rt', 'check', *crates], cwd=ROOT, capture_output=True, text=True)
+    (ROOT / 'build').mkdir(exist_ok=True)
+    return subprocess.run(['flock', 'build/rt.lock', 'rt', 'check', *crates], cwd=ROOT, capture_output=True, text=True)
 
 
 def develop(copy, crate):
