@@ -10,8 +10,8 @@
  * anyone else during a call. It may be NULL only if its length is 0.
  *
  * Desk, screen and position numbers start at 1. Sessions are 1 to 65535; 0
- * means "none". Every call answers, whatever its numbers and bytes: the answer
- * is the reply number times 65536, plus a session. A refusal (reply number not
+ * means "none". Every call returns an answer, whatever its numbers and bytes:
+ * the reply number times 65536, plus a session. A refusal (reply number not
  * 0) has session 0 and leaves every byte of the table unchanged. Test
  * board_number() to detect a refusal; session 0 is also a valid result.
  *
@@ -50,7 +50,9 @@ extern "C" {
 #define BOARD_MAX_WORDS 2387 /* the need of the largest hall */
 #define BOARD_MAX_BYTES 4774
 
-/* The reply numbers. Each but the first means "no" to the question beside it. */
+/* The reply numbers. Each but the first means "no" to the question beside it. A
+ * call asks the questions named in its comment below, in that order, and the
+ * first "no" refuses it. */
 enum board_reply {
     BOARD_ACCEPTED = 0,
     BOARD_BAD_DESKS = 1,       /* are the desks 1 to 16? */
@@ -87,37 +89,38 @@ static inline uint16_t board_session(uint32_t answer)
     return (uint16_t)(answer & 0xFFFF);
 }
 
-/* Opens a hall. Asks 1, 2, 3, 4. Writes the hall's three numbers and zeros up
- * to the need, regardless of the old content. The session is 0. */
+/* Opens a hall; the answer has session 0. Asks 1, 2, 3, 4. Writes the hall's
+ * three numbers and zeros up to the need, regardless of the old content. */
 uint32_t board_open(uint16_t desks, uint16_t screens, uint16_t positions,
                     uint8_t *table, size_t bytes);
 
-/* Shows the position's session on the screen, and replies it. Asks 5, 6, 7, 8,
- * 9, 10. Writes the screen. */
+/* Shows the position's session on the screen; the answer has that session. Asks
+ * 5, 6, 7, 8, 9, 10. Writes the screen. */
 uint32_t board_take(uint16_t desk, uint16_t screen, uint16_t position,
                     uint8_t *table, size_t bytes);
 
-/* Empties the screen, and replies the session that it showed. Asks 5, 6, 7, 11.
- * Writes the screen. */
+/* Empties the screen; the answer has the session that it showed. Asks 5, 6, 7,
+ * 11. Writes the screen. */
 uint32_t board_drop(uint16_t desk, uint16_t screen,
                     uint8_t *table, size_t bytes);
 
-/* Puts the given session at the position, or none for 0, and replies the old
+/* Puts the given session at the position, or none for 0; the answer has the old
  * one, which the desk then owes unless it is 0. Asks 5, 6, 8, 12. Writes the
  * position and, if the old session is not 0, what the desk owes. */
 uint32_t board_swap(uint16_t desk, uint16_t position, uint16_t session,
                     uint8_t *table, size_t bytes);
 
-/* Appends the owed session to the desk's list as waiting, and replies it. Asks
- * 5, 6, 13, 14; a desk that collects between any two of its retires never gets
- * 14. Writes what the desk owes, its count of waiting and the first unused place
- * of its list. */
+/* Appends the owed session to the desk's list as waiting; the answer has that
+ * session. Asks 5, 6, 13, 14; a desk that collects between any two of its
+ * retires never gets 14. Writes what the desk owes, its count of waiting and the
+ * first unused place of its list. */
 uint32_t board_retire(uint16_t desk, uint8_t *table, size_t bytes);
 
-/* Reads the next two screens of the hall, or the last one alone, for the desk's
- * list. Replies the session of a retirement that is handed back, or 0 if there
- * is none yet (see "When a session may be closed" above). Asks 5, 6. Writes the
- * desk's number of screens read, counts, marks and list. */
+/* Reads the next two screens of the hall, or the last one alone, to find out
+ * which retired sessions of the desk's list are still shown; then hands back at
+ * most one retirement. The answer has its session, or 0 if none is ready (see
+ * "When a session may be closed" above). Asks 5, 6. Writes the desk's number of
+ * screens read, counts, marks and list. */
 uint32_t board_collect(uint16_t desk, uint8_t *table, size_t bytes);
 
 #ifdef __cplusplus

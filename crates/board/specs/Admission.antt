@@ -1,4 +1,4 @@
--- What every step asks first: is the table sound, is the desk one of the hall; and where the desk's things stand.
+-- What every step asks first: is the table sound, is the desk 1 to P; and the location of the desk's words in the table.
 use Prim.Native.Nat.{ℕ, _+_, _-_, _*_}
 use mathlib.Core.Bool.{_&&_, cond, true}
 use mathlib.Core.List.{List}
@@ -18,7 +18,7 @@ use Rattle.board.specs.declared.Admission.the-variants.{At, NoDesk, Unso
 abbrev pub numbersIn : List ℕ → Hall
 numbersIn t = let H = hallIn t in record { desks = H .desks; screens = H .screens; positions = H .positions; all = allScreens H }
 
--- "it is long enough, P, c and L are in range": the hall that the header names, or none
+-- "it is long enough, P, c and L are in range": the hall in the header, or `Broken`.
 unfoldable pub headerOf : List ℕ → Header
 headerOf t = cond (inLimits hallLimits (hallIn t) && leb (need (hallIn t)) (length t)) (Of (numbersIn t)) Broken
 
@@ -30,12 +30,12 @@ locationOf t desk =
 unfoldable pub admissionOf : List ℕ → ℕ → Admission
 admissionOf t desk = cond (sound hallLimits t) (cond (inRange desk (hallIn t .desks)) (At (locationOf t desk)) NoDesk) Unsound
 
--- both questions are answered yes, and the desk's things stand there
+-- Both questions are answered yes, and this is the desk's location.
 pub record Admits (t : List ℕ) (desk : ℕ) (location : Location) : Type 0 where
   pub yes-sound : sound hallLimits t ≡ true
   pub yes-desk : inRange desk (hallIn t .desks) ≡ true
   pub is : location ≡ locationOf t desk
 
--- the word of desk d's screen i, in a hall of L positions and c screens per desk
+-- The offset of the word of desk d's screen i, in a hall of L positions and c screens per desk.
 abbrev pub screenFor : ℕ → ℕ → ℕ → ℕ → ℕ
 screenFor L c d i = headerWords + L + ((d - 1) * c + (i - 1))

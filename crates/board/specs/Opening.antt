@@ -1,4 +1,4 @@
--- What the opening answers, by the words that the table has: what stands in them is not asked.
+-- The answer of an opening depends only on the number of words of the table, not on their content.
 use Prim.Native.Nat.{ℕ}
 use mathlib.Core.List.{List}
 use mathlib.Core.Path.{_≡_}

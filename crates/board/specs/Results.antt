@@ -1,4 +1,4 @@
--- What a call on a table sent as bytes did, against the rules on its words.
+-- A call on a table sent as bytes, compared with the rules on its words.
 use Prim.Native.Nat.{ℕ, _*_}
 use mathlib.Core.List.{List}
 use mathlib.Core.Path.{_≡_}
@@ -10,12 +10,12 @@ use Rattle.rules.specs.Table.{openTable, stepTable}
 use Rattle.reply.specs.Answer.{tableResult}
 use Rattle.reply.specs.declared.Reply.{Reply}
 
--- the reply and the words that it left are a result of the rules, and an odd last byte stayed
+-- The reply and the words after the call are this result of the rules, and an odd last byte is unchanged.
 pub record Matches (result : Result (List ℕ)) (before : List ℕ) (r : Reply) (after : List ℕ) : Type 0 where
   pub words : tableResult r (wordsOfBytes after) ≡ result
   pub last : drop (2 * length (wordsOfBytes before)) after ≡ drop (2 * length (wordsOfBytes before)) before
 
--- a step, and an opening
+-- A step did what the rules do, and so did an opening.
 abbrev pub Stepped : Call → List ℕ → Reply → List ℕ → Type 0
 Stepped call before = Matches (stepTable hallLimits (wordsOfBytes before) call) before
 

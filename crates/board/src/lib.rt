@@ -84,7 +84,7 @@ fn in_limits(desks: u16, screens: u16, positions: u16) -> bool
     in_range(positions, Board::MAX_POSITIONS)
 }
 
-// Where the record of desk d stands, with d counted from 0, in a hall of l positions and s screens.
+// The offset of the record of desk d, with d counted from 0, in a hall of l positions and s screens.
 // Precondition: the numbers are within the limits. The end of the last record is the start of one after it, so d may be P.
 fn record_start(l: usize, s: usize, d: usize) -> usize
     requires { ⌜ (l ≤ maxPositions) × (s ≤ maxAllScreens) × (d ≤ maxDesks) ⌝ }
@@ -93,7 +93,7 @@ fn record_start(l: usize, s: usize, d: usize) -> usize
     HEADER + l + s + d * record_words(s)
 }
 
-// Where screen i of desk d stands, both counted from 1, in a hall of l positions and c screens per desk.
+// The offset of screen i of desk d, both counted from 1, in a hall of l positions and c screens per desk.
 // Precondition: the hall has that screen.
 fn screen_at(l: usize, c: usize, d: u16, i: u16) -> usize
     requires { ⌜ (1 ≤ d) × (1 ≤ i) × (screenFor l c d i ≤ maxWords) ⌝ }
@@ -102,7 +102,8 @@ fn screen_at(l: usize, c: usize, d: u16, i: u16) -> usize
     HEADER + l + ((d as usize - 1) * c + (i as usize - 1))
 }
 
-// Whether the record of each desk is sound, in a table that is long enough.
+// Whether the record of each desk is sound.
+// Precondition: the numbers are within the limits, and the table is long enough.
 fn sound_records(t: &[u8], p: usize, l: usize, s: usize) -> bool
     requires { ⌜ (p ≤ maxDesks) × (l ≤ maxPositions) × (s ≤ maxAllScreens) × (2 * startFor l s p ≤ length (now t)) ⌝ }
     ensures { λ r. ⌜ r ≡ every (recordSound s) (chunks p (widthFor s) (dropWords (headerWords + l + s) (wordsOfBytes (now (t .entry))))) ⌝ }
@@ -171,7 +172,7 @@ struct Location {
     pub end: usize,
 }
 
-// What the first questions of a step answer: one of their refusals, or the location of the desk.
+// The result of the first questions of a step: one of their refusals, or the location of the desk.
 enum Admission {
     Unsound,
     NoDesk,
@@ -239,7 +240,7 @@ pub fn open(t: &mut [u8], desks: u16, screens: u16, positions: u16) -> Reply
     Reply::Accepted(0)
 }
 
-// Take, of an admitted desk.
+// Take, of an admitted desk. Precondition, here and for the other steps: the table is sound, it has the desk, and this is its location.
 fn take_at(t: &mut [u8], desk: u16, location: Location, screen: u16, position: u16) -> Reply
     requires { ⌜ Admits (wordsOfBytes (now t)) desk location ⌝ }
     ensures { λ r. ⌜ Stepped (desk sends Take screen position) (now (t .entry)) r (now (t .exit)) ⌝ }
@@ -341,7 +342,7 @@ fn swap_at(t: &mut [u8], desk: u16, location: Location, position: u16, session: 
     Reply::Accepted(old)
 }
 
-// Swap: the position holds the new session or 0; the reply is the old one, and the desk owes it.
+// Swap: the position holds the new session or 0; the reply is the old one, and the desk owes it if it is not 0.
 pub fn swap(t: &mut [u8], desk: u16, position: u16, session: u16) -> Reply
     ensures { λ r. ⌜ Stepped (desk sends Swap position session) (now (t .entry)) r (now (t .exit)) ⌝ }
 {

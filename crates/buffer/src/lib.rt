@@ -1,4 +1,4 @@
-// Bytes put into a buffer that the caller lends: all that the writers share.
+// Puts bytes into a buffer that the caller lends: what all writers share.
 ghost use mathlib.Core.List.{[], _∷_};
 ghost use mathlib.Core.Path.{_≡_};
 ghost use Prim.Native.Nat.{_+_};
@@ -18,8 +18,8 @@ pub fn fits(length: usize, at: usize, count: usize) -> bool
     true
 }
 
-// One byte at an offset; the answer is the offset after it.
-// It requires room for the byte: its callers have asked for it.
+// Puts one byte at an offset; the result is the offset after it.
+// Precondition: the buffer has room for the byte.
 pub fn put_byte(out: &mut [u8], at: usize, byte: u8) -> usize
     requires { ⌜ Fits (now out) at (byte ∷ []) ⌝ }
     ensures { λ r. ⌜ Put (now (out .entry)) (now (out .exit)) at (byte ∷ []) r ⌝ }

@@ -1,5 +1,5 @@
-// The sheet program: reads a day sheet from standard input and prints its lines. Where it cannot read or write, it says why on
-// standard error. After a read that failed it prints no lines.
+// The sheet program: reads a day sheet from standard input and prints its lines. If it cannot read or write, it says why on
+// standard error. After a failed read it prints no lines.
 use input::Input;
 use input::read_to_end;
 use libc::STDERR_FILENO;
@@ -7,7 +7,7 @@ use libc::STDIN_FILENO;
 use libc::STDOUT_FILENO;
 use printing::print;
 
-// One byte more than a sheet may have: a sheet that fills them is too long.
+// One byte more than a sheet may have: a sheet of so many bytes is too long.
 const BYTES: usize = 65537;
 
 // Says on standard error why the last write to standard output failed.
@@ -22,7 +22,7 @@ fn asks_for_help(arguments: usize) -> bool {
     arguments == 2 && check::same(&argument[..n], b"--help")
 }
 
-// Prints the help, and answers whether the output took it.
+// Prints the help, and returns whether it could be written.
 fn print_help() -> bool {
     io::write_all(STDOUT_FILENO, b"usage: day_sheet < SHEET\n\n")
         && io::write_all(

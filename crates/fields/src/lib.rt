@@ -15,7 +15,7 @@ pub const POSITION: usize = 2;
 pub const SESSION: usize = 3;
 
 // Whether a field follows a code.
-// It requires one of the five codes: its callers have asked 17 before.
+// Precondition: the code is one of the five (the callers have asked question 17), and the field is one of the four.
 pub fn follows(code: u16, field: usize) -> bool
     requires { ⌜ (1 ≤ code) × (code ≤ 5) × (field < 4) ⌝ }
     ensures { λ r. ⌜ r ≡ followsCode code field ⌝ }

@@ -11,7 +11,7 @@ ghost use Rattle.rules.specs.Hall.{hallLimits, hallOf};
 ghost use Rattle.rules.specs.Steps.{Collect, Drop, Retire, Swap, Take, _sends_};
 ghost use Rattle.host.specs.Results.{bytesResult};
 
-// The opening of a hall of so many desks, screens per desk and positions: its header and zeros up to its need are written.
+// The opening of a hall: its three numbers and zeros up to its need are written.
 #[no_mangle]
 pub extern "C" fn board_open(desks: u16, screens: u16, positions: u16, table: &mut [u8]) -> u32
     ensures { λ r. ⌜ bytesResult r (now (table .exit)) ≡ openBytes hallLimits (hallOf desks screens positions) (now (table .entry)) ⌝ }
@@ -35,7 +35,7 @@ pub extern "C" fn board_drop(desk: u16, screen: u16, table: &mut [u8]) -> u32
     answer(drop(table, desk, screen))
 }
 
-// Swap: the position holds the session, or nothing, and the desk owes the one that stood there.
+// Swap: the position holds the session, or nothing for 0, and the desk owes the one that it held before, if any.
 #[no_mangle]
 pub extern "C" fn board_swap(desk: u16, position: u16, session: u16, table: &mut [u8]) -> u32
     ensures { λ r. ⌜ bytesResult r (now (table .exit)) ≡ stepBytes hallLimits (now (table .entry)) (desk sends Swap position session) ⌝ }
@@ -51,7 +51,7 @@ pub extern "C" fn board_retire(desk: u16, table: &mut [u8]) -> u32
     answer(retire(table, desk))
 }
 
-// Collect: two screens are read, and a session may be handed back.
+// Collect: at most two screens are read, and at most one session is handed back.
 #[no_mangle]
 pub extern "C" fn board_collect(desk: u16, table: &mut [u8]) -> u32
     ensures { λ r. ⌜ bytesResult r (now (table .exit)) ≡ stepBytes hallLimits (now (table .entry)) (desk sends Collect) ⌝ }

@@ -1,13 +1,13 @@
-// Reads a file descriptor to its end, and tells a read that failed from the end.
+// Reads a file descriptor to its end, and distinguishes a failed read from the end.
 ghost use Rattle.input.specs.Input.{ReadInto};
 
-// How many bytes were read to the start of the buffer; or a read failed, and `os::errno` has the reason.
+// How many bytes were read into the buffer, from its start; or a read failed, and `os::errno` has the reason.
 pub enum Input {
     Bytes(usize),
     Failed,
 }
 
-// Reads until the input ends, the buffer is full, or a read fails. A read that a signal interrupts has failed.
+// Reads until the input ends, the buffer is full, or a read fails. A read that is interrupted by a signal counts as failed.
 pub fn read_to_end(fd: i32, buffer: &mut [u8]) -> Input
     ensures { λ r. ⌜ ReadInto r (now (buffer .exit)) ⌝ }
 {

@@ -4,10 +4,10 @@ ghost use Rattle.sheet_rules.specs.Lines.{decimal, endLine, line};
 ghost use Rattle.sheet_rules.specs.Tally.{tallyOf};
 ghost use Rattle.buffer.specs.Put.{Fits, Put};
 
-// Each function puts bytes at an offset of the buffer that its caller lends, and answers the offset after them.
-// Each requires that there is room for exactly those bytes.
+// Each function puts bytes at an offset of the buffer that its caller lends; the result is the offset after them.
+// Precondition of each: the buffer has room for exactly those bytes.
 
-// The decimal digits of a number: those of its tenth, and then the last.
+// The decimal digits of a number: those of a tenth of it, and then the last one.
 fn put_digits(out: &mut [u8], at: usize, value: u64) -> usize
     requires { ⌜ Fits (now out) at (decimal value) ⌝ }
     ensures { λ r. ⌜ Put (now (out .entry)) (now (out .exit)) at (decimal value) r ⌝ }
@@ -29,7 +29,7 @@ fn put_number(out: &mut [u8], at: usize, value: u64, after: u8) -> usize
 }
 
 // The line of a record: record number, step code, reply number, session.
-// It requires that the line fits: the caller shows it, and keeps room for the longest line.
+// Precondition: the line fits (the caller keeps room for the longest line).
 pub fn put_line(
     out: &mut [u8],
     at: usize,
@@ -48,7 +48,7 @@ pub fn put_line(
 }
 
 // The last line: `end`, steps accepted, steps refused by the board, sessions handed back.
-// It requires that the line fits: the caller shows it, and keeps room for the longest line.
+// Precondition: the line fits (the caller keeps room for the longest line).
 pub fn put_end(out: &mut [u8], at: usize, accepted: u64, refused: u64, handed_back: u64) -> usize
     requires { ⌜ Fits (now out) at (endLine (tallyOf accepted refused «handed_back»)) ⌝ }
     ensures { λ r. ⌜ Put (now (out .entry)) (now (out .exit)) at (endLine (tallyOf accepted refused «handed_back»)) r ⌝ }

@@ -1,4 +1,4 @@
--- The contract says something: what is handed over of the empty sheet, to its end and up to its first line, and what is not.
+-- What the contract admits and refuses, for the empty sheet: its whole output, its first line, and other numbers of bytes.
 use Prim.Native.Nat.{ℕ}
 use native.Mathlib.Omega.{arith}
 use mathlib.Core.Path.{_≡_, refl}
@@ -45,7 +45,7 @@ first-of-empty = record {
   finished = λ (complete : false ≡ true). cc;
 }
 
--- No constant answer meets the contract: not 0 bytes, of no sheet, and not 1 byte of the empty sheet.
+-- No constant number of bytes meets the contract: 0 bytes for no sheet, and 1 byte not for the empty sheet.
 pub never-nothing : (sheet : List ℕ) (complete : Bool) → HandedOver sheet complete 0 → ⊥
 never-nothing sheet complete handed = omega (arith, handed .some)
 

@@ -13,8 +13,8 @@ use Rattle.sheet_rules.specs.Edition1.{hallEdition}
 use Rattle.sheet_rules.specs.Lines.{printed}
 use Rattle.sheet_rules.specs.Sheet.{reading}
 
--- A state that the run of a sheet goes through: what remains at it is the output without its first so many bytes, and the table is as
--- the calls before it leave it.
+-- A state in the run of a sheet: the remaining output is the whole output without its first so many bytes, and the table is the one after
+-- the calls before the state.
 pub record Reached (sheet : List ℕ) (bytes : ℕ) (state : State) (table : List ℕ) : Type 0 where
   pub within : bytes ≤ length (printed hallEdition sheet)
   pub output : remainingOutput sheet state table ≡ drop bytes (printed hallEdition sheet)
@@ -22,8 +22,8 @@ pub record Reached (sheet : List ℕ) (bytes : ℕ) (state : State) (table : Lis
   pub run : calls ++ remainingCalls sheet state ≡ callsOf (reading hallEdition sheet)
   pub left : table ≡ end (stepTable hallLimits) (startTable (reading hallEdition sheet)) calls
 
--- So many bytes of a sheet's output were handed over: one or more, and those before such a state, so whole lines. If complete, all of them
--- (`Whole.complete-output`). Which bytes a call of the system wrote, no contract can say.
+-- So many bytes of a sheet's output were handed over: at least one, and those before such a state, so whole lines. If complete, all of them
+-- (`Whole.complete-output`). No contract can say which bytes a system call wrote.
 pub record HandedOver (sheet : List ℕ) (complete : Bool) (bytes : ℕ) : Type 0 where
   pub some : 1 ≤ bytes
   pub state : State

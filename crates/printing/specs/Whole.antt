@@ -1,4 +1,4 @@
--- The theorem about a sheet that was printed to its end.
+-- The theorems about a sheet that was printed completely.
 use Prim.Native.Nat.{ℕ}
 use mathlib.Core.Path.{_≡_, refl}
 use mathlib.Core.Bool.{true}
@@ -11,7 +11,7 @@ use Rattle.printing.specs.Output.{HandedOver}
 use Rattle.printing.specs.laws.Output.{finished-bytes, finished-table}
 
 module _ (sheet : List ℕ) (bytes : ℕ) (handed : HandedOver sheet true bytes) where
-  -- All bytes that the rules print of the sheet were handed over,
+  -- All bytes that the rules print for the sheet were handed over,
   pub complete-output : bytes ≡ length (printed hallEdition sheet)
   complete-output = finished-bytes (handed .reached) (handed .finished refl)
 

@@ -1,17 +1,17 @@
-// Prints the lines of a sheet to standard output: all that the programs share.
+// Prints the lines of a sheet to standard output, for `day_sheet` and `sheet_cases`.
 use board::Board;
 use libc::STDOUT_FILENO;
 use sheet::fill;
 use sheet::start;
 ghost use Rattle.printing.specs.Output.{HandedOver};
 
-// What printing a sheet came to: how many bytes were handed to the output, and whether it took them all to the last line.
+// The result of printing a sheet: how many bytes were handed to the output, and whether all lines up to the last were written.
 pub struct Printed {
     pub complete: bool,
     pub bytes: usize,
 }
 
-// Runs a sheet and prints its lines, a batch at a time. It stops at a batch that the output does not take.
+// Runs a sheet and prints its lines, a batch at a time. It stops at the first batch that cannot be written.
 pub fn print(sheet: &[u8]) -> Printed
     ensures { λ r. ⌜ HandedOver (now (sheet .entry)) (r .complete) (r .bytes) ⌝ }
 {

@@ -1,4 +1,4 @@
--- For each answer of the readers, what the rules' readers say: document 01's number, the value and the next offset.
+-- For each result of the readers, the result of the rules' readers: the value and the next offset, or document 01's number.
 use Prim.Native.Nat.{ℕ}
 use Rattle.rules.specs.Hall.{Hall, hallOf}
 use Rattle.rules.specs.Numbers.{Parsed, decodeNumber, parsed, refusal}
@@ -23,12 +23,12 @@ abbrev pub numberOf : Fault → ℕ
 numberOf Ends = 15
 numberOf TooLarge = 16
 
--- a number that is refused shows no code by itself
+-- The refusal of a number has code 0; the reader of a record puts the record's code there.
 abbrev pub numberResult : Number → Parsed ℕ
 numberResult (Value value next) = parsed value next
 numberResult (Refused fault first) = refusal 0 (numberOf fault) first
 
--- the rules' format for a reader's: it reads numbers as the rules do
+-- The rules' format for a reader's format: numbers are read by `decodeNumber`.
 abbrev pub formatOf : ReaderFormat → Format
 formatOf format = record { readNumber = decodeNumber; maxSession = format .«max_session» }
 

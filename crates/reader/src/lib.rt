@@ -37,7 +37,7 @@ pub enum Number {
 // The largest number of a sheet.
 const MAX_NUMBER: u16 = 65535;
 
-// A number that has ended, if it is at most the limit.
+// A number whose last byte was read: refused if it is over the limit.
 fn within_limit(value: u32, at: usize, next: usize, limit: u16) -> Number
     ensures { λ r. ⌜ numberResult r ≡ withinLimit limit at value next ⌝ }
 {
@@ -47,14 +47,14 @@ fn within_limit(value: u32, at: usize, next: usize, limit: u16) -> Number
     Number::Value(value as u16, next)
 }
 
-// A byte, as a number to compute with.
+// A byte as a 32-bit number.
 fn wide(byte: u8) -> u32
     ensures { λ r. ⌜ r ≡ byte ⌝ }
 {
     byte as u32
 }
 
-// The number at an offset: groups of seven bits, lowest first; the top bit of a byte (128) says another follows.
+// Reads the number at an offset: groups of seven bits, lowest first; the top bit of a byte (128) says that another follows.
 pub fn read_number(sheet: &[u8], at: usize, limit: u16) -> Number
     ensures { λ r. ⌜ numberResult r ≡ decodeNumber limit (now (sheet .entry)) at ⌝ }
 {
@@ -87,8 +87,8 @@ pub fn read_number(sheet: &[u8], at: usize, limit: u16) -> Number
     Number::Refused(Fault::TooLarge, at)
 }
 
-// A field that follows its code is read; one that does not is 0 and takes no byte.
-// It requires one of the five codes, as `follows` does.
+// Reads a field that follows the code; one that does not is 0 and has no byte.
+// Precondition: the code is one of the five, as for `follows`.
 fn read_field(sheet: &[u8], at: usize, code: u16, field: usize, limit: u16) -> Number
     requires { ⌜ (1 ≤ code) × (code ≤ 5) × (field < 4) ⌝ }
     ensures { λ r. ⌜ numberResult r ≡ decodeField decodeNumber (followsCode code field) limit (now (sheet .entry)) at ⌝ }
@@ -99,7 +99,7 @@ fn read_field(sheet: &[u8], at: usize, code: u16, field: usize, limit: u16) -> N
     Number::Value(0, at)
 }
 
-// A record of a sheet: a field that does not follow its code is 0.
+// A record of a sheet. A field that does not follow the code is 0.
 pub struct Record {
     pub code: u16,
     pub desk: u16,
@@ -108,14 +108,14 @@ pub struct Record {
     pub session: u16,
 }
 
-// What readers of one edition may differ in.
+// What may differ between readers of one edition.
 pub struct Format {
     // The largest session.
     pub max_session: u16,
 }
 
 impl Format {
-    // The hall's.
+    // The hall's format.
     pub const HALL: Format = Format {
         max_session: MAX_NUMBER,
     };
@@ -130,14 +130,14 @@ pub enum Carried {
 // A record and the offset after it, or what ends the reading.
 pub enum ParsedRecord {
     Whole(Record, usize),
-    // A number is refused: the code that its line shows, 0 where the code itself was not read; why; the offset of its first byte.
+    // A number is refused: the code that its line shows (0 if the code itself was not read), why, and the offset of its first byte.
     Refused(u16, Fault, usize),
-    // 17: there is no such code.
+    // 17: no step has this code.
     NoCode(u16),
 }
 
-// The fields after the desk.
-// It requires one of the five codes, as `follows` does.
+// Reads the fields after the desk.
+// Precondition: the code is one of the five, as for `follows`.
 fn read_rest(sheet: &[u8], at: usize, format: Format, code: u16, desk: u16) -> ParsedRecord
     requires { ⌜ (1 ≤ code) × (code ≤ 5) ⌝ }
     ensures { λ r. ⌜ recordResult r ≡ withCode code (decodeRest (formatOf format) code desk (now (sheet .entry)) at) ⌝ }
@@ -175,8 +175,8 @@ fn read_rest(sheet: &[u8], at: usize, format: Format, code: u16, desk: u16) -> P
     }
 }
 
-// The fields of a record whose code was read.
-// It requires one of the five codes, as `follows` does.
+// Reads the fields of a record whose code was read.
+// Precondition: the code is one of the five, as for `follows`.
 fn read_fields(sheet: &[u8], at: usize, format: Format, code: u16) -> ParsedRecord
     requires { ⌜ (1 ≤ code) × (code ≤ 5) ⌝ }
     ensures { λ r. ⌜ recordResult r ≡ withCode code (decodeFields (formatOf format) code (now (sheet .entry)) at) ⌝ }
@@ -187,7 +187,7 @@ fn read_fields(sheet: &[u8], at: usize, format: Format, code: u16) -> ParsedReco
     }
 }
 
-// The record at an offset, given what the record before left: its code, and then its fields.
+// Reads the record at an offset, given what the record before left: its code, and then its fields.
 pub fn read_record(sheet: &[u8], at: usize, format: Format, carried: Carried) -> ParsedRecord
     ensures { λ r. ⌜ recordResult r ≡ edition1 (formatOf format) .decodeRecord (carriedOf carried) (now (sheet .entry)) at ⌝ }
 {
@@ -218,7 +218,7 @@ pub enum ParsedHeader {
     Refused(Fault, usize),
 }
 
-// The header at an offset.
+// Reads the header at an offset.
 pub fn read_header(sheet: &[u8], at: usize) -> ParsedHeader
     ensures { λ r. ⌜ headerResult r ≡ decodeHeader decodeNumber (now (sheet .entry)) at ⌝ }
 {

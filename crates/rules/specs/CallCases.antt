@@ -19,7 +19,7 @@ use Rattle.rules.specs.laws.history.Checks.{each-below}
 
 -- ---- Demand 1. "an accepted call writes only the words its step names"
 
--- the numbers below n that pass a test, in order
+-- The numbers below n that pass a test, in order.
 abbrev below : ℕ → (ℕ → Bool) → List ℕ
 below zero test = []
 below (suc n) test = below n test ++ cond (test n) (n ∷ []) []
@@ -29,7 +29,7 @@ below (suc n) test = below n test ++ cond (test n) (n ∷ []) []
 abbrev twoByTwo : List ℕ
 twoByTwo = (2 ∷ 2 ∷ 2 ∷ 5 ∷ 0 ∷ 0 ∷ 0 ∷ 0 ∷ 6 ∷ []) ++ (replicate 21 0 ++ ((9 ∷ 0 ∷ 1 ∷ replicate 10 0) ++ (8 ∷ replicate 7 0)))
 
--- the words that a call of desk 2 names
+-- The words that a call of desk 2 names.
 abbrev named : Step → List ℕ
 named step = below 60 (footprint twoByTwo (2 sends step))
 
@@ -43,11 +43,11 @@ words-named = refl
 pub words-named-by-collect : named Collect ≡ below 51 (λ i. ltb 30 i)
 words-named-by-collect = refl
 
--- those of an opening: all up to the need, 20
+-- The words that an opening names: all up to the need, 20.
 pub words-named-by-opening : below 60 (openingFootprint (hallOf 1 1 1)) ≡ below 20 (λ i. true)
 words-named-by-opening = refl
 
--- the bytes of word 2, of five words and an odd byte; the odd byte is of no word
+-- The bytes of word 2, in five words and an odd byte; the odd byte belongs to no word.
 pub bytes-named : (below 20 (onBytesOf (replicate 11 7) (eqb 2)) ≡ 4 ∷ 5 ∷ []) × (below 20 (onBytesOf (replicate 11 7) (eqb 5)) ≡ [])
 bytes-named = (refl, refl)
 
@@ -80,8 +80,8 @@ demand-1-admits = (
     kept (suc zero) free = absurd (true≢false free)
     kept (suc (suc i)) free = refl
 
--- a number that is not the step's; a session beside the number; a word written; accepted, a word written that is not named; a table of
--- another length
+-- It refuses a refusal with a number that is not the step's, with a session, or with a changed word; an accepted call that changed a word
+-- that is not named; and a table of another length.
 pub demand-1-refuses :
     (TakeDemand1 (refuse 11 (4 ∷ 5 ∷ 6 ∷ 7 ∷ [])) → ⊥)
     × (TakeDemand1 (record { answer = record { number = 5; session = 9 }; after = 4 ∷ 5 ∷ 6 ∷ 7 ∷ [] }) → ⊥)
@@ -119,7 +119,7 @@ too-wide = (
   λ calls. omega (arith, calls .1 .0 .0),
 )
 
--- words of 16 bits, and bytes
+-- Words of 16 bits, and bytes.
 pub width-of-words : Words16 (0 ∷ 65535 ∷ []) × (Words16 (0 ∷ 65536 ∷ []) → ⊥) × IsBytes (0 ∷ 255 ∷ []) × (IsBytes (0 ∷ 256 ∷ []) → ⊥)
 width-of-words = (
   each-below 65535 (0 ∷ 65535 ∷ []) refl,
@@ -143,7 +143,7 @@ pub packed-answers :
     × (unpack 393216 ≡ record { number = 6; session = 0 })
 packed-answers = (refl, refl, refl)
 
--- A hall of 1, 1, 1 in 41 bytes: opened, and then with 300 at position 1. The odd last byte stays.
+-- A hall of 1, 1, 1 in 41 bytes: opened, and then with 300 at position 1. The odd last byte is unchanged.
 abbrev oneDesk : ℕ → ℕ → List ℕ
 oneDesk low high = (1 ∷ 0 ∷ 1 ∷ 0 ∷ 1 ∷ 0 ∷ low ∷ high ∷ replicate 32 0) ++ (9 ∷ [])
 
@@ -169,8 +169,8 @@ agrees = record {
   lastByte = refl;
 }
 
--- not with another answer; not with one that 32 bits do not hold; not with other words; not with what are no bytes; not with another odd
--- byte; and not with fewer bytes
+-- It does not agree with another answer, with an answer that does not fit into 32 bits, with other words, with numbers that are no bytes,
+-- with another odd byte, or with fewer bytes.
 pub agrees-refuses :
     (AgreesWith (accept 8 (3 ∷ 0 ∷ 2 ∷ 0 ∷ 4 ∷ 0 ∷ 9 ∷ [])) (accept 7 (3 ∷ 2 ∷ 4 ∷ [])) → ⊥)
     × (AgreesWith (accept 70000 (3 ∷ 0 ∷ 2 ∷ 0 ∷ 4 ∷ 0 ∷ 9 ∷ [])) (accept 70000 (3 ∷ 2 ∷ 4 ∷ [])) → ⊥)
@@ -208,14 +208,14 @@ pub smaller-limits : (answersOf fourDesks ≡ ok 0 ∷ refusedWith 1 ∷ refused
 unfolding openTable stepTable sound recordSound encodeDesk decodeDesk
 smaller-limits = (refl, refl)
 
--- ---- Locality. What a call sees, in a hall of 2 desks with 3 screens each and 4 positions.
+-- ---- Locality. What a call reads, in a hall of 2 desks with 3 screens each and 4 positions.
 abbrev pub deskWith : ℕ → List ℕ → Desk
 deskWith owed waiting = record { owed = owed; scanned = 0; ready = []; tested = []; waiting = waiting }
 
 abbrev wideState : State
 wideState = record { held = 7 ∷ 8 ∷ 9 ∷ 10 ∷ []; shown = 1 ∷ 2 ∷ 3 ∷ 4 ∷ 5 ∷ 6 ∷ []; desks = deskWith 5 [] ∷ deskWith 6 (9 ∷ []) ∷ [] }
 
--- a desk, a screen and a position that the hall has, and those on either side that it has not
+-- A desk, a screen and a position that the hall has, and the nearest numbers that it does not have.
 pub seen-parts :
     (map (λ (d : ℕ). deskAt wide wideState d .owed) (0 ∷ 1 ∷ 2 ∷ 3 ∷ []) ≡ 0 ∷ 5 ∷ 6 ∷ 0 ∷ [])
     × (map (screenAt wide wideState 2) (0 ∷ 1 ∷ 2 ∷ 3 ∷ 4 ∷ []) ≡ 0 ∷ 4 ∷ 5 ∷ 6 ∷ 0 ∷ [])
@@ -223,18 +223,19 @@ pub seen-parts :
     × (map (positionAt wide wideState) (0 ∷ 1 ∷ 4 ∷ 5 ∷ []) ≡ 0 ∷ 7 ∷ 10 ∷ 0 ∷ [])
 seen-parts = (refl, refl, refl, refl)
 
--- the five steps, each with numbers of its own
+-- The five steps, each with different numbers.
 abbrev steps : List Step
 steps = Take 3 1 ∷ Drop 1 ∷ Swap 3 9 ∷ Retire ∷ Collect ∷ []
 
--- what each step of desk 2 names, and the screens that it reads: a collect, the next two where something is tested
+-- What the screen and the position that each step of desk 2 names hold, and the screens that it reads: only a collect reads any, the next
+-- two where something is tested.
 pub seen-by-steps :
     (map (λ (step : Step). namedWords wide wideState (2 sends step)) steps ≡ (6 ∷ 7 ∷ []) ∷ (4 ∷ []) ∷ (9 ∷ []) ∷ [] ∷ [] ∷ [])
     × (map (λ (step : Step). screensRead wide wideState (2 sends step)) steps ≡ [] ∷ [] ∷ [] ∷ [] ∷ (1 ∷ 2 ∷ []) ∷ [])
     × (screensRead wide wideState (1 sends Collect) ≡ [])
 seen-by-steps = (refl, refl, refl)
 
--- the screens 1 to 3 and the positions 1 to 3 that each step writes
+-- Which of the screens 1 to 3 and of the positions 1 to 3 each step writes.
 abbrev writtenOf : (Step → ℕ → Bool) → List (List ℕ)
 writtenOf writes = map (λ (step : Step). map (λ (n : ℕ). toNat (writes step n)) (1 ∷ 2 ∷ 3 ∷ [])) steps
 
@@ -244,7 +245,7 @@ pub written-by-steps :
 written-by-steps = (refl, refl)
 
 -- In a hall of three desks with one screen each, desk 1 has 5 waiting. These two states differ in everything that a collect of desk 1 does
--- not see: screen 3, position 2 and the other desks.
+-- not read: screen 3, position 2 and the other desks.
 abbrev pub threeDesks : Hall
 threeDesks = hallOf 3 1 2
 
@@ -264,7 +265,7 @@ busy-formed = record { positions = refl; screens = refl; desks = refl }
 pub not-formed : (Formed (hallOf 3 1 1) quiet → ⊥) × (Formed (hallOf 3 2 2) quiet → ⊥) × (Formed (hallOf 1 3 2) quiet → ⊥)
 not-formed = (λ formed. omega (arith, formed .positions), λ formed. omega (arith, formed .screens), λ formed. omega (arith, formed .desks))
 
--- The collect, and a take of position 1, find the same in both.
+-- What the collect reads, and what a take of position 1 reads, is the same in both.
 pub same-view : SameView threeDesks quiet busy (1 sends Collect) × SameView threeDesks quiet busy (1 sends Take 1 1)
 same-view = (record { desk = refl; named = refl; read = refl }, record { desk = refl; named = refl; read = refl })
 
@@ -287,7 +288,7 @@ other-view = (
   λ view. omega (arith, ap (λ (words : List ℕ). getD words 1 0) (view .read)),
 )
 
--- A take does not do alike where the answers differ, or its desk afterwards, or its screen.
+-- A take does not do the same if the answers differ, or its desk's record afterwards, or its screen.
 abbrev DropsAlike : Result State → Result State → Type 0
 DropsAlike = StepsAlike threeDesks (2 sends Drop 1)
 

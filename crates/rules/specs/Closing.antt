@@ -1,4 +1,4 @@
--- When a session may be closed: the closing rule, on the words of a table. Statements only.
+-- When a session may be closed: the closing rule, on the words of a table. There is no proof here.
 -- Document 00: "A video session must never be closed under an operator who is steering by it".
 use Prim.Native.Nat.{ℕ, zero, suc, _≤_, _<_}
 use mathlib.Core.Path.{_≡_}
@@ -11,7 +11,7 @@ use Rattle.rules.specs.Lists.{occurrences}
 use Rattle.rules.specs.Steps.{Collect, Drop, Event, Retire, Step, Swap, Take}
 use Rattle.rules.specs.Table.{owedOffset, positionWord, recordOf, screenWord}
 
--- Session s is unreferenced: it stands at no position, no desk owes it, and it is on no desk's list.
+-- Session s is unreferenced: it is at no position, no desk owes it, and it is on no desk's list.
 pub record Unreferenced (hall : Hall) (table : List ℕ) (s : ℕ) : Type 0 where
   pub positions : (p : ℕ) → 1 ≤ p → p ≤ hall .positions → getD table (positionWord p) 0 ≡ s → ⊥
   pub owed : (d : ℕ) → 1 ≤ d → d ≤ hall .desks → getD (recordOf hall table d) owedOffset 0 ≡ s → ⊥
@@ -21,18 +21,18 @@ pub record Unreferenced (hall : Hall) (table : List ℕ) (s : ℕ) : Type 0 wher
 abbrev pub ShownNowhere : Hall → List ℕ → ℕ → Type 0
 ShownNowhere hall table s = (d c : ℕ) → 1 ≤ d → d ≤ hall .desks → 1 ≤ c → c ≤ hall .screens → getD table (screenWord hall d c) 0 ≡ s → ⊥
 
--- Session s stands nowhere in the table.
+-- Session s is nowhere in the table: unreferenced and on no screen.
 pub record StandsNowhere (hall : Hall) (table : List ℕ) (s : ℕ) : Type 0 where
   pub unreferenced : Unreferenced hall table s
   pub unshown : ShownNowhere hall table s
 
--- ---- Both rules speak of a history and of the words of the table after its first i calls, as demands 2 and 3 do.
+-- ---- The two rules are about a history and about the words of the table after its first i calls, as demands 2 and 3 are.
 
--- The closing rule: an unreferenced session is shown nowhere, so it may be closed.
+-- The closing rule: an unreferenced session is on no screen, so it may be closed.
 abbrev pub ClosingRule : Hall → (ℕ → List ℕ) → Type 0
 ClosingRule hall tables = (i s : ℕ) → (s ≡ 0 → ⊥) → Unreferenced hall (tables i) s → ShownNowhere hall (tables i) s
 
--- The session that a step with this reply number put at a position: of an accepted swap the new one, otherwise none.
+-- The session that a step with this reply number put at a position: the new one for an accepted swap, otherwise none.
 abbrev pub stepPuts : Step → ℕ → ℕ
 stepPuts (Take c p) number = 0
 stepPuts (Drop c) number = 0
@@ -41,7 +41,7 @@ stepPuts (Swap p session) (suc n) = 0
 stepPuts Retire number = 0
 stepPuts Collect number = 0
 
--- The one that the call at an index of a history put; past the end none.
+-- The session that the call at an index of a history put; past the end none.
 abbrev pub putAt : List Event → ℕ → ℕ
 putAt [] index = 0
 putAt (event ∷ history) zero = stepPuts (event .call .step) (event .answer .number)
@@ -51,8 +51,9 @@ putAt (event ∷ history) (suc index) = putAt history index
 abbrev pub PutFresh : Hall → List Event → (ℕ → List ℕ) → ℕ → ℕ → Type 0
 PutFresh hall history tables s h = (i : ℕ) → i < h → putAt history i ≡ s → Unreferenced hall (tables i) s
 
--- A hand-back alone does not mean that the session may be closed: it may have been put at two positions (Examples has such a
--- history). Where it was never put while it was still referenced, it stands nowhere once it is handed back: it may be closed at once.
+-- A hand-back alone does not mean that the session may be closed: it may have been put at two positions (`handed-back-while-shown` in
+-- HistoryCases). If it was never put while it was still referenced, it is nowhere in the table once it is handed back: it may be closed
+-- at once.
 abbrev pub HandBackCloses : Hall → List Event → (ℕ → List ℕ) → Type 0
 HandBackCloses hall history tables =
     (h d s : ℕ) → effectAt history h ≡ handsBack s by d → PutFresh hall history tables s h → StandsNowhere hall (tables (suc h)) s

@@ -1,6 +1,6 @@
 -- What the statements about histories admit and what they refuse, by computation: for each field of each statement a history that
 -- this field alone refuses. No theorem is used here; Examples applies the theorems to some of these histories.
--- A history is a board's (`historyOf`), or is written down with its answers, right or wrong.
+-- A history is computed by the rules (`historyOf`), or is written down with its answers, right or wrong.
 use Prim.Native.Nat.{ℕ, zero, suc, _+_, _≤_, _<_}
 use native.Mathlib.Omega.{arith}
 use native.Mathlib.Decide.{decLe}
@@ -26,18 +26,18 @@ use Rattle.rules.specs.laws.history.Checks.{one-of-two, only-at, part, p
 use Rattle.rules.specs.laws.history.Spacing.{collects-between-retires}
 use Rattle.rules.specs.laws.lists.Bools.{and-true}
 
--- a history of a hall that is opened in a table of 9s
+-- The history of calls to a hall that is opened in a table of 9s.
 abbrev pub historyOf : Hall → ℕ → List Call → List Event
 historyOf hall words calls = run (stepTable hallLimits) (openTable hallLimits hall (replicate words 9) .after) calls
 
--- and its tables: the words after the first i calls
+-- Its tables: the words after the first i calls.
 abbrev pub tablesOf : Hall → ℕ → List Call → ℕ → List ℕ
 tablesOf hall words calls i = end (stepTable hallLimits) (openTable hallLimits hall (replicate words 9) .after) (take i calls)
 
 abbrev pub answers : List Event → List Answer
 answers history = map (λ (event : Event). event .answer) history
 
--- desk 1 puts a session at position 1, takes it off again and retires it
+-- Desk 1 puts a session at position 1, replaces it by 0 and retires it.
 abbrev pub retiring : ℕ → List Call
 retiring session = 1 sends Swap 1 session ∷ 1 sends Swap 1 0 ∷ 1 sends Retire ∷ []
 
@@ -90,7 +90,7 @@ pub counts-by-desk : (countsOf 1 ≡ 3 ∷ 2 ∷ 3 ∷ 2 ∷ 1 ∷ []) × (count
 counts-by-desk = (refl, refl)
 
 -- ---- Links. Desk 2 takes 5 at position 2 onto its screen 2. Desk 1 swaps it off at index 5 and retires it at index 9; desk 2 drops it at
--- index 12. Beside each of these stand others that are not the next: at another position, of another screen or desk, refused, or later.
+-- index 12. The history also has others of each that are not the next: at another position, of another screen or desk, refused, or later.
 abbrev linkedHistory : List Event
 linkedHistory =
     (2 sends Take 2 2 ⇒ ok 5) ∷ (1 sends Swap 1 6 ⇒ ok 0) ∷ (2 sends Drop 1 ⇒ ok 7) ∷ (1 sends Drop 2 ⇒ ok 7) ∷ (1 sends Swap 2 6 ⇒ refusedWith 12) ∷ (1 sends Swap 2 6 ⇒ ok 5)
@@ -213,7 +213,7 @@ linked-to-no-other r link = link-is-unique linkedEffects 0 r 9 link linked-take
 pub no-take-no-link : Linked linkedEffects 1 9 → ⊥
 no-take-no-link link = omega (arith, ap (part 0) (link .take))
 
--- A take is not dropped before an index where no drop of its screen stands between.
+-- A take is not dropped before an index if there is no drop of its screen between them.
 not-dropped : (f : ℕ → Effect) (i h d c p s : ℕ) → f i ≡ takes c p s by d → noneBetween (λ m. isDropOf d c (f m)) i h ≡ true → DroppedBefore f i h → ⊥
 not-dropped f i h d c p s take none dropped =
     let desk : dropped .desk ≡ d = sym (ap (part 1) (dropped .take)) ∙ ap (part 1) take in
@@ -265,7 +265,7 @@ pub full-list : retirements 1 (historyOf (hallOf 1 1 1) 20 full) ≡ handBacks 1
 unfolding openTable stepTable sound recordSound encodeDesk decodeDesk
 full-list = refl
 
--- A collect before both retires, one behind them, another desk's and a refused one do not stand between them.
+-- A collect before both retires, one after both, another desk's and a refused one are not between them.
 not-between : (es : List Event) (d i j : ℕ) → i < j → isRetireAttempt (byDesk d (effectAt es i)) ≡ true → isRetireAttempt (byDesk d (effectAt es j)) ≡ true
     → noneBetween (λ m. isCollect (byDesk d (effectAt es m))) i j ≡ true → CollectsBetweenRetires (effectAt es) d → ⊥
 not-between es d i j order first second none claim =
@@ -289,7 +289,7 @@ no-collect-between = (
 )
 
 -- ---- "A screen shows a session from the accepted take that replied it up to the next accepted drop of that screen."
--- Desk 2's screen 2 shows 5 from its take at index 1 to its drop at index 4; drops of another screen and of another desk stand between.
+-- Desk 2's screen 2 shows 5 from its take at index 1 to its drop at index 4; drops of another screen and of another desk are between.
 abbrev shownHistory : List Event
 shownHistory =
     (1 sends Collect ⇒ ok 0) ∷ (2 sends Take 2 3 ⇒ ok 5) ∷ (2 sends Drop 1 ⇒ ok 5) ∷ (1 sends Drop 2 ⇒ ok 5) ∷ (2 sends Drop 2 ⇒ ok 5) ∷ (1 sends Collect ⇒ ok 0) ∷ []
@@ -352,8 +352,8 @@ shown-inside = (
   λ unshown. unshown 2 2 2 (omega arith) (omega arith) (shows-before 2 (omega arith) (omega arith)),
 )
 
--- ---- Demand 2, the guarantee. Case D on a board: the take at index 1 is linked to the retirement at index 3, and the hand-back at index 6
--- is paired with it.
+-- ---- Demand 2, the guarantee. Case D, computed by the rules: the take at index 1 is linked to the retirement at index 3, and the hand-back
+-- at index 6 is paired with it.
 abbrev pub caseD : List Call
 caseD = 1 sends Swap 1 300 ∷ 1 sends Take 1 1 ∷ 1 sends Swap 1 7 ∷ 1 sends Retire ∷ 1 sends Collect ∷ 1 sends Drop 1 ∷ 1 sends Collect ∷ 1 sends Retire ∷ []
 
@@ -524,7 +524,7 @@ pairs-the-second g =
         never-dropped history 7 1 5 refl refl 1
         (g .dropped 7 1 5 1 refl (subst (Linked (effectAt history) 1) (sym q) first-linked))
 
--- ---- Demand 2, beside the guarantee. A hall of 1, 1, 1 whose table stays as it was opened.
+-- ---- Demand 2, its fields other than the guarantee. A hall of 1, 1, 1 whose table stays as it was opened.
 abbrev emptyTables : ℕ → List ℕ
 emptyTables i = 1 ∷ 1 ∷ 1 ∷ replicate 17 0
 
@@ -537,7 +537,7 @@ refuses-linked-session demand =
     let same : _≡_ {A = ℕ} 5 6 = demand .sessions 0 2 (linked-at-once (effectAt retiresAnother) 0 1 1 1 5 1 6 refl refl refl) in
     omega arith
 
--- A desk's list and the sum of its counts, in the wide hall of Cases: desks 1 and 2, and those on either side that the hall has not.
+-- A desk's list and the sum of its counts, in the wide hall of Cases: desks 1 and 2, and desks 0 and 3, which the hall does not have.
 pub lists-of-desks :
     (map (listOfDesk wide wideWords) (0 ∷ 1 ∷ 2 ∷ 3 ∷ []) ≡ [] ∷ (20 ∷ []) ∷ (17 ∷ 11 ∷ 12 ∷ 65535 ∷ 19 ∷ 13 ∷ 18 ∷ []) ∷ [] ∷ [])
     × (map (countsOfDesk wide wideWords) (0 ∷ 1 ∷ 2 ∷ 3 ∷ []) ≡ 0 ∷ 1 ∷ 7 ∷ 0 ∷ [])
@@ -563,7 +563,7 @@ lists-of-two = (refl, refl)
 pub refuses-copies : (Demand2 (hallOf 1 1 1) oneRetired emptyTables → ⊥) × (Demand2 (hallOf 2 1 1) oneRetired (waitingTables 6 5) → ⊥)
 refuses-copies = (λ demand. omega (arith, demand .counts 1 5 1), λ demand. omega (arith, demand .counts 1 5 1))
 
--- ---- Demand 3. A board of S = 1 meets 14, where a desk retires and does not collect between: so "out of room" happens, and the premise of
+-- ---- Demand 3. With S = 1 a desk that retires and does not collect between is answered 14: so "out of room" happens, and the premise of
 -- room is needed.
 abbrev neverCollects : List Call
 neverCollects = retiring 3 ++ (retiring 4 ++ retiring 5)
@@ -620,8 +620,8 @@ refuses-too-few-back = (two, another)
     another : HandedBackWithin 1 anotherBack → ⊥
     another claim = let late : 1 ≤ 0 = claim 1 5 0 3 refl refl (never-shown 5 anotherBack refl 0 3) in omega arith
 
--- ---- The exact bound, 8 collects for S = 3, is reached: all three screens show what is tested, so nothing is ready when 5 is
--- retired in mid-reading, and five sessions stand before it in the next reading. After 7 collects it is not back.
+-- ---- The sharper bound, 8 collects for S = 3, is reached: all three screens show what is tested, so nothing is ready when 5 is
+-- retired in mid-reading, and five sessions are before it in the next reading. After 7 collects it is not back.
 abbrev shown : ℕ → ℕ → List Call
 shown d session = 1 sends Swap 1 session ∷ d sends Take 1 1 ∷ 1 sends Swap 1 0 ∷ 1 sends Retire ∷ []
 
@@ -642,13 +642,14 @@ seven-are-too-few claim =
     let late : 1 ≤ 0 = claim 1 5 21 31 refl refl (never-shown 5 (historyOf (hallOf 3 1 1) 70 slowest) refl 21 31) in
     omega arith
 
--- ---- When a session may be closed, on tables of 2 desks with 2 screens each and 2 positions: what stands at position 2, on desk 2's
--- screen 2, what desk 2 owes, and what it has waiting.
+-- ---- When a session may be closed, on tables of 2 desks with 2 screens each and 2 positions, given the session at position 2, the one on
+-- desk 2's screen 2, the one that desk 2 owes, and the one that waits on its list.
 abbrev standing : ℕ → ℕ → ℕ → ℕ → List ℕ
 standing position screen owed waiting =
     (2 ∷ 2 ∷ 2 ∷ 0 ∷ position ∷ 0 ∷ 0 ∷ 0 ∷ screen ∷ []) ++ (replicate 21 0 ++ ((owed ∷ 0 ∷ 0 ∷ 0 ∷ 1 ∷ replicate 8 0) ++ (waiting ∷ replicate 7 0)))
 
--- 5 is unreferenced: the screen is not asked. Then each of the three refuses it, where it stands there alone.
+-- 5 is unreferenced though a screen shows it: screens are not references. It is not unreferenced if it is only at the position, only
+-- owed, or only on the list.
 pub unreferenced-asks :
     Unreferenced (hallOf 2 2 2) (standing 1 5 1 1) 5
     × (Unreferenced (hallOf 2 2 2) (standing 5 1 1 1) 5 → ⊥) × (Unreferenced (hallOf 2 2 2) (standing 1 1 5 1) 5 → ⊥) × (Unreferenced (hallOf 2 2 2) (standing 1 1 1 5) 5 → ⊥)
@@ -659,11 +660,11 @@ unreferenced-asks = (
   λ none. omega (arith, none .lists 2 (omega arith) (omega arith)),
 )
 
--- "a session that is shown nowhere": desk 2's screen 2 shows 5
+-- 5 is not shown nowhere: desk 2's screen 2 shows it.
 pub shown-somewhere : ShownNowhere (hallOf 2 2 2) (standing 1 5 1 1) 5 → ⊥
 shown-somewhere nowhere = nowhere 2 2 (omega arith) (omega arith) (omega arith) (omega arith) refl
 
--- The closing rule refuses a table in which a session is shown and stands nowhere else.
+-- The closing rule refuses a table in which a session is on a screen and nowhere else.
 pub closing-rule-refuses : ClosingRule (hallOf 2 2 2) (λ i. standing 1 5 1 1) → ⊥
 closing-rule-refuses rule = shown-somewhere (rule 0 5 (λ none. omega arith) (unreferenced-asks .0))
 
@@ -674,7 +675,7 @@ puts = (2 sends Take 3 4 ⇒ ok 5) ∷ (2 sends Swap 4 6 ⇒ ok 5) ∷ (2 sends 
 pub put-by-calls : map (putAt puts) (0 ∷ 1 ∷ 2 ∷ 3 ∷ 4 ∷ 5 ∷ 6 ∷ 7 ∷ []) ≡ 0 ∷ 6 ∷ 0 ∷ 0 ∷ 0 ∷ 0 ∷ 8 ∷ 0 ∷ []
 put-by-calls = refl
 
--- 6 was put at index 1, where it stood at position 2: so it is put while referenced, before index 2 and not before index 1. 7 was never put.
+-- 6 was put at index 1, when it was at position 2: so it was put while referenced, before index 2 and not before index 1. 7 was never put.
 pub put-while-referenced :
     PutFresh (hallOf 2 2 2) puts (λ i. standing 6 1 1 7) 6 1 × (PutFresh (hallOf 2 2 2) puts (λ i. standing 6 1 1 7) 6 2 → ⊥)
     × PutFresh (hallOf 2 2 2) puts (λ i. standing 6 1 1 7) 7 7
@@ -684,7 +685,7 @@ put-while-referenced = (
   put-fresh-by-test (hallOf 2 2 2) puts (λ i. standing 6 1 1 7) 7 7 refl,
 )
 
--- A hand-back of 5 at index 0 that leaves 5 on a list, or on a screen; before the call it stood nowhere.
+-- A hand-back of 5 at index 0 after which 5 is on a list, or on a screen; before the call it was nowhere in the table.
 abbrev handsBackFive : List Event
 handsBackFive = (1 sends Collect ⇒ ok 5) ∷ []
 
@@ -699,8 +700,8 @@ hand-back-refuses = (
   λ closes. shown-somewhere (closes 0 1 5 refl (λ i before put. absurd (omega arith)) .unshown),
 )
 
--- On a board: desk 1 puts 5 at position 1, desk 2 takes it, desk 1 swaps it off and retires it: it is handed back only
--- after the drop, and then stands nowhere. It is put again, taken off again, and handed back again.
+-- Computed by the rules: desk 1 puts 5 at position 1, desk 2 takes it, desk 1 replaces it by 6 and retires it. It is handed back only
+-- after the drop, and is then nowhere in the table. It is put again, replaced again, and handed back again.
 abbrev pub reused : List Call
 reused =
     1 sends Swap 1 5 ∷ 2 sends Take 1 1 ∷ 1 sends Swap 1 6 ∷ 1 sends Retire ∷ 1 sends Collect ∷ 2 sends Drop 1 ∷ 1 sends Collect
@@ -715,19 +716,19 @@ pub reused-put-fresh : PutFresh (hallOf 2 1 1) (historyOf (hallOf 2 1 1) 50 reus
 unfolding openTable stepTable sound recordSound encodeDesk decodeDesk
 reused-put-fresh = put-fresh-by-test (hallOf 2 1 1) (historyOf (hallOf 2 1 1) 50 reused) (tablesOf (hallOf 2 1 1) 50 reused) 5 12 refl
 
--- what stands at position 1, what desk 1 owes, how many sessions are on its list, and what desk 2's screen 1 shows
+-- The session at position 1, what desk 1 owes, how many sessions are on its list, and what desk 2's screen 1 shows.
 abbrev partsOf : Hall → List ℕ → List ℕ
 partsOf hall table =
     getD table (positionWord 1) 0 ∷ getD (recordOf hall table 1) owedOffset 0 ∷ length (listOfDesk hall table 1) ∷ getD table (screenWord hall 2 1) 0 ∷ []
 
--- A session that is shown is not unreferenced: at first it stands at the position, then the desk owes it, then it is on the desk's list.
--- So each of the three is asked.
+-- A session that is shown is not unreferenced: at first it is at the position, then the desk owes it, then it is on the desk's list.
+-- So each of the three is needed in the definition.
 pub each-is-asked : map (λ (i : ℕ). partsOf (hallOf 2 1 1) (tablesOf (hallOf 2 1 1) 50 reused i)) (2 ∷ 3 ∷ 4 ∷ []) ≡ (5 ∷ 0 ∷ 0 ∷ 5 ∷ []) ∷ (6 ∷ 5 ∷ 0 ∷ 5 ∷ []) ∷ (6 ∷ 0 ∷ 1 ∷ 5 ∷ []) ∷ []
 unfolding openTable stepTable sound recordSound encodeDesk decodeDesk
 each-is-asked = refl
 
 -- A hand-back alone does not mean that the session may be closed. Desk 1 puts 5 at two positions, and desk 2 takes it at position 1.
--- Desk 1 swaps off and retires both: two copies of 5 are on its list, and one screen shows 5. So one copy is kept and the last collect
+-- Desk 1 replaces and retires both: two copies of 5 are on its list, and one screen shows 5. So one copy is kept and the last collect
 -- hands back the other, while desk 2 shows 5.
 abbrev pub putTwice : List Call
 putTwice =

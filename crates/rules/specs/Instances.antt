@@ -1,5 +1,5 @@
 -- Each statement at one instance: what it says in a hall of 2, 3, 4 (S = 6), for a desk, a screen, a session and indices that all differ.
--- A variable that stands for another in a statement, a bound off by one or a premise that is lost changes what is said here.
+-- If a statement had one variable in place of another, a bound off by one or a premise less, it would say something else here.
 use Prim.Native.Nat.{ℕ, _+_, _≤_, _<_}
 use native.Mathlib.Omega.{arith}
 use mathlib.Core.Path.{_≡_}
@@ -17,7 +17,7 @@ use Rattle.rules.specs.Locality.{OthersStay, deskAt, positionAt, screenA
 use Rattle.rules.specs.Steps.{Drop, Event, Result, Swap, _sends_}
 use Rattle.rules.specs.Table.{owedOffset, positionWord, recordOf, screenWord}
 
--- ---- Demand 1, of any refusals, footprint and result.
+-- ---- Demand 1, for any refusals, footprint and result.
 module _ (refusals : List ℕ) (mayChange : ℕ → Bool) (before : List ℕ) (result : Result (List ℕ)) (demand : Demand1 refusals mayChange before result) where
   pub says-refused : result .answer .number ≡ 6 → (1 ≤ occurrences 6 refusals) × (result .answer .session ≡ 0) × (result .after ≡ before)
   says-refused = demand .refused 5
@@ -55,7 +55,7 @@ module _ (effects : ℕ → Effect) where
     pub says-dropped : Linked effects 4 (g .pair 5) → DroppedBefore effects 4 5
     says-dropped = g .dropped 5 2 9 4 back
 
--- ---- Demands 2 and 3, and closing, of any history and tables: desk 2, session 9, after 5 calls.
+-- ---- Demands 2 and 3, and closing, for any history and tables: desk 2, session 9, after 5 calls.
 module _ (history : List Event) (tables : ℕ → List ℕ) where
   pub says-linked-session : Demand2 wide history tables → (link : Linked (effectAt history) 4 5) → link .shown ≡ link .session
   says-linked-session demand = demand .sessions 4 5
@@ -108,7 +108,7 @@ module _ (table : List ℕ) where
   pub says-stands-nowhere : StandsNowhere wide table 9 → Unreferenced wide table 9 × ShownNowhere wide table 9
   says-stands-nowhere nowhere = (nowhere .unreferenced, nowhere .unshown)
 
--- ---- Locality: what a drop of desk 2, screen 3, and a swap of desk 2 at position 4 leave alone.
+-- ---- Locality: what a drop of desk 2, screen 3, and a swap of desk 2 at position 4 leave unchanged.
 module _ (before after : State) where
   pub says-desks-stay : OthersStay wide (2 sends Drop 3) before after → deskAt wide after 1 ≡ deskAt wide before 1
   says-desks-stay stay = stay .desks 1 (λ same. omega arith)

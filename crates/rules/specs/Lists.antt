@@ -1,4 +1,4 @@
--- Functions on lists and truth values that the rules use and the kit's library does not have over these numbers.
+-- Functions on lists and truth values that the rules use and that the toolchain's library does not have for these numbers.
 use Prim.Native.Nat.{ℕ, zero, suc, _+_}
 use mathlib.Core.Bool.{Bool, true, false, _&&_}
 use mathlib.Core.List.{List, [], _∷_, _++_}
@@ -29,7 +29,7 @@ abbrev pub chunks : ℕ → ℕ → List ℕ → List (List ℕ)
 chunks zero width xs = []
 chunks (suc n) width xs = take width xs ∷ chunks n width (drop width xs)
 
--- Lists one after another.
+-- The concatenation of a list of lists.
 abbrev pub concat : List (List ℕ) → List ℕ
 concat [] = []
 concat (xs ∷ lists) = xs ++ concat lists

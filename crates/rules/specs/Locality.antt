@@ -1,4 +1,4 @@
--- What a call can see and what it can change, on the states of a hall: locality. Statements only.
+-- Locality: what a call reads and what it may change, on the states of a hall. There is no proof here.
 use Prim.Native.Nat.{ℕ, _-_}
 use mathlib.Core.Path.{_≡_}
 use mathlib.Core.Bool.{Bool, false, cond, _&&_}
@@ -19,7 +19,7 @@ screenAt hall state d c = cond (inRange d (hall .desks) && inRange c (hall .scre
 abbrev pub positionAt : Hall → State → ℕ → ℕ
 positionAt hall state p = cond (inRange p (hall .positions)) (getD (state .held) (p - 1) 0) 0
 
--- ---- What a call sees.
+-- ---- What a call reads.
 
 -- What the screen and the position that a step of desk d names hold.
 abbrev pub stepNamedWords : Hall → State → ℕ → Step → List ℕ
@@ -50,7 +50,7 @@ stepScreensRead hall state d Collect = collectReads (state .shown) (deskAt hall 
 abbrev pub screensRead : Hall → State → Call → List ℕ
 screensRead hall state call = stepScreensRead hall state (call .desk) (call .step)
 
--- A call finds the same in two states: its desk's record, what its step names, and the screens that it reads.
+-- All that a call reads is the same in two states: its desk's record, what its step names, and the screens that a collect reads.
 pub record SameView (hall : Hall) (left right : State) (call : Call) : Type 0 where
   pub desk : deskAt hall left (call .desk) ≡ deskAt hall right (call .desk)
   pub named : namedWords hall left call ≡ namedWords hall right call

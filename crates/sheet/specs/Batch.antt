@@ -1,5 +1,5 @@
--- The program prints a sheet in batches, since its output may be longer than its buffer: what remains to be printed at a state,
--- and what a batch leaves. Document 01, "The day sheet".
+-- The program prints a sheet in batches, because its output may be longer than its buffer: what remains to be printed at a state,
+-- and the result of a batch. Document 01, "The day sheet".
 use Prim.Native.Nat.{ℕ, suc, _+_, _-_, _≤_}
 use mathlib.Core.Path.{_≡_}
 use mathlib.Core.Bool.{true, false, cond}
@@ -37,7 +37,7 @@ remainingOutput sheet state table =
 abbrev pub remainingCalls : List ℕ → State → List Call
 remainingCalls sheet state = cond (state .finished) [] (callsIn (remainingRecords sheet state))
 
--- The most batches that remain: each but the last reads a record or more, and a record takes a byte or more.
+-- A bound on the batches that remain: each but the last reads at least one record, and a record has at least one byte.
 abbrev pub batchesLeft : List ℕ → State → ℕ
 batchesLeft sheet state = cond (state .finished) 0 (suc (length sheet - state .offset))
 

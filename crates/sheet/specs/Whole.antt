@@ -14,18 +14,18 @@ use Rattle.sheet.specs.declared.State.{State}
 
 module _ (sheet out : List ℕ) (first : State) (table outAfter : List ℕ) (put : ℕ) (started : Started sheet out first table outAfter put)
     (batches : List BatchResult) (each : Batches sheet first table batches) where
-  -- Once the state is finished, the batches are exactly what the rules print of the sheet.
+  -- Once the state is finished, the bytes of the batches are exactly what the rules print for the sheet.
   pub whole-sheet : lastState first batches .finished ≡ true → take put outAfter ++ bytesOf batches ≡ printed hallEdition sheet
   whole-sheet finished =
       ap (λ (rest : List ℕ). take put outAfter ++ rest) (emitted-all (batches-emitted sheet first table batches each) finished) ∙ started .output
 
-  -- And the table is as the sheet's calls leave it.
+  -- And the table is the one after all calls of the sheet.
   pub whole-table : lastState first batches .finished ≡ true → lastTable table batches ≡ sheetTable sheet
   whole-table finished =
       sym (final-table-at-end sheet (lastState first batches) (lastTable table batches) finished)
       ∙ final-table-kept (batches-emitted sheet first table batches each)
       ∙ final-table-at-start started
 
-  -- There are at most as many batches as the sheet has bytes, and one.
+  -- After `start` there are at most as many batches as the sheet has bytes, plus one.
   pub batches-end : length batches ≤ suc (length sheet)
   batches-end = omega (arith, batches-bounded sheet first table batches each, batches-left-bounded sheet first)

@@ -36,14 +36,14 @@ ghost use Rattle.sheet.specs.Run.{Ran};
 // The most bytes of a sheet.
 const MAX_BYTES: usize = 65536;
 
-// The reply number of a sheet that is longer.
+// The reply number for a longer sheet.
 const TOO_LONG: u16 = 18;
 
-// The most bytes of a record's line and the last line.
+// The most bytes of a record's line, and of the last line.
 const ROOM: usize = 84 + 67;
 
-// A position in a sheet: the offset and the number of the next record, what the last record left for it, the tally so far, and whether
-// the last line is put.
+// How far the run of a sheet is: the offset and the number of the next record, what the record before left for it, the tally so far, and
+// whether the last line was put.
 pub struct State {
     pub offset: usize,
     pub index: u64,
@@ -52,13 +52,13 @@ pub struct State {
     pub finished: bool,
 }
 
-// A batch: the state after it, and how many bytes of the buffer it is.
+// The result of a batch: the state after it, and the offset after its bytes in the buffer.
 pub struct Filled {
     pub state: State,
     pub put: usize,
 }
 
-// Runs the step that a record asks for. A code outside 1 to 5 is answered 17, and nothing is written.
+// Runs the step that a record requests. A code outside 1 to 5 is answered 17, and nothing is written.
 pub fn run_record(table: &mut [u8], entry: Record) -> Reply
     ensures { λ r. ⌜ Ran (recordOf entry) (now (table .entry)) r (now (table .exit)) ⌝ }
 {
@@ -73,8 +73,8 @@ pub fn run_record(table: &mut [u8], entry: Record) -> Reply
     }
 }
 
-// The last line.
-// It requires room for it: its callers have kept so much.
+// Puts the last line.
+// Precondition: the buffer has room for the longest last line.
 fn finish(out: &mut [u8], at: usize, state: State) -> Filled
     requires { ⌜ at + endRoom ≤ length (now out) ⌝ }
     ensures bytes { λ r. ⌜ Put (now (out .entry)) (now (out .exit)) at (endLine (toTally (state .tally))) (r .put) ⌝ }
@@ -101,8 +101,8 @@ fn finish(out: &mut [u8], at: usize, state: State) -> Filled
     }
 }
 
-// The line of what ends the reading, and the last line.
-// It requires room for both: its callers have kept so much.
+// Puts the line of what ends the reading, and the last line.
+// Precondition: the buffer has room for the longest record's line and the longest last line.
 fn stop(out: &mut [u8], at: usize, state: State, code: u16, reason: u16) -> Filled
     requires { ⌜ at + recordRoom ≤ length (now out) ⌝ }
     ensures bytes { λ r. ⌜ Put (now (out .entry)) (now (out .exit)) at (line (state .index) code reason 0 ++ endLine (toTally (state .tally))) (r .put) ⌝ }
@@ -112,8 +112,9 @@ fn stop(out: &mut [u8], at: usize, state: State, code: u16, reason: u16) -> Fill
     finish(out, next, state)
 }
 
-// The next record: its step and its line, or what ends the reading. After the last record, the last line.
-// It requires room for a line and the last line, and a record number that is at most the offset.
+// Runs the step of the next record and puts its line, or the line of what ends the reading. After the last record it puts the last line.
+// Precondition: the last line was not put, the record number is at most the offset, and the buffer has room for a record's line and the
+// last line.
 fn put_record(sheet: &[u8], state: State, table: &mut [u8], out: &mut [u8], at: usize) -> Filled
     requires { ⌜ (state .finished ≡ false) × (state .index ≤ state .offset) × (at + recordRoom ≤ length (now out)) ⌝ }
     ensures partial { λ r. ⌜ PartialBatch (now (sheet .entry)) state (wordsOfBytes (now (table .entry))) (now (out .entry)) at (r .state) (wordsOfBytes (now (table .exit))) (now (out .exit)) (r .put) ⌝ }
@@ -157,9 +158,9 @@ fn put_record(sheet: &[u8], state: State, table: &mut [u8], out: &mut [u8], at: 
     }
 }
 
-// Fills the buffer with a batch: one record after another while there is room for the lines of one more.
-// It requires room for a record, so that each batch makes progress, and a record number that is at most the offset, as `start` and `fill`
-// leave it, so that it does not overflow.
+// Fills the buffer with a batch: one record after another while there is room for one more line and the last line.
+// Precondition: the buffer has room for a record's line and the last line, so that each batch makes progress; the record number is at most
+// the offset, as in every state that `start` and `fill` return, so that it does not overflow.
 pub fn fill(sheet: &[u8], state: State, table: &mut [u8], out: &mut [u8]) -> Filled
     requires { ⌜ (state .index ≤ state .offset) × (recordRoom ≤ length (now out)) ⌝ }
     ensures { λ r. ⌜ Batch (now (sheet .entry)) state (wordsOfBytes (now (table .entry))) (now (out .entry)) (r .state) (wordsOfBytes (now (table .exit))) (now (out .exit)) (r .put) ⌝ }
@@ -183,8 +184,9 @@ pub fn fill(sheet: &[u8], state: State, table: &mut [u8], out: &mut [u8]) -> Fil
     }
 }
 
-// The first batch: asks for the sheet's length, reads the header, opens the table and puts the header's line.
-// It requires the table that the rules lend, all zeros, and room for a line and the last line.
+// The first batch: checks the sheet's length, reads the header, opens the hall in the table and puts the header's line.
+// Precondition: the words of the table are those that the rules lend, `lentTable`, all zeros; the buffer has room for a record's line and
+// the last line.
 pub fn start(sheet: &[u8], table: &mut [u8], out: &mut [u8]) -> Filled
     requires { ⌜ (wordsOfBytes (now table) ≡ lentTable) × (recordRoom ≤ length (now out)) ⌝ }
     ensures { λ r. ⌜ Started (now (sheet .entry)) (now (out .entry)) (r .state) (wordsOfBytes (now (table .exit))) (now (out .exit)) (r .put) ⌝ }

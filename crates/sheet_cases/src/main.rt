@@ -1,16 +1,16 @@
-// Prints the lines of one sheet after another: the cases of `tests/sheet_cases.txt`. Standard input has each sheet after its
+// Prints the lines of one sheet after another: the cases of `tests/sheet_cases.txt`. On standard input, each sheet follows its
 // length, three bytes, low byte first.
 use libc::STDIN_FILENO;
 use libc::STDOUT_FILENO;
 use printing::print;
 
-// One byte more than a sheet may have, as the sheet program has it: a longer sheet would be read no further.
+// One byte more than a sheet may have, as in the sheet program, which reads no more bytes of a longer sheet.
 const BYTES: usize = 65537;
 
 // The most cases.
 const MAX_CASES: u64 = 1000;
 
-// The length that three bytes say.
+// The length that three bytes encode.
 fn length_of(low: u8, middle: u8, high: u8) -> usize {
     low as usize + middle as usize * 256 + high as usize * 65536
 }
@@ -22,8 +22,8 @@ fn print_title(case: u64) {
     io::write_all(STDOUT_FILENO, b"\n");
 }
 
-// Reads the next sheet into a buffer and prints its lines. It answers false where there is no whole sheet, or none that fits, or the
-// output does not take the lines.
+// Reads the next sheet into a buffer and prints its lines. It returns false if the input has no further whole sheet, if the sheet does
+// not fit into the buffer, or if the lines could not be written.
 fn print_next(case: u64, bytes: &mut [u8]) -> bool {
     let mut length = [0u8; 3];
     if io::read_full(STDIN_FILENO, &mut length) < 3 {

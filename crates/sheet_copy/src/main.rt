@@ -1,5 +1,5 @@
-// Reads a day sheet from standard input and writes it anew, each number in its shortest form, up to what ends the reading. The stored
-// sheet has each code, numbers of one, two and three bytes, padded ones too, and a last record that is cut.
+// Reads a day sheet from standard input and writes it again, each number in its shortest form, up to what ends the reading. The stored
+// sheet has every code, numbers of one, two and three bytes, numbers with zero groups at the high end, and a truncated last record.
 use libc::STDIN_FILENO;
 use libc::STDOUT_FILENO;
 use reader::Carried;
@@ -15,7 +15,7 @@ use writer::write_record;
 // The most bytes of a sheet, and so the most records.
 const MAX_BYTES: usize = 65536;
 
-// Copies the records from an offset on, and answers the offset after the last that was written.
+// Copies the records from an offset on, and returns the offset after the last one that was written.
 fn copy_records(sheet: &[u8], first: usize, out: &mut [u8], start: usize) -> usize {
     let mut at = first;
     let mut end = start;
@@ -41,7 +41,7 @@ fn copy_records(sheet: &[u8], first: usize, out: &mut [u8], start: usize) -> usi
     end
 }
 
-// Copies a sheet, and answers how many bytes were written.
+// Copies a sheet, and returns how many bytes were written.
 fn copy(sheet: &[u8], out: &mut [u8]) -> usize {
     match read_header(sheet, 0) {
         ParsedHeader::Whole(header, first) => match write_header(out, 0, header) {

@@ -9,27 +9,27 @@ use Rattle.sheet_rules.specs.Sheet.{Edition, Record, deskField, follows,
 
 -- ---- How numbers are read.
 
--- A reader of numbers is given a limit.
+-- A reader of numbers: the limit, the sheet and the offset of the number are given.
 abbrev pub NumberReader : Type 0
 NumberReader = ℕ → List ℕ → ℕ → Parsed ℕ
 
--- What readers of one edition may differ in.
+-- What may differ between readers of one edition.
 pub record Format : Type 0 where
   pub readNumber : NumberReader
   pub maxSession : ℕ
 
--- The hall's: zero groups at the high end are allowed, and sessions go up to 65,535.
+-- The hall's format: zero groups at the high end are allowed, and sessions are at most 65,535.
 abbrev pub hallFormat : Format
 hallFormat = record { readNumber = decodeNumber; maxSession = maxNumber }
 
 -- ---- Reading.
 
--- a field that follows is read; one that does not is 0 and takes no byte
+-- A field that follows the code is read; one that does not is 0 and has no byte.
 abbrev pub decodeField : NumberReader → Bool → ℕ → List ℕ → ℕ → Parsed ℕ
 decodeField readNumber true limit sheet at = readNumber limit sheet at
 decodeField readNumber false limit sheet at = parsed 0 at
 
--- the fields after the desk
+-- The fields after the desk, and then all fields.
 abbrev pub decodeRest : Format → ℕ → ℕ → List ℕ → ℕ → Parsed Record
 decodeRest format code desk sheet at =
     bind (decodeField (format .readNumber) (follows code screenField) maxNumber sheet at) λ screen afterScreen.
@@ -42,7 +42,7 @@ decodeFields format code sheet at =
     bind (decodeField (format .readNumber) (follows code deskField) maxNumber sheet at) λ desk afterDesk.
     decodeRest format code desk sheet afterDesk
 
--- a refusal in a record whose code was read prints that code
+-- The line of a refusal in a record whose code was read shows that code.
 abbrev pub withCode : {A : Type 0} → ℕ → Parsed A → Parsed A
 withCode code (parsed value next) = parsed value next
 withCode code (refused reason) = refusal code (reason .number) (reason .offset)
@@ -63,7 +63,7 @@ decodeHeader readNumber sheet at =
 
 -- ---- Writing, with every number in its shortest form.
 
--- of at most so many bytes
+-- The shortest form of a number that has at most so many bytes.
 abbrev pub shortest : ℕ → ℕ → List ℕ
 shortest zero value = []
 shortest (suc most) value = cond (ltb value 128) (value ∷ []) ((value % 128 + 128) ∷ shortest most (value / 128))
@@ -90,7 +90,7 @@ encodeRecord entry = encodeNumber (entry .code) ++ encodeFields entry
 unfoldable pub encodeHeader : Hall → List ℕ
 encodeHeader hall = encodeNumber (hall .desks) ++ (encodeNumber (hall .screens) ++ encodeNumber (hall .positions))
 
--- ---- The edition. Nothing is carried over from one record to the next.
+-- ---- The edition. It does not use what is carried over from one record to the next.
 abbrev pub edition1 : Format → Edition
 edition1 format = record {
   decodeHeader = decodeHeader (format .readNumber);

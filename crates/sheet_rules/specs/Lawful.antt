@@ -1,4 +1,4 @@
--- What every edition must satisfy: it reads back what it writes, and what it reads takes bytes and could be written.
+-- What every edition must satisfy: it reads back what it writes, and what it reads has at least one byte and can be written.
 use Prim.Native.Nat.{ℕ, _+_, _≤_, _<_}
 use mathlib.Core.Path.{_≡_}
 use mathlib.Core.Bool.{true}
@@ -9,47 +9,48 @@ use Rattle.rules.specs.Numbers.{Parsed, maxNumber, parsed}
 use Rattle.sheet_rules.specs.Edition1.{NumberReader, encodeNumber}
 use Rattle.sheet_rules.specs.Sheet.{Carried, Edition, GoodRecord, Record, isCode, lastDesk, noDesk, openingNumber}
 
--- Bytes that stand in a sheet, from an offset up to the next.
+-- A sheet contains these bytes, from one offset up to another.
 pub record Stands (bytes sheet : List ℕ) (at next : ℕ) : Type 0 where
   pub content : drop at sheet ≡ bytes ++ drop next sheet
   pub end : next ≡ at + length bytes
 
--- A parser finds a value wherever its bytes stand.
+-- A parser finds a value wherever a sheet contains its bytes.
 abbrev pub ReadsBack : {A : Type 0} → (List ℕ → ℕ → Parsed A) → List ℕ → A → Type 0
 ReadsBack parser bytes value = (sheet : List ℕ) (at next : ℕ) → Stands bytes sheet at next → parser sheet at ≡ parsed value next
 
--- A parser takes a byte or more, and stays in the sheet.
+-- A parser consumed at least one byte, and no byte past the end of the sheet.
 pub record Moved (sheet : List ℕ) (at next : ℕ) : Type 0 where
   pub past : at < next
   pub inside : next ≤ length sheet
 
--- a desk that is carried over is a number of the sheet
+-- A desk that is carried over is at most 65,535, as every number of a sheet.
 abbrev pub CarriedHolds : Carried → Type 0
 CarriedHolds noDesk = Unit {0}
 CarriedHolds (lastDesk desk) = desk ≤ maxNumber
 
 pub record Lawful (edition : Edition) (maxSession : ℕ) : Type 0 where
-  -- A header that opens is read back.
+  -- A header that opens a hall is read back.
   pub header-read-back : (hall : Hall) → openingNumber hall ≡ 0 → ReadsBack (edition .decodeHeader) (edition .encodeHeader hall) hall
-  -- A header that is read takes bytes.
+  -- A header that is read has at least one byte.
   pub header-moves : (sheet : List ℕ) (at : ℕ) (hall : Hall) (next : ℕ) → edition .decodeHeader sheet at ≡ parsed hall next → Moved sheet at next
   -- A good record is read back, if the same was carried over when it was written.
   pub record-read-back : (carried : Carried) (entry : Record) → GoodRecord maxSession entry
       → ReadsBack (edition .decodeRecord carried) (edition .encodeRecord carried entry) entry
-  -- A record that is read takes bytes,
+  -- A record that is read has at least one byte,
   pub record-moves : (carried : Carried) (sheet : List ℕ) (at : ℕ) (entry : Record) (next : ℕ)
       → edition .decodeRecord carried sheet at ≡ parsed entry next
       → Moved sheet at next
-  -- it has a step's code,
+  -- it has the code of a step,
   pub record-code : (carried : Carried) (sheet : List ℕ) (at : ℕ) (entry : Record) (next : ℕ)
       → edition .decodeRecord carried sheet at ≡ parsed entry next
       → isCode (entry .code) ≡ true
-  -- and it is good, if the desk that was carried over is.
+  -- and it is good, if the desk that was carried over is at most 65,535.
   pub record-good : (carried : Carried) (sheet : List ℕ) (at : ℕ) (entry : Record) (next : ℕ) → CarriedHolds carried
       → edition .decodeRecord carried sheet at ≡ parsed entry next
       → GoodRecord maxSession entry
 
--- What edition 1 asks of a reader of numbers: it reads back the shortest form, and what it reads takes bytes and is within its limit.
+-- What edition 1 requires of a reader of numbers: it reads back the shortest form, and what it reads has at least one byte and is at most
+-- the limit.
 pub record LawfulNumbers (readNumber : NumberReader) : Type 0 where
   pub read-back : (limit value : ℕ) → value ≤ limit → limit ≤ maxNumber → ReadsBack (readNumber limit) (encodeNumber value) value
   pub small : (limit : ℕ) (sheet : List ℕ) (at value next : ℕ) → readNumber limit sheet at ≡ parsed value next → value ≤ limit

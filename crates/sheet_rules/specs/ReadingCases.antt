@@ -1,4 +1,4 @@
--- Computed cases of reading and writing: what sheets are read as, and the bytes that meanings are written as.
+-- Computed cases of reading and writing: the readings of sheets, and the bytes that encode meanings.
 use Prim.Native.Nat.{ℕ, _+_}
 use mathlib.Core.Path.{_≡_, refl}
 use mathlib.Core.List.{List, [], _∷_, map}
@@ -59,7 +59,7 @@ lent-table = refl
 
 -- ---- Sheets that open, and what their records are.
 
--- Case D is a sheet that opens, and its reading is not ended.
+-- Case D is a sheet that opens, and nothing ends its reading.
 abbrev pub recordsD : Records
 recordsD =
     more (recordFor 3 1 0 1 300)
@@ -72,7 +72,7 @@ pub D-opens : reading hallEdition sheetD ≡ opened (hallOf 1 1 1) recordsD
 unfolding reading decodeHeader decodeRecord decodeNumber openingNumber lentTable
 D-opens = refl
 
--- A sheet that opens, and whose second record is cut: its step is run, and then the reading's own line follows.
+-- A sheet that opens, and whose second record is truncated: the first step is run, and then the line of what ends the reading follows.
 abbrev pub recordsCut : Records
 recordsCut = more (recordFor 4 1 0 0 0) (stop (refusalOf 3 15 8))
 
@@ -84,7 +84,7 @@ pub line-of-cut : endingLine 1 recordsCut ≡ text ("2 3 15 0" ∷ [])
 unfolding decimal line
 line-of-cut = refl
 
--- 5 is put at a position, taken off, retired at index 2 and not shown; the third collect is at index 5.
+-- 5 is put at a position, replaced by 0, retired at index 2 and not shown; the third collect is at index 5.
 abbrev pub sheetBack : List ℕ
 sheetBack =
     0x01 ∷ 0x01 ∷ 0x01 ∷ 0x03 ∷ 0x01 ∷ 0x01 ∷ 0x05 ∷ 0x03 ∷ 0x01 ∷ 0x01 ∷ 0x00 ∷ 0x04 ∷ 0x01 ∷ 0x05 ∷ 0x01 ∷ 0x05 ∷ 0x01 ∷ 0x05 ∷ 0x01 ∷ []
@@ -99,7 +99,7 @@ pub back-opens : reading hallEdition sheetBack ≡ opened (hallOf 1 1 1) records
 unfolding reading decodeHeader decodeRecord decodeNumber openingNumber lentTable
 back-opens = refl
 
--- Two refusals before the hall is open, with their offsets: a header that is cut, and a sheet that is too long.
+-- Three refusals before the hall is opened, with their offsets: a truncated header, an opening that is refused, and a sheet that is too long.
 pub unopened-sheets :
     (reading hallEdition (0x01 ∷ 0x80 ∷ []) ≡ unopened (refusalOf 0 15 1))
     × (reading hallEdition (0x11 ∷ 0x01 ∷ 0x01 ∷ []) ≡ unopened (refusalOf 0 1 0))
@@ -115,7 +115,7 @@ pub small-bytes : encodeSheet hallEdition small ≡ 0x01 ∷ 0x01 ∷ 0x01 ∷ 0
 unfolding encodeSheet encodeHeader encodeRecord encodeNumber
 small-bytes = refl
 
--- ---- The largest session is the session's limit alone: where it is 999, a position of 1,000 is read, a session of 999 too, and one of 1,000 is not.
+-- ---- `maxSession` limits sessions alone: if it is 999, position 1,000 and session 999 are read, and session 1,000 is refused.
 abbrev limitedTo999 : Format
 limitedTo999 = record { readNumber = decodeNumber; maxSession = 999 }
 
@@ -126,8 +126,8 @@ pub sessions-to-999 :
 unfolding decodeRecord decodeNumber
 sessions-to-999 = refl
 
--- ---- What a record leaves for the next. An edition that needs it: a record is one byte, which is read as the code and written as the desk that is due,
--- 1 at first and then one more than the last.
+-- ---- What a record leaves for the next. An edition that uses it: a record is one byte. Reading takes the byte as the code, and as the desk one more
+-- than the desk before, 1 at first; writing puts that desk.
 abbrev deskDue : Carried → ℕ
 deskDue noDesk = 1
 deskDue (lastDesk desk) = desk + 1

@@ -1,4 +1,4 @@
--- What the records of a sheet do to a table: the call that each asks for, and its result. Document 01, "The day sheet".
+-- What the records of a sheet do to a table: the call that each record requests, and its result. Document 01, "The day sheet".
 use Prim.Native.Nat.{ℕ}
 use mathlib.Core.Bool.{cond}
 use mathlib.Core.List.{List, [], _∷_}
@@ -17,7 +17,7 @@ codeOf (Swap p session) = 3
 codeOf Retire = 4
 codeOf Collect = 5
 
--- The call that a record asks for. A record with any other code asks for none.
+-- The call that a record requests. A record with any other code requests none.
 abbrev pub callOf : Record → Option Call
 callOf entry =
     cond (eqb (entry .code) 1) (some (entry .desk sends Take (entry .screen) (entry .position)))
@@ -26,7 +26,7 @@ callOf entry =
     (cond (eqb (entry .code) 4) (some (entry .desk sends Retire))
     (cond (eqb (entry .code) 5) (some (entry .desk sends Collect)) none))))
 
--- "Is the code 1 to 5? 17": the answer where no call is asked for. "A "no" gives the number, session 0, and nothing written."
+-- "Is the code 1 to 5? 17": the answer if no call is requested. "A "no" gives the number, session 0, and nothing written."
 abbrev pub runCall : Limits → List ℕ → Option Call → Result (List ℕ)
 runCall limits table none = refuse 17 table
 runCall limits table (some call) = stepTable limits table call
@@ -35,7 +35,7 @@ runCall limits table (some call) = stepTable limits table call
 abbrev pub runRecord : Limits → List ℕ → Record → Result (List ℕ)
 runRecord limits table entry = runCall limits table (callOf entry)
 
--- The calls that records ask for, in order.
+-- The calls that records request, in order.
 abbrev pub consSome : Option Call → List Call → List Call
 consSome none calls = calls
 consSome (some call) calls = call ∷ calls

@@ -1,4 +1,4 @@
--- Computed cases of running records, of the tally and of the printed numbers: each is decided by one clause of a definition.
+-- Computed cases of running records, of the tally and of the printed numbers: each depends on one clause of a definition.
 use mathlib.Core.Path.{_≡_, refl}
 use mathlib.Core.List.{List, [], _∷_, map}
 use mathlib.Core.Option.{none, some}
@@ -13,7 +13,7 @@ use Rattle.sheet_rules.specs.Sheet.{complete, more, recordFor}
 use Rattle.sheet_rules.specs.SheetCases.{text}
 use Rattle.sheet_rules.specs.Tally.{Tally, addStep, addSteps, countsIn, tallyOf, zeros}
 
--- ---- The call that each code asks for: 1 to 5 each its own, 0, 6 and 65,535 none.
+-- ---- The call that each code requests: 1 to 5 each another one, 0, 6 and 65,535 none.
 pub calls-of-codes :
     map (λ (code : ℕ). callOf (recordFor code 2 3 4 500)) (0 ∷ 1 ∷ 2 ∷ 3 ∷ 4 ∷ 5 ∷ 6 ∷ 65535 ∷ [])
     ≡ none
@@ -27,18 +27,18 @@ pub calls-of-codes :
     ∷ []
 calls-of-codes = refl
 
--- Code 0 and code 6 are answered 17, and the table is as it was. A collect is the board's: it finds the table of three words unsound.
+-- Codes 0 and 6 are answered 17, and the table is unchanged. Code 5 is a collect of the board, which finds the table of three words unsound.
 pub other-codes-are-17 :
     map (λ (code : ℕ). runRecord hallLimits (7 ∷ 8 ∷ 9 ∷ []) (recordFor code 1 1 1 1)) (0 ∷ 6 ∷ 5 ∷ [])
     ≡ refuse 17 (7 ∷ 8 ∷ 9 ∷ []) ∷ refuse 17 (7 ∷ 8 ∷ 9 ∷ []) ∷ refuse 5 (7 ∷ 8 ∷ 9 ∷ []) ∷ []
 unfolding stepTable sound
 other-codes-are-17 = refl
 
--- A record that asks for no call is none of the calls, and the records after it are run.
+-- A record that requests no call adds none to the calls, and the calls of the records after it are among them.
 pub calls-without-17 : callsIn (more (recordFor 6 1 0 0 0) (more (recordFor 4 2 0 0 0) complete)) ≡ (2 sends Retire) ∷ []
 calls-without-17 = refl
 
--- It has its line, and is not counted.
+-- Such a record has a line, and is not counted.
 pub line-of-17 :
     linesFrom (7 ∷ 8 ∷ 9 ∷ []) 1 zeros (more (recordFor 6 1 0 0 0) (more (recordFor 4 2 0 0 0) complete))
     ≡ text ("1 6 17 0" ∷ "2 4 5 0" ∷ "end 0 1 0" ∷ [])
@@ -117,7 +117,7 @@ pub tally-of-events : (addSteps zeros events ≡ tallyOf 4 2 1) × (countsIn eve
 unfolding addStep
 tally-of-events = (refl, refl)
 
--- Their lines, from record 7 on.
+-- Their lines, numbered from record 7 on.
 pub lines-of-events : eventLines 7 events ≡ text ("7 3 0 0" ∷ "8 1 0 300" ∷ "9 4 13 0" ∷ "10 5 0 300" ∷ "11 2 0 300" ∷ "12 5 5 0" ∷ [])
 unfolding decimal line
 lines-of-events = refl

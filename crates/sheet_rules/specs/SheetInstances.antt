@@ -12,8 +12,8 @@ use Rattle.sheet_rules.specs.Lawful.{CarriedHolds, Lawful, LawfulNumbers
 use Rattle.sheet_rules.specs.Sheet.{Accepted, EachGood, Edition, GoodMeaning, GoodRecord, Meaning, Record, isCode, lastDesk, noDesk, opened, openingNumber}
 use Rattle.sheet_rules.specs.Sheet.{reading, recordFor, whole}
 
--- ---- Records that a sheet can have, where sessions go up to 999: a take has no session, a swap no screen, and a retire
--- neither, and no position.
+-- ---- Records that a sheet can have, where sessions are at most 999: a take has no session, a swap has no screen, and a retire
+-- has no screen, position or session.
 pub good-take : GoodRecord 999 (recordFor 1 65535 65535 65535 0)
 good-take = record { code = refl; desk = omega arith; screen = omega arith; position = omega arith; session = refl }
 
@@ -23,7 +23,8 @@ good-swap = record { code = refl; desk = omega arith; screen = refl; position = 
 pub good-retire : GoodRecord 999 (recordFor 4 65535 0 0 0)
 good-retire = record { code = refl; desk = omega arith; screen = refl; position = refl; session = refl }
 
--- a code that is no step's; a desk, a screen, a position and a session that are too large; a session of a take and a screen of a swap
+-- Records that a sheet cannot have: a code that no step has; a desk, a screen, a position and a session that are too large; a take with a
+-- session and a swap with a screen.
 pub no-good-records :
     (GoodRecord 999 (recordFor 6 0 0 0 0) → ⊥)
     × (GoodRecord 999 (recordFor 1 65536 3 4 0) → ⊥)
@@ -51,7 +52,7 @@ says-good-meaning meaning good = (good .opens, good .records)
 pub says-accepted : (edition : Edition) (sheet : List ℕ) (meaning : Meaning) → Accepted edition sheet meaning → reading edition sheet ≡ opened (meaning .header) (whole (meaning .records))
 says-accepted edition sheet meaning accepted = accepted
 
--- ---- Bytes that stand in a sheet: 8 and 9, at offset 2 up to offset 4.
+-- ---- Bytes that a sheet contains: 8 and 9, from offset 2 up to offset 4.
 pub stands : Stands (8 ∷ 9 ∷ []) (6 ∷ 7 ∷ 8 ∷ 9 ∷ 5 ∷ []) 2 4
 stands = record { content = refl; end = refl }
 
@@ -64,11 +65,11 @@ says-moved sheet moved = (moved .past, moved .inside)
 pub says-read-back : (parser : List ℕ → ℕ → Parsed ℕ) (bytes sheet : List ℕ) → ReadsBack parser bytes 7 → Stands bytes sheet 2 4 → parser sheet 2 ≡ parsed 7 4
 says-read-back parser bytes sheet reads = reads sheet 2 4
 
--- a desk that is carried over
+-- A desk that is carried over is at most 65,535.
 pub says-carried : CarriedHolds noDesk × CarriedHolds (lastDesk 65535) × (CarriedHolds (lastDesk 65536) → ⊥)
 says-carried = (tt, omega arith, λ holds. omega (arith, holds))
 
--- ---- Editions, where sessions go up to 999; desk 3 is carried over.
+-- ---- Editions, where sessions are at most 999; desk 3 is carried over.
 module _ (edition : Edition) (lawful : Lawful edition 999) (sheet : List ℕ) where
   pub says-header-read-back : openingNumber (hallOf 2 3 4) ≡ 0 → ReadsBack (edition .decodeHeader) (edition .encodeHeader (hallOf 2 3 4)) (hallOf 2 3 4)
   says-header-read-back = lawful .header-read-back (hallOf 2 3 4)
@@ -89,7 +90,7 @@ module _ (edition : Edition) (lawful : Lawful edition 999) (sheet : List ℕ) wh
     pub says-record-good : CarriedHolds (lastDesk 3) → edition .decodeRecord (lastDesk 3) sheet 5 ≡ parsed entry 8 → GoodRecord 999 entry
     says-record-good = lawful .record-good (lastDesk 3) sheet 5 entry 8
 
--- Numbers up to 999: 7, at offset 5 up to offset 8.
+-- Numbers that are at most 999: 7, from offset 5 up to offset 8.
 module _ (readNumber : NumberReader) (lawful : LawfulNumbers readNumber) (sheet : List ℕ) where
   pub says-number-read-back : 7 ≤ 999 → 999 ≤ 65535 → ReadsBack (readNumber 999) (encodeNumber 7) 7
   says-number-read-back = lawful .read-back 999 7

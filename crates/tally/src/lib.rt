@@ -18,7 +18,7 @@ pub struct Tally {
     pub handed_back: u32,
 }
 
-// One more, if so; a count stays at its largest once there.
+// The count, plus one if `yes`; a count stays at its largest once there.
 fn one_more_if(yes: bool, count: u32) -> u32
     ensures { λ r. ⌜ r ≡ oneMoreIf yes count ⌝ }
 {
@@ -61,7 +61,7 @@ pub fn add_step(t: Tally, code: u16, number: u16, session: u16) -> Tally
     }
 }
 
-// Updates the tally that is lent: the tally after a step with this code and answer.
+// Updates the lent tally to the tally after a step with this code and answer.
 pub fn add_step_in_place(t: &mut Tally, code: u16, number: u16, session: u16)
     ensures { λ _. ⌜ toTally (now (t .exit)) ≡ addStep (toTally (now (t .entry))) code (answerWith number session) ⌝ }
 {
@@ -70,7 +70,7 @@ pub fn add_step_in_place(t: &mut Tally, code: u16, number: u16, session: u16)
     *t = next;
 }
 
-// Lends a tally to `add_step_in_place`. Its parameters are plain, so its callers have no proof of a loan to make.
+// Lends a tally to `add_step_in_place`. Its parameters are passed by value, so its callers need no proof about a borrow.
 pub fn add_step_lent(t: Tally, code: u16, number: u16, session: u16) -> Tally
     ensures { λ r. ⌜ toTally r ≡ addStep (toTally t) code (answerWith number session) ⌝ }
 {

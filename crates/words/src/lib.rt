@@ -16,7 +16,7 @@ pub fn word(t: &[u8], i: usize) -> u16
     low + 256 * high
 }
 
-// The same, as an index or a count.
+// The same, as an index or a count. Precondition: as for `word`.
 pub fn count(t: &[u8], i: usize) -> usize
     requires { ⌜ 2 * i + 1 < length (now t) ⌝ }
     ensures { λ r. ⌜ (r ≡ getD (wordsOfBytes (now (t .entry))) i 0) × (r < 65536) ⌝ }

@@ -1,4 +1,4 @@
--- What a writer leaves: the bytes in the buffer and the offset after them, or the buffer as it was.
+-- The result of a writer: the buffer with the bytes and the offset after them, or the unchanged buffer.
 use Prim.Native.Nat.{ℕ, _+_}
 use mathlib.Core.Bool.{cond}
 use mathlib.Core.List.{List}

@@ -17,17 +17,17 @@ ghost use Rattle.sheet_rules.specs.Edition1.{encodeField, encodeHeader, encodeN
 ghost use Rattle.sheet_rules.specs.Sheet.{follows as followsCode};
 ghost use Rattle.writer.specs.Output.{outputOf, writeAt, writeRecordAt};
 
-// What a writer answers. It writes all bytes or none.
+// The result of a writer, which writes all bytes or none.
 pub enum Written {
     // The offset after the bytes.
     Next(usize),
     // They do not fit.
     NoRoom,
-    // 17: there is no such code.
+    // 17: no step has this code.
     NoCode,
 }
 
-// How many bytes a number takes.
+// How many bytes a number has in its shortest form.
 fn number_length(value: u16) -> usize
     ensures { λ r. ⌜ r ≡ length (encodeNumber value) ⌝ }
 {
@@ -40,8 +40,8 @@ fn number_length(value: u16) -> usize
     3
 }
 
-// Puts a number: groups of seven bits, lowest first; the top bit of a byte (128) says another follows.
-// It requires room for it: its callers have asked for it.
+// Puts a number: groups of seven bits, lowest first; the top bit of a byte (128) says that another follows.
+// Precondition: the buffer has room for it (the callers have tested that).
 fn put_number(out: &mut [u8], at: usize, value: u16) -> usize
     requires { ⌜ Fits (now out) at (encodeNumber value) ⌝ }
     ensures { λ r. ⌜ Put (now (out .entry)) (now (out .exit)) at (encodeNumber value) r ⌝ }
@@ -58,7 +58,7 @@ fn put_number(out: &mut [u8], at: usize, value: u16) -> usize
     put_byte(out, third, (high / 128) as u8)
 }
 
-// Writes a number.
+// Writes a number, if the buffer has room for it.
 pub fn write_number(out: &mut [u8], at: usize, value: u16) -> Written
     ensures { λ r. ⌜ outputOf r (now (out .exit)) ≡ writeAt (now (out .entry)) at (encodeNumber value) ⌝ }
 {
@@ -68,8 +68,8 @@ pub fn write_number(out: &mut [u8], at: usize, value: u16) -> Written
     Written::NoRoom
 }
 
-// How many bytes a field takes: none, if it does not follow its code.
-// It requires one of the five codes, as `follows` does.
+// How many bytes a field has: none, if it does not follow the code.
+// Precondition: the code is one of the five, as for `follows`.
 fn field_length(code: u16, field: usize, value: u16) -> usize
     requires { ⌜ (1 ≤ code) × (code ≤ 5) × (field < 4) ⌝ }
     ensures { λ r. ⌜ r ≡ length (encodeField (followsCode code field) value) ⌝ }
@@ -80,8 +80,8 @@ fn field_length(code: u16, field: usize, value: u16) -> usize
     0
 }
 
-// Puts a field that follows its code.
-// It requires one of the five codes, as `follows` does, and room for the field.
+// Puts a field if it follows the code.
+// Precondition: the code is one of the five, as for `follows`, and the buffer has room for the field.
 fn put_field(out: &mut [u8], at: usize, code: u16, field: usize, value: u16) -> usize
     requires { ⌜ (1 ≤ code) × (code ≤ 5) × (field < 4) × Fits (now out) at (encodeField (followsCode code field) value) ⌝ }
     ensures { λ r. ⌜ Put (now (out .entry)) (now (out .exit)) at (encodeField (followsCode code field) value) r ⌝ }
@@ -92,8 +92,8 @@ fn put_field(out: &mut [u8], at: usize, code: u16, field: usize, value: u16) -> 
     at
 }
 
-// How many bytes a record takes.
-// It requires one of the five codes, as `follows` does.
+// How many bytes a record has.
+// Precondition: the code is one of the five, as for `follows`.
 fn record_length(entry: Record) -> usize
     requires { ⌜ (1 ≤ entry .code) × (entry .code ≤ 5) ⌝ }
     ensures { λ r. ⌜ r ≡ length (encodeRecord (recordOf entry)) ⌝ }
@@ -107,7 +107,7 @@ fn record_length(entry: Record) -> usize
 }
 
 // Puts a record: its code, and then its fields.
-// It requires one of the five codes, as `follows` does, and room for the record.
+// Precondition: the code is one of the five, as for `follows`, and the buffer has room for the record.
 fn put_record(out: &mut [u8], at: usize, entry: Record) -> usize
     requires { ⌜ (1 ≤ entry .code) × (entry .code ≤ 5) × Fits (now out) at (encodeRecord (recordOf entry)) ⌝ }
     ensures { λ r. ⌜ Put (now (out .entry)) (now (out .exit)) at (encodeRecord (recordOf entry)) r ⌝ }
@@ -120,7 +120,7 @@ fn put_record(out: &mut [u8], at: usize, entry: Record) -> usize
     put_field(out, after_position, code, SESSION, entry.session)
 }
 
-// Writes a record.
+// Writes a record, if its code is one of the five and the buffer has room for it.
 pub fn write_record(out: &mut [u8], at: usize, entry: Record) -> Written
     ensures { λ r. ⌜ outputOf r (now (out .exit)) ≡ writeRecordAt (now (out .entry)) at (recordOf entry) ⌝ }
 {
@@ -136,7 +136,7 @@ pub fn write_record(out: &mut [u8], at: usize, entry: Record) -> Written
     Written::NoRoom
 }
 
-// How many bytes a header takes.
+// How many bytes a header has.
 fn header_length(header: Header) -> usize
     ensures { λ r. ⌜ r ≡ length (encodeHeader (headerOf header)) ⌝ }
 {
@@ -144,7 +144,7 @@ fn header_length(header: Header) -> usize
 }
 
 // Puts a header: P, c and L.
-// It requires room for it.
+// Precondition: the buffer has room for it.
 fn put_header(out: &mut [u8], at: usize, header: Header) -> usize
     requires { ⌜ Fits (now out) at (encodeHeader (headerOf header)) ⌝ }
     ensures { λ r. ⌜ Put (now (out .entry)) (now (out .exit)) at (encodeHeader (headerOf header)) r ⌝ }
@@ -154,7 +154,7 @@ fn put_header(out: &mut [u8], at: usize, header: Header) -> usize
     put_number(out, after_screens, header.positions)
 }
 
-// Writes a header.
+// Writes a header, if the buffer has room for it.
 pub fn write_header(out: &mut [u8], at: usize, header: Header) -> Written
     ensures { λ r. ⌜ outputOf r (now (out .exit)) ≡ writeAt (now (out .entry)) at (encodeHeader (headerOf header)) ⌝ }
 {

@@ -1,4 +1,4 @@
--- Edition 1 reads back what it writes, and what it reads takes bytes and could be written.
+-- Edition 1 reads back what it writes, and what it reads has at least one byte and can be written.
 use Prim.Native.Nat.{ℕ, _≤_}
 use native.Mathlib.Omega.{arith}
 use mathlib.Core.Path.{_≡_}

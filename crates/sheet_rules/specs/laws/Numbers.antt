@@ -1,4 +1,4 @@
--- The numbers of a sheet: what is read takes bytes and is within its limit, and the shortest form is read back.
+-- The numbers of a sheet: what is read has at least one byte and is at most the limit, and the shortest form is read back.
 use Prim.Native.Nat.{ℕ, zero, suc, _+_, _*_, _/_, _%_, _≤_, _<_}
 use native.Mathlib.Omega.{arith}
 use mathlib.Core.Path.{_≡_, refl}

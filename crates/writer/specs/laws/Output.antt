@@ -1,4 +1,4 @@
--- Bytes that were written stand in the buffer.
+-- The buffer contains the bytes that were written.
 use Prim.Native.Nat.{ℕ, _+_, _≤_}
 use native.Mathlib.Omega.{arith}
 use mathlib.Core.Path.{_≡_, refl, sym, ap, _∙_}

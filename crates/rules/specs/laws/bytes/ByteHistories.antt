@@ -1,4 +1,4 @@
--- Lists of calls on bytes, of any board on words: they are those on the words, so what holds of the words holds of the bytes.
+-- Lists of calls on bytes, for any board on words: they have the answers of the calls on the words, so what holds of the words holds of the bytes.
 use Prim.Native.Nat.{ℕ, zero, suc}
 use mathlib.Core.Path.{subst₂, _≡_, refl, sym, ap, _∙_}
 use mathlib.Core.List.{List, [], _∷_}

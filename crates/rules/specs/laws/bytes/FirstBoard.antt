@@ -1,4 +1,4 @@
--- The first board, as the laws of bytes ask for it.
+-- The first board as a `WordBoard`, for which the laws of bytes are stated.
 use Prim.Native.Nat.{ℕ}
 use native.Mathlib.Omega.{arith}
 use Rattle.rules.specs.Hall.{Limits}

@@ -1,4 +1,4 @@
--- A sound record of 16-bit words is the record of the desk that it is read as.
+-- A sound record of 16-bit words equals the encoding of the desk that it decodes to.
 use Prim.Native.Nat.{ℕ, zero, suc, _+_, _*_, _-_, _/_, _%_, _^_, _≤_, _<_}
 use native.Mathlib.Omega.{arith}
 use mathlib.Core.Path.{_≡_, refl, sym, ap, ap₂, _∙_}

@@ -1,4 +1,4 @@
--- The words of a desk: its record, read back, is the desk.
+-- The words of a desk: its encoding decodes to the desk.
 use Prim.Native.Nat.{ℕ, zero, suc, _+_, _*_, _-_, _/_, _%_, _≤_}
 use native.Mathlib.Omega.{arith}
 use mathlib.Core.Path.{_≡_, refl, ap, ap₂, _∙_}

@@ -1,4 +1,5 @@
--- The hand-back at one desk (the second half of demand 3): how many collects a retired session still takes, while no screen shows it.
+-- The hand-back at one desk (the second half of demand 3): how many collects are still needed to hand a retired session back, while no
+-- screen shows it.
 use Prim.Native.Nat.{_%_, ℕ, suc, _+_, _*_, _≤_, _<_}
 use native.Mathlib.Omega.{arith}
 use mathlib.Core.Path.{_≡_, refl, sym, ap, _∙_}

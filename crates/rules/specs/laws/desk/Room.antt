@@ -1,5 +1,5 @@
--- The room of one desk (the first half of demand 3): what a retire and a collect leave of it, where a collect comes between any two
--- retires. The bounds are those of halves of S, all doubled.
+-- The room of one desk (the first half of demand 3): how much of it is free after a retire and after a collect, if a collect comes between
+-- any two retires. The bounds contain halves of S, so all are doubled.
 use Prim.Native.Nat.{ℕ, _+_, _*_, _≤_, _<_}
 use native.Mathlib.Omega.{arith}
 use mathlib.Core.Path.{_≡_, refl, ap}

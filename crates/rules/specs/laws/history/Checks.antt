@@ -1,4 +1,4 @@
--- Computed tests from which a history or a table is seen to meet a statement, or to break it. They use the definitions alone.
+-- Computed tests that show that a history or a table meets a statement, or does not. They use the definitions alone.
 use Prim.Native.Nat.{ℕ, zero, suc, _+_, _-_, _≤_, _<_}
 use native.Mathlib.Omega.{arith}
 use native.Mathlib.Decide.{ℕ-discrete, decLe}

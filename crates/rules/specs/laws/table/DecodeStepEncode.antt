@@ -1,4 +1,4 @@
--- Of any sound table of 16-bit words, not only of one that an opening began: a step on it is to read the state, do the step of the rules, and write the state.
+-- On any sound table of 16-bit words, not only on one that an opening made, a step decodes the state, does the step of the rules, and encodes the state.
 use Prim.Native.Nat.{ℕ, zero, suc, _+_, _*_, _-_, _%_, _≤_, _<_}
 use native.Mathlib.Omega.{arith}
 use mathlib.Core.Path.{_≡_, refl, sym, ap, _∙_}

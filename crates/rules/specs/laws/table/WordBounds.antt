@@ -1,4 +1,4 @@
--- Tables of 16-bit words: the opening and the steps keep the width of each word and the length of the table; what a refusal tells.
+-- Tables of 16-bit words: the opening and the steps keep the width of each word and the length of the table; the numbers of refusals.
 use Prim.Native.Nat.{ℕ, zero, suc, _+_, _*_, _-_, _^_, _≤_, _<_}
 use native.Mathlib.Omega.{arith}
 use mathlib.Core.Path.{_≡_, refl, sym, ap, subst, _∙_}
