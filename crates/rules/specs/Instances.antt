@@ -10,8 +10,8 @@ use Rattle.rules.specs.Cases.{wide}
 use Rattle.rules.specs.Closing.{ClosingRule, HandBackCloses, PutFresh, ShownNowhere, StandsNowhere, Unreferenced, putAt}
 use Rattle.rules.specs.Demands.{Demand1, Demand2, Demand3, Guarantee, HandedBackWithin, countsOfDesk, listOfDesk}
 use Rattle.rules.specs.Hall.{State}
-use Rattle.rules.specs.History.{CollectBetween, CollectsBetweenRetires, DroppedBefore, Effect, Linked, Shows, Unshown, _by_, byDesk, collectsOf}
-use Rattle.rules.specs.History.{effectAt, handBacks, handBacksOf, handsBack, isCollect, isRetireAttempt, outOfRoom, retirements, retirementsOf, retires}
+use Rattle.rules.specs.History.{CollectBetween, CollectsBetweenRetires, DroppedBefore, Effect, Linked, NextDrop, NextRetire, NextSwap, Shows, Unshown, _by_, byDesk, collectsOf, drops}
+use Rattle.rules.specs.History.{effectAt, handBacks, handBacksOf, handsBack, isCollect, isRetireAttempt, outOfRoom, retirements, retirementsOf, retires, swaps, takes}
 use Rattle.rules.specs.Lists.{occurrences}
 use Rattle.rules.specs.Locality.{OthersStay, deskAt, positionAt, screenAt, writesPosition, writesScreen}
 use Rattle.rules.specs.Steps.{Drop, Event, Result, Swap, _sends_}
@@ -36,6 +36,37 @@ module _ (effects : ℕ → Effect) where
 
   pub says-a-collect : (between : CollectBetween effects 2 5 8) → (5 < between .index) × (between .index < 8) × (isCollect (byDesk 2 (effects (between .index))) ≡ true)
   says-a-collect between = (between .after, between .before, between .here)
+
+  -- after index 4, at index 8, by desk 2: the next swap at position 6, the next retire, of session 9, and the next drop of screen 3
+  pub says-next-swap : NextSwap effects 4 6 2 8 → (4 < 8) × (effects 8 ≡ swaps 6 by 2) × ((m other : ℕ) → 4 < m → m < 8 → effects m ≡ swaps 6 by other → ⊥)
+  says-next-swap next = (next .later, next .here, next .first)
+
+  pub says-next-retire : NextRetire effects 4 2 9 8
+      → (4 < 8) × (effects 8 ≡ retires 9 by 2) × ((m session : ℕ) → 4 < m → m < 8 → effects m ≡ retires session by 2 → ⊥)
+  says-next-retire next = (next .later, next .here, next .first)
+
+  pub says-next-drop : NextDrop effects 4 2 3 8 → (4 < 8) × (effects 8 ≡ drops 3 by 2) × ((m : ℕ) → 4 < m → m < 8 → effects m ≡ drops 3 by 2 → ⊥)
+  says-next-drop next = (next .later, next .here, next .first)
+
+  -- the take at index 4 is linked to the retirement at index 8, and was dropped before it
+  pub says-linked : (link : Linked effects 4 8)
+      → (effects 4 ≡ takes (link .screen) (link .position) (link .shown) by link .desk)
+      × NextSwap effects 4 (link .position) (link .swapper) (link .swapAt)
+      × NextRetire effects (link .swapAt) (link .swapper) (link .session) 8
+  says-linked link = (link .take, link .swap, link .retire)
+
+  pub says-dropped-before : (dropped : DroppedBefore effects 4 8)
+      → (effects 4 ≡ takes (dropped .screen) (dropped .position) (dropped .shown) by dropped .desk)
+      × NextDrop effects 4 (dropped .desk) (dropped .screen) (dropped .dropAt)
+      × (dropped .dropAt < 8)
+  says-dropped-before dropped = (dropped .take, dropped .drop, dropped .before)
+
+  -- desk 2's screen 3 shows session 9 just before index 7
+  pub says-shows : (shows : Shows effects 7 2 3 9)
+      → (shows .takenAt < 7)
+      × (effects (shows .takenAt) ≡ takes 3 (shows .position) 9 by 2)
+      × ((m : ℕ) → shows .takenAt < m → m < 7 → effects m ≡ drops 3 by 2 → ⊥)
+  says-shows shows = (shows .earlier, shows .take, shows .undropped)
 
   -- session 9 is not shown from index 4 to index 7: just before index 6, on screen 3 of desk 2
   pub says-unshown : Unshown effects 9 4 7 → (n : ℕ) → 4 < n → n ≤ 7 → Shows effects n 2 3 9 → ⊥
