@@ -88,6 +88,9 @@ module _ (effects : ℕ → Effect) where
 
 -- ---- Demands 2 and 3, and closing, for any history and tables: desk 2, session 9, after 5 calls.
 module _ (history : List Event) (tables : ℕ → List ℕ) where
+  pub says-guarantee : Demand2 wide history tables → Guarantee (effectAt history)
+  says-guarantee demand = demand .guarantee
+
   pub says-linked-session : Demand2 wide history tables → (link : Linked (effectAt history) 4 5) → link .shown ≡ link .session
   says-linked-session demand = demand .sessions 4 5
 
