@@ -10,7 +10,7 @@ use Rattle.rules.specs.Table.{sound, stepTable}
 use Rattle.sheet_rules.specs.Lines.{decimal, endLine, eventLines, line, linesFrom}
 use Rattle.sheet_rules.specs.Run.{callOf, callsIn, runRecord}
 use Rattle.sheet_rules.specs.Sheet.{complete, more, recordFor}
-use Rattle.sheet_rules.specs.SheetCases.{text}
+use Rattle.sheet_rules.specs.SheetCases.{characters, text}
 use Rattle.sheet_rules.specs.Tally.{Tally, addStep, addSteps, countsIn, tallyOf, zeros}
 
 -- ---- The call that each code requests: 1 to 5 each another one, 0, 6 and 65,535 none.
@@ -96,6 +96,11 @@ our-tallies = refl
 pub our-lines : map (line 0 9 10) (99 ∷ 100 ∷ 65535 ∷ []) ≡ text ("0 9 10 99" ∷ []) ∷ text ("0 9 10 100" ∷ []) ∷ text ("0 9 10 65535" ∷ []) ∷ []
 unfolding decimal line
 our-lines = refl
+
+-- The largest number of 64 bits has twenty digits.
+pub twenty-digits : decimal 18446744073709551615 ≡ characters "18446744073709551615"
+unfolding decimal
+twenty-digits = refl
 
 -- "`end`, steps accepted, steps refused by the board, sessions handed back"
 pub our-end : endLine (tallyOf 12345 0 4294967295) ≡ text ("end 12345 0 4294967295" ∷ [])
