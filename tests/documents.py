@@ -19,8 +19,7 @@ import sys
 ROOT = pathlib.Path(__file__).resolve().parent.parent
 PLACES = ['crates', 'edits', 'tests', 'tools', 'include', 'examples', 'bench', 'docs', 'Makefile', '.ci']
 BUILT = ('build', 'target')
-WIDTH = 120                  # columns
-GENERATED = ('MUTANTS.md',)  # written by a tool, in lines of any length
+WIDTH = 120           # columns
 KIT = ('io', 'libc')  # crates of the toolchain
 CLAUSES = {'requires', 'ensures'}
 NAME = r"[\w'′-]+"
@@ -124,7 +123,7 @@ def main():
             if not names.has(mark):
                 faults.append(f'{document.name}: `{mark}` is not declared')
         for number, line in enumerate(text.splitlines(), 1):
-            if len(line) > WIDTH and document.name not in GENERATED:
+            if len(line) > WIDTH:
                 faults.append(f'{document.name}:{number}: the line has {len(line)} columns')
     print(*faults, sep='\n', end='\n' if faults else '')
     print(f'documents: {count} names, {len(faults)} faults')
