@@ -9,7 +9,7 @@ mod timing;
 use boards::BOARDS;
 use halls::{tasks, Task, HALLS};
 use reference::Hall;
-use timing::{median, Clock, Times, BATCH_BYTES, PLACES, REPETITIONS};
+use timing::{median, Clock, Times, BATCH_BYTES, PASSES, PLACES, REPETITIONS};
 
 const NAMES: [&str; 3] = ["ours", "Rust", "C"];
 
@@ -22,7 +22,8 @@ fn main() {
 fn print_calls(clock: &mut Clock) {
     println!("nanoseconds per call, median of {REPETITIONS} batches, the boards in turn;");
     println!("the tables are written anew just before each batch, uncounted, at another place of");
-    println!("a page each time; all tables of a batch fit into {} KB", BATCH_BYTES / 1024);
+    println!("a page each time; all tables of a batch fit into {} KB; openings and refused calls", BATCH_BYTES / 1024);
+    println!("go over them {PASSES} times");
     let [ours, rust, c] = NAMES;
     for hall in halls() {
         for marks in [false, true] {

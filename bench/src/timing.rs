@@ -1,6 +1,6 @@
 //! Times a call on copies of its table, by each of the boards in turn.
 
-use crate::boards::{Board, BOARDS};
+use crate::boards::{Board, Call, BOARDS};
 use crate::halls::Task;
 use std::hint::black_box;
 use std::time::Instant;
@@ -10,6 +10,10 @@ pub const PAGE: usize = 4096;
 /// Bytes of all tables of a batch together: they stay in the nearest cache.
 pub const BATCH_BYTES: usize = 16 * 1024;
 const MAX_TABLES: usize = 256;
+
+/// How often a batch goes over its tables, if the call leaves them as they are or is an opening:
+/// such calls are short, and the clock's steps are not.
+pub const PASSES: usize = 16;
 
 pub const REPETITIONS: usize = 2001;
 pub const PLACES: usize = 64;
@@ -87,7 +91,7 @@ impl Clock {
         for turn in 0..BOARDS.len() {
             let which = (repetition + turn) % BOARDS.len();
             let batch = self.time_batch(BOARDS[which], task, layout);
-            times[which].push((batch - self.empty) / layout.tables as f64);
+            times[which].push((batch - self.empty) / (layout.tables * passes(task)) as f64);
         }
     }
 
@@ -99,11 +103,18 @@ impl Clock {
             table[..bytes].copy_from_slice(&task.table);
         }
         let begun = Instant::now();
-        for table in tables.chunks_exact_mut(layout.stride) {
-            black_box(board(black_box(task.call), &mut table[..bytes]));
+        for _ in 0..passes(task) {
+            for table in tables.chunks_exact_mut(layout.stride) {
+                black_box(board(black_box(task.call), &mut table[..bytes]));
+            }
         }
         begun.elapsed().as_nanos() as f64
     }
+}
+
+fn passes(task: &Task) -> usize {
+    let again = task.number != 0 || matches!(task.call, Call::Open(..));
+    if again { PASSES } else { 1 }
 }
 
 pub fn median(mut times: Vec<f64>) -> f64 {
