@@ -22,7 +22,10 @@ fn main() {
 fn print_calls(clock: &mut Clock) {
     println!("nanoseconds per call, median of {REPETITIONS} batches, the boards in turn;");
     println!("the tables are written anew just before each batch, uncounted, at another place of");
-    println!("a page each time; all tables of a batch fit into {} KB; openings and refused calls", BATCH_BYTES / 1024);
+    println!(
+        "a page each time; all tables of a batch fit into {} KB; openings and refused calls",
+        BATCH_BYTES / 1024
+    );
     println!("go over them {PASSES} times");
     let [ours, rust, c] = NAMES;
     for hall in halls() {

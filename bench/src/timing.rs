@@ -114,7 +114,11 @@ impl Clock {
 
 fn passes(task: &Task) -> usize {
     let again = task.number != 0 || matches!(task.call, Call::Open(..));
-    if again { PASSES } else { 1 }
+    if again {
+        PASSES
+    } else {
+        1
+    }
 }
 
 pub fn median(mut times: Vec<f64>) -> f64 {
