@@ -1,12 +1,12 @@
 -- The opening: what its questions answer, and the table that it leaves.
-use Prim.Native.Nat.{ℕ, suc, _-_, _*_, _≤_, _<_}
+use Prim.Native.Nat.{ℕ, zero, suc, _-_, _*_, _≤_, _<_}
 use native.Mathlib.Omega.{arith}
 use mathlib.Core.Bool.{true, false}
-use mathlib.Core.List.{List, [], _∷_, _++_}
-use mathlib.Core.Path.{_≡_, refl, sym, ap, _∙_}
-use lib.ListN.{length, take, drop, set, replicate, length-replicate}
+use mathlib.Core.List.{List, _∷_, _++_}
+use mathlib.Core.Path.{_≡_, ap, _∙_}
+use lib.ListN.{length, drop, set, replicate, length-replicate}
 use borrow.Author.Tests.{le-leb, lt-leb}
-use borrow.Rule.Slice.PartMut.{mid-len, midOf, post-is, putMid}
+use borrow.Rule.Slice.PartMut.{mid-len, midOf, putMid}
 use Rattle.rules.specs.Bytes.{wordsOfBytes}
 use Rattle.rules.specs.Hall.{Hall, hallLimits, maxDesks, maxPositions, maxScreens}
 use Rattle.rules.specs.Steps.{Answer, firstNo, inRange}
@@ -16,7 +16,7 @@ use Rattle.rules.specs.laws.table.EncodedStep.{hall-opens}
 use Rattle.rules.specs.laws.table.TableSteps.{accepted-open, refused-open}
 use Rattle.rules.specs.laws.table.WordBounds.{by-open}
 use Rattle.words.specs.Written.{Written}
-use Rattle.words.proofs.Laws.{length-words, part-written}
+use Rattle.words.proofs.Laws.{part-written}
 use Rattle.reply.specs.Answer.{answerOf, tableResult}
 use Rattle.reply.specs.declared.Reply.{Reply}
 use Rattle.reply.specs.declared.Reply.the-variants.{Accepted, BadDesks, BadPositions, BadScreens, TableShort}
@@ -60,40 +60,32 @@ module _ (H : Hall) (t : List ℕ) (r : Reply) (e : answerOf r ≡ openTable hal
   pub need-there : answerOf r .number ≡ 0 → need H ≤ length t
   need-there accepted = hall-opens hallLimits H t (is-opened accepted) .1
 
--- the words from the header up to the need were cleared, and then the three of the header stored
-opened : (H : Hall) (t : List ℕ) (n : ℕ) (ys : List ℕ) → firstNo (openQuestions hallLimits H t) ≡ 0 → n ≡ need H
-    → ys ≡ replicate (length (midOf headerWords (n - headerWords) t)) 0
-    → tableResult (Accepted 0) (set (set (set (putMid headerWords (n - headerWords) t ys) 0 (H .desks)) 1 (H .screens)) 2 (H .positions)) ≡ openTable hallLimits H t
-opened H t n ys asked-all e q =
-    let room : n ≤ length t = omega (arith, hall-opens hallLimits H t asked-all .1) in
-    let zeros : ys ≡ replicate (need H - headerWords) 0 = rw (mid-len headerWords n t room, e) at q in
-    let behind : drop (n - headerWords) (drop headerWords t) ≡ drop (need H) t = rw (← e) (post-is headerWords n t (omega arith)) in
-    rw (accepted-open hallLimits H t asked-all, stores t (ys ++ drop (n - headerWords) (drop headerWords t)) (omega arith), zeros, behind)
+-- the words up to the need were cleared, and then the three of the header stored
+opened : (H : Hall) (t : List ℕ) (n : ℕ) → firstNo (openQuestions hallLimits H t) ≡ 0 → n ≡ need H
+    → tableResult (Accepted 0) (set (set (set (putMid 0 (n - 0) t (replicate n 0)) 0 (H .desks)) 1 (H .screens)) 2 (H .positions)) ≡ openTable hallLimits H t
+opened H t n asked-all e =
+    let behind : n - 0 ≡ need H = omega (arith, e) in
+    rw (accepted-open hallLimits H t asked-all, behind, stores n (omega (arith, e)), e)
   where
-    stores : (u x : List ℕ) → headerWords ≤ length u
-        → set (set (set (take headerWords u ++ x) 0 (H .desks)) 1 (H .screens)) 2 (H .positions) ≡ H .desks ∷ H .screens ∷ H .positions ∷ x
-    stores [] x g = absurd (omega arith)
-    stores (a ∷ []) x g = absurd (omega arith)
-    stores (a ∷ b ∷ []) x g = absurd (omega arith)
-    stores (a ∷ b ∷ f ∷ u) x g = refl
+    stores : (n : ℕ) → headerWords ≤ n
+        → set (set (set (replicate n 0 ++ drop (need H) t) 0 (H .desks)) 1 (H .screens)) 2 (H .positions)
+        ≡ H .desks ∷ H .screens ∷ H .positions ∷ replicate (n - headerWords) 0 ++ drop (need H) t
+    stores zero g = absurd (omega arith)
+    stores (suc zero) g = absurd (omega arith)
+    stores (suc (suc zero)) g = absurd (omega arith)
+    stores (suc (suc (suc n))) g = let rest : suc (suc (suc n)) - headerWords ≡ n = omega arith in rw rest
 
 -- the same on bytes
-module _ (H : Hall) (bytes part : List ℕ) (n : ℕ) (e : n ≡ need H) (room : 2 * n ≤ length bytes)
-    (q : part ≡ replicate (length (midOf (2 * headerWords) (2 * n - 2 * headerWords) bytes)) 0) where
-  wide : length part ≡ 2 * n - 2 * headerWords
-  wide = ap length q ∙ length-replicate {A = ℕ} (length (midOf (2 * headerWords) (2 * n - 2 * headerWords) bytes)) 0 ∙ mid-len (2 * headerWords) (2 * n) bytes room
+module _ (H : Hall) (bytes part : List ℕ) (n : ℕ) (e : n ≡ need H) (room : 2 * n ≤ length bytes) (q : part ≡ replicate (length (midOf 0 (2 * n - 0) bytes)) 0) where
+  zeros : part ≡ replicate (2 * n) 0
+  zeros = let long : length (midOf 0 (2 * n - 0) bytes) ≡ 2 * n = mid-len 0 (2 * n) bytes room ∙ omega arith in rw long at q
 
-  pub cleared : Written bytes (putMid headerWords (n - headerWords) (wordsOfBytes bytes) (wordsOfBytes part)) (putMid (2 * headerWords) (2 * n - 2 * headerWords) bytes part)
-  cleared = part-written headerWords n bytes part (wordsOfBytes part) (omega (arith, e)) room wide refl
+  pub cleared : Written bytes (putMid 0 (n - 0) (wordsOfBytes bytes) (replicate n 0)) (putMid 0 (2 * n - 0) bytes part)
+  cleared = part-written 0 n bytes part (replicate n 0) (omega arith) room (ap length zeros ∙ length-replicate {A = ℕ} (2 * n) 0 ∙ omega arith) (ap wordsOfBytes zeros ∙ zero-words n)
 
   pub opened-bytes : firstNo (openQuestions hallLimits H (wordsOfBytes bytes)) ≡ 0
-      → tableResult (Accepted 0) (set (set (set (wordsOfBytes (putMid (2 * headerWords) (2 * n - 2 * headerWords) bytes part)) 0 (H .desks)) 1 (H .screens)) 2 (H .positions))
+      → tableResult (Accepted 0) (set (set (set (wordsOfBytes (putMid 0 (2 * n - 0) bytes part)) 0 (H .desks)) 1 (H .screens)) 2 (H .positions))
       ≡ openTable hallLimits H (wordsOfBytes bytes)
   opened-bytes asked =
-      let t = wordsOfBytes bytes in
-      let double : length (midOf (2 * headerWords) (2 * n - 2 * headerWords) bytes) ≡ 2 * (n - headerWords) = mid-len (2 * headerWords) (2 * n) bytes room ∙ omega arith in
-      let long : length (midOf headerWords (n - headerWords) t) ≡ n - headerWords = mid-len headerWords n t (omega (arith, room, length-words bytes)) in
-      let zeros : wordsOfBytes part ≡ replicate (length (midOf headerWords (n - headerWords) t)) 0 =
-      ap wordsOfBytes (q ∙ ap (λ (k : ℕ). replicate k 0) double) ∙ zero-words (n - headerWords) ∙ ap (λ (k : ℕ). replicate k 0) (sym long) in
       ap (λ (x : List ℕ). tableResult (Accepted 0) (set (set (set x 0 (H .desks)) 1 (H .screens)) 2 (H .positions))) (cleared .holds)
-      ∙ opened H t n (wordsOfBytes part) asked e zeros
+      ∙ opened H (wordsOfBytes bytes) n asked e

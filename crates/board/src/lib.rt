@@ -233,7 +233,7 @@ pub fn open(t: &mut [u8], desks: u16, screens: u16, positions: u16) -> Reply
         return r;
     }
     let n = Board::need(desks, screens, positions);
-    clear(&mut t[2 * HEADER..2 * n]);
+    clear(&mut t[0..2 * n]);
     put_word(t, DESKS, desks);
     put_word(t, SCREENS, screens);
     put_word(t, POSITIONS, positions);

@@ -8,7 +8,7 @@ use borrow.Author.Needs.{needs}
 use borrow.Rule.Slice.PartMut.{same-len-mid}
 use Rattle.rules.specs.Bytes.{wordsOfBytes}
 use Rattle.rules.specs.Hall.{Hall, hallOf}
-use Rattle.rules.specs.Table.{headerWords, need}
+use Rattle.rules.specs.Table.{need}
 use Rattle.words.proofs.Laws.{length-words, written-then}
 use Rattle.board.proofs.OpenLaws.{cleared, is-opened, need-there, not-opened, opened-bytes}
 use Rattle.board.proofs.ResultLaws.{matches-unchanged}
@@ -47,10 +47,7 @@ need-requires : tie.Need-need-requires
 need-requires c κs = search needs
 
 mul-clear : tie.Need-mul-clear
-mul-clear c = search needs
-
-mul-clear-2 : tie.Need-mul-clear-2
-mul-clear-2 c = omega (arith, c .need .ensures, there (c .before))
+mul-clear c = omega (arith, c .need .ensures, there (c .before))
 
 sub-clear : tie.Need-sub-clear
 sub-clear c = omega (arith, c .need .ensures)
@@ -68,7 +65,7 @@ put-word-requires : tie.Need-put-word-requires
 put-word-requires c κs =
     let after-clear = c .before .before .before in let after-need = after-clear .before .before in let else1 = after-need .before in
     let after-slice-known = else1 .before .before .before in let start = after-slice-known .before in
-    let same = same-len-mid {X = ℕ} (2 * headerWords) (2 * after-need .need .result - 2 * headerWords) (start .args .t .now) (after-clear .clear .last .0) (after-clear .clear .kept .0) in
+    let same = same-len-mid {X = ℕ} 0 (2 * after-need .need .result - 0) (start .args .t .now) (after-clear .clear .last .0) (after-clear .clear .kept .0) in
     omega (arith, same, there else1)
 
 put-word-requires-2 : tie.Need-put-word-requires-2
@@ -76,7 +73,7 @@ put-word-requires-2 c κs =
     let after-put-word = c .before .before .before in let after-t = after-put-word .before .before .before in let after-clear = after-t .before in
     let after-need = after-clear .before .before in let else1 = after-need .before in let after-slice-known = else1 .before .before .before in
     let start = after-slice-known .before in
-    let same = same-len-mid {X = ℕ} (2 * headerWords) (2 * after-need .need .result - 2 * headerWords) (start .args .t .now) (after-clear .clear .last .0) (after-clear .clear .kept .0) in
+    let same = same-len-mid {X = ℕ} 0 (2 * after-need .need .result - 0) (start .args .t .now) (after-clear .clear .last .0) (after-clear .clear .kept .0) in
     omega (arith, after-put-word .put-word .kept .0, same, there else1)
 
 put-word-requires-3 : tie.Need-put-word-requires-3
@@ -84,7 +81,7 @@ put-word-requires-3 c κs =
     let after-put-word2 = c .before .before .before in let after-t2 = after-put-word2 .before .before .before in let after-put-word = after-t2 .before in
     let after-t = after-put-word .before .before .before in let after-clear = after-t .before in let after-need = after-clear .before .before in
     let else1 = after-need .before in let after-slice-known = else1 .before .before .before in let start = after-slice-known .before in
-    let same = same-len-mid {X = ℕ} (2 * headerWords) (2 * after-need .need .result - 2 * headerWords) (start .args .t .now) (after-clear .clear .last .0) (after-clear .clear .kept .0) in
+    let same = same-len-mid {X = ℕ} 0 (2 * after-need .need .result - 0) (start .args .t .now) (after-clear .clear .last .0) (after-clear .clear .kept .0) in
     omega (arith, after-put-word2 .put-word2 .kept .0, after-put-word .put-word .kept .0, same, there else1)
 
 same-length : tie.Need-same-length
@@ -103,7 +100,7 @@ returns-2 c =
     let part = after-clear .clear .last .0 in
     let asked = is-opened (hall start) words (after-opening .opening .result) (after-opening .opening .ensures words (length-words bytes)) (omega (arith, after-number .number .ensures, else1 .if1 .left)) in
     let long : 2 * n ≤ length bytes = omega (arith, after-need .need .ensures, there else1) in
-    let same = same-len-mid {X = ℕ} (2 * headerWords) (2 * n - 2 * headerWords) bytes part (after-clear .clear .kept .0) in
+    let same = same-len-mid {X = ℕ} 0 (2 * n - 0) bytes part (after-clear .clear .kept .0) in
     let zeros = cleared (hall start) bytes part n (after-need .need .ensures) long (after-clear .clear .ensures) in
     let one = written-then zeros same (after-put-word .put-word .ensures) in
     let two = written-then one (after-put-word .put-word .kept .0 ∙ same) (after-put-word2 .put-word2 .ensures) in
@@ -115,4 +112,4 @@ returns-2 c =
     }
 
 pub open-spec : {M : Type 1} → statement M
-open-spec = tie.close (tie.spec opening-requires number-requires returns need-requires mul-clear mul-clear-2 sub-clear part-clear-start part-clear-end clear-requires put-word-requires put-word-requires-2 put-word-requires-3 same-length returns-2)
+open-spec = tie.close (tie.spec opening-requires number-requires returns need-requires mul-clear sub-clear part-clear-start part-clear-end clear-requires put-word-requires put-word-requires-2 put-word-requires-3 same-length returns-2)
