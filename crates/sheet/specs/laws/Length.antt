@@ -11,7 +11,7 @@ use Rattle.rules.specs.Hall.{Hall, hallLimits}
 use Rattle.rules.specs.Numbers.{Parsed, parsed, refusalOf, refused}
 use Rattle.rules.specs.Table.{openTable}
 use Rattle.lines.specs.laws.Longest.{end-length, line-length}
-use Rattle.sheet_rules.specs.Lines.{decimal, endLine, line, linesFrom, linesOf, printed}
+use Rattle.sheet_rules.specs.Lines.{endLine, line, linesFrom, linesOf, printed}
 use Rattle.sheet_rules.specs.Run.{runRecord}
 use Rattle.sheet_rules.specs.Sheet.{Carried, Edition, Record, afterHeader, bindRecords, carriedAfter, complete, decodeRecords, lentTable, maxBytes, more}
 use Rattle.sheet_rules.specs.Sheet.{noDesk, openedIf, openingNumber, reading, unopened}

@@ -1,7 +1,7 @@
 -- `tally::add_step` meets its contract.
 use native.Mathlib.Omega.{arith}
 use mathlib.Core.Bool.{Bool}
-use mathlib.Core.Path.{ap, sym, _∙_}
+use mathlib.Core.Path.{ap, _∙_}
 use borrow.Author.Needs.{needs}
 use Rattle.sheet_rules.specs.Tally.{addStep, oneMoreIf, tallyOf}
 use Rattle.tally.proofs.CodeLaws.{code-above, code-below, code-inside}

@@ -1,5 +1,4 @@
 -- The first board as a `WordBoard`, for which the laws of bytes are stated.
-use Prim.Native.Nat.{ℕ}
 use native.Mathlib.Omega.{arith}
 use Rattle.rules.specs.Hall.{Limits}
 use Rattle.rules.specs.Table.{openTable, stepTable}

@@ -5,7 +5,7 @@ use mathlib.Core.Path.{_≡_, refl, sym, ap, ap₂, _∙_}
 use mathlib.Core.Bool.{Bool, true, false, not, _&&_}
 use mathlib.Core.List.{List, [], _∷_, _++_, map, append-assoc}
 use lib.ListN.{length, getD, take, drop, replicate, length-append, length-drop, take-append-drop, drop-of-length-le}
-use lib.Seq.{take-add, take-all, take-take, length-take-le, drop-drop, drop-cons, getD-drop, take-at, drop-at}
+use lib.Seq.{take-add, length-take-le, drop-drop, drop-cons, getD-drop, take-at, drop-at}
 use lib.Dec.{leb, eqb}
 use borrow.Author.Tests.{eqb-true, eqb-false, leb-true}
 use Rattle.rules.specs.Hall.{TestedSlot, maxAllScreens}

@@ -7,7 +7,7 @@ use mathlib.Core.Bool.{Bool, true, false, not, _&&_, _||_, true≢false}
 use mathlib.Core.List.{List, [], _∷_, _++_, append-assoc}
 use lib.ListN.{length, take, getD, drop, set, replicate, length-replicate, length-drop, length-set, List·getD-append}
 use lib.Seq.{getD-set-same, getD-set-other, length-take-le, getD-drop, getD-take}
-use lib.Dec.{eqb, ltb}
+use lib.Dec.{eqb}
 use borrow.Author.Tests.{eqb-true, eqb-false, lt-ltb, ltb-false}
 use native.Mathlib.Decide.{decLt}
 use Rattle.rules.specs.Bytes.{Words16}

@@ -3,12 +3,12 @@ use Prim.Native.Nat.{ℕ, zero, suc, _+_, _*_, _-_, _≤_, _<_}
 use native.Mathlib.Omega.{arith}
 use native.Mathlib.Nat.{mul-pos, mul-le-mul}
 use mathlib.Core.Path.{_≡_, refl, sym, ap, ap₂, _∙_}
-use mathlib.Core.Bool.{Bool, true, cond, not, _&&_}
+use mathlib.Core.Bool.{Bool, true, _&&_}
 use mathlib.Core.List.{List, [], _∷_, _++_, map, append-assoc}
-use lib.ListN.{length, getD, take, drop, set, replicate, length-append, length-replicate, length-set, replicate-append-replicate}
+use lib.ListN.{length, getD, take, drop, set, replicate, length-append, length-set, replicate-append-replicate}
 use lib.Seq.{take-at, drop-at}
-use lib.Dec.{leb, ltb, eqb, eqb·suc-zero}
-use borrow.Author.Tests.{le-leb, eqb-false, ltb-true, not-true, leb-true}
+use lib.Dec.{leb}
+use borrow.Author.Tests.{le-leb, leb-true}
 use Rattle.rules.specs.Hall.{Desk, Formed, Hall, Limits, State, allScreens, deskOf, emptyDesk, fresh, maxAllScreens, maxDesks, maxPositions, maxScreens}
 use Rattle.rules.specs.Hall.{screenIndex, usedSlots, withDesk, withHeld, withShown}
 use Rattle.rules.specs.Lists.{chunks, concat, every}

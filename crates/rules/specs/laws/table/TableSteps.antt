@@ -3,11 +3,11 @@ use Prim.Native.Nat.{ℕ, zero, suc, _+_, _*_, _-_, _≤_, _<_}
 use native.Mathlib.Omega.{arith}
 use native.Mathlib.Nat.{mul-le-mul, mul-le-mul-right}
 use mathlib.Core.Path.{_≡_, sym, ap, _∙_, refl}
-use mathlib.Core.Bool.{Bool, true, false, cond, _&&_}
+use mathlib.Core.Bool.{Bool, true, false, _&&_}
 use mathlib.Core.List.{List, map, [], _∷_}
 use lib.ListN.{length, getD, take, drop}
 use lib.Seq.{getD-take, getD-drop, drop-drop}
-use lib.Dec.{leb, eqb, eqb·suc-zero, T}
+use lib.Dec.{leb, T}
 use borrow.Author.Tests.{leb-true}
 use Rattle.rules.specs.Hall.{Desk, Hall, Limits, TestedSlot, allScreens, deskOf, emptyDesk, maxAllScreens, screenIndex}
 use Rattle.rules.specs.Lists.{chunks, every}
