@@ -9,25 +9,73 @@ mod timing;
 use boards::BOARDS;
 use halls::{tasks, Task, HALLS};
 use reference::Hall;
+use std::env;
+use std::process::Command;
 use timing::{median, Clock, Times, BATCH_BYTES, PASSES, PLACES, REPETITIONS};
 
 const NAMES: [&str; 3] = ["ours", "Rust", "C"];
 
+/// The median of a call of 4 ns differs by up to 1 ns from process to process, also where they
+/// are laid out alike: so the calls are timed in several.
+const PROCESSES: usize = 5;
+/// The argument that makes a process one of these.
+const TIMES_ONLY: &str = "times-only";
+
 fn main() {
-    let mut clock = Clock::new();
-    print_calls(&mut clock);
-    print_places(&mut clock);
+    if env::args().any(|argument| argument == TIMES_ONLY) {
+        print_times();
+    } else {
+        print_calls();
+        print_places(&mut Clock::new());
+    }
 }
 
-fn print_calls(clock: &mut Clock) {
-    println!("nanoseconds per call, median of {REPETITIONS} batches, the boards in turn;");
-    println!("the tables are written anew just before each batch, uncounted, at another place of");
+/// The times of every row, a line each.
+fn print_times() {
+    let mut clock = Clock::new();
+    for hall in halls() {
+        for marks in [false, true] {
+            for task in tasks(&hall, marks).unwrap_or_default() {
+                agree(&task);
+                let [ours, rust, c] = clock.time(&task);
+                println!("{ours} {rust} {c}");
+            }
+        }
+    }
+}
+
+/// The times of every row, as a process of its own sees them.
+fn times_of_a_process() -> Vec<Times> {
+    let program = env::current_exe().expect("a program has a path");
+    let output = Command::new(program).arg(TIMES_ONLY).output().expect("a program starts again");
+    assert!(output.status.success(), "{}", String::from_utf8_lossy(&output.stderr));
+    let printed = String::from_utf8(output.stdout).expect("numbers are printed");
+    let row = |line: &str| {
+        let times: Vec<f64> = line.split(' ').map(|time| time.parse().expect("a time")).collect();
+        times.try_into().expect("a time of each board")
+    };
+    printed.lines().map(row).collect()
+}
+
+fn medians_of_processes() -> Vec<Times> {
+    let processes: Vec<_> = (0..PROCESSES).map(|_| times_of_a_process()).collect();
+    let median_of =
+        |row: usize, board: usize| median(processes.iter().map(|rows| rows[row][board]).collect());
+    (0..processes[0].len()).map(|row| [0, 1, 2].map(|board| median_of(row, board))).collect()
+}
+
+fn print_calls() {
+    println!("nanoseconds per call, median of {PROCESSES} processes, of each the median of {REPETITIONS} batches,");
     println!(
-        "a page each time; all tables of a batch fit into {} KB; openings and refused calls",
+        "the boards in turn; the tables are written anew just before each batch, uncounted, at"
+    );
+    println!(
+        "another place of a page each time; all tables of a batch fit into {} KB; openings",
         BATCH_BYTES / 1024
     );
-    println!("go over them {PASSES} times");
+    println!("and refused calls go over them {PASSES} times");
     let [ours, rust, c] = NAMES;
+    let mut rows = medians_of_processes().into_iter();
     for hall in halls() {
         for marks in [false, true] {
             let Some(tasks) = tasks(&hall, marks) else { continue };
@@ -36,8 +84,7 @@ fn print_calls(clock: &mut Clock) {
             println!("{}, batches of {tables} calls", title(&hall, marks));
             println!("{:<38}{ours:>8}{rust:>8}{c:>8}{:>11}{:>8}", "call", "ours/Rust", "ours/C");
             for task in tasks {
-                agree(&task);
-                let [ours, rust, c] = clock.time(&task);
+                let [ours, rust, c] = rows.next().expect("a row for each task");
                 println!(
                     "{:<38}{ours:>8.1}{rust:>8.1}{c:>8.1}{:>11.2}{:>8.2}",
                     task.name,

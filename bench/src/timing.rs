@@ -15,7 +15,7 @@ const MAX_TABLES: usize = 256;
 /// such calls are short, and the clock's steps are not.
 pub const PASSES: usize = 16;
 
-pub const REPETITIONS: usize = 2001;
+pub const REPETITIONS: usize = 1001;
 pub const PLACES: usize = 64;
 const REPETITIONS_OF_A_PLACE: usize = 201;
 
