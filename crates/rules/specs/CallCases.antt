@@ -36,8 +36,8 @@ named step = below 60 (footprint twoByTwo (2 sends step))
 -- take and drop, the one screen; swap, the position, and the owed word only where the position holds a session; retire, the owed word, the
 -- count of waiting and the first unused slot; collect, all of the record but the owed word
 pub words-named :
-    map named (Take 1 2 ∷ Drop 2 ∷ Swap 1 7 ∷ Swap 2 7 ∷ Retire ∷ [])
-    ≡ (7 ∷ []) ∷ (8 ∷ []) ∷ (3 ∷ 30 ∷ []) ∷ (4 ∷ []) ∷ (30 ∷ 34 ∷ 44 ∷ []) ∷ []
+    map named (Take 1 2 ∷ Take 2 2 ∷ Drop 1 ∷ Drop 2 ∷ Swap 1 7 ∷ Swap 2 7 ∷ Retire ∷ [])
+    ≡ (7 ∷ []) ∷ (8 ∷ []) ∷ (7 ∷ []) ∷ (8 ∷ []) ∷ (3 ∷ 30 ∷ []) ∷ (4 ∷ []) ∷ (30 ∷ 34 ∷ 44 ∷ []) ∷ []
 words-named = refl
 
 pub words-named-by-collect : named Collect ≡ below 51 (λ i. ltb 30 i)
@@ -47,8 +47,8 @@ words-named-by-collect = refl
 pub words-named-by-opening : below 60 (openingFootprint (hallOf 1 1 1)) ≡ below 20 (λ i. true)
 words-named-by-opening = refl
 
--- The bytes of word 2, in five words and an odd byte; the odd byte belongs to no word.
-pub bytes-named : (below 20 (onBytesOf (replicate 11 7) (eqb 2)) ≡ 4 ∷ 5 ∷ []) × (below 20 (onBytesOf (replicate 11 7) (eqb 5)) ≡ [])
+-- The bytes of word 4, in five words and an odd byte; the odd byte belongs to no word.
+pub bytes-named : (below 20 (onBytesOf (replicate 11 7) (eqb 4)) ≡ 8 ∷ 9 ∷ []) × (below 20 (onBytesOf (replicate 11 7) (eqb 5)) ≡ [])
 bytes-named = (refl, refl)
 
 -- The numbers of each step's refusals and of the opening's.
@@ -141,7 +141,8 @@ pub packed-answers :
     (pack (record { number = 6; session = 300 }) ≡ 393516)
     × (unpack 393516 ≡ record { number = 6; session = 300 })
     × (unpack 393216 ≡ record { number = 6; session = 0 })
-packed-answers = (refl, refl, refl)
+    × (unpack 65535 ≡ record { number = 0; session = 65535 })
+packed-answers = (refl, refl, refl, refl)
 
 -- A hall of 1, 1, 1 in 41 bytes: opened, and then with 300 at position 1. The odd last byte is unchanged.
 abbrev oneDesk : ℕ → ℕ → List ℕ
@@ -218,10 +219,11 @@ wideState = record { held = 7 ∷ 8 ∷ 9 ∷ 10 ∷ []; shown = 1 ∷ 2 ∷ 3 �
 -- A desk, a screen and a position that the hall has, and the nearest numbers that it does not have.
 pub seen-parts :
     (map (λ (d : ℕ). deskAt wide wideState d .owed) (0 ∷ 1 ∷ 2 ∷ 3 ∷ []) ≡ 0 ∷ 5 ∷ 6 ∷ 0 ∷ [])
+    × (map (screenAt wide wideState 1) (0 ∷ 1 ∷ 2 ∷ 3 ∷ 4 ∷ []) ≡ 0 ∷ 1 ∷ 2 ∷ 3 ∷ 0 ∷ [])
     × (map (screenAt wide wideState 2) (0 ∷ 1 ∷ 2 ∷ 3 ∷ 4 ∷ []) ≡ 0 ∷ 4 ∷ 5 ∷ 6 ∷ 0 ∷ [])
     × (map (λ (d : ℕ). screenAt wide wideState d 2) (0 ∷ 1 ∷ 2 ∷ 3 ∷ []) ≡ 0 ∷ 2 ∷ 5 ∷ 0 ∷ [])
     × (map (positionAt wide wideState) (0 ∷ 1 ∷ 4 ∷ 5 ∷ []) ≡ 0 ∷ 7 ∷ 10 ∷ 0 ∷ [])
-seen-parts = (refl, refl, refl, refl)
+seen-parts = (refl, refl, refl, refl, refl)
 
 -- The five steps, each with different numbers.
 abbrev steps : List Step

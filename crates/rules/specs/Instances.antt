@@ -13,7 +13,7 @@ use Rattle.rules.specs.Hall.{State}
 use Rattle.rules.specs.History.{CollectBetween, CollectsBetweenRetires, DroppedBefore, Effect, Linked, NextDrop, NextRetire, NextSwap, Shows, Unshown, _by_, byDesk, collectsOf, drops}
 use Rattle.rules.specs.History.{effectAt, handBacks, handBacksOf, handsBack, isCollect, isRetireAttempt, outOfRoom, retirements, retirementsOf, retires, swaps, takes}
 use Rattle.rules.specs.Lists.{occurrences}
-use Rattle.rules.specs.Locality.{OthersStay, deskAt, positionAt, screenAt, writesPosition, writesScreen}
+use Rattle.rules.specs.Locality.{OthersStay, SameView, StepsAlike, deskAt, namedWords, positionAt, screenAt, screensRead, writesPosition, writesScreen}
 use Rattle.rules.specs.Steps.{Drop, Event, Result, Swap, _sends_}
 use Rattle.rules.specs.Table.{owedOffset, positionWord, recordOf, screenWord}
 
@@ -116,8 +116,8 @@ module _ (history : List Event) (tables : ℕ → List ℕ) where
       → Unshown (effectAt history) 9 4 7 → retirementsOf 2 9 (take 5 history) ≤ handBacksOf 2 9 (take 8 history)
   says-within claim = claim 2 9 4 7
 
-  pub says-closing : ClosingRule wide tables → Unreferenced wide (tables 5) 9 → ShownNowhere wide (tables 5) 9
-  says-closing rule = rule 5 9 (λ none. omega arith)
+  pub says-closing : ClosingRule wide tables → (_≡_ {A = ℕ} 9 0 → ⊥) → Unreferenced wide (tables 5) 9 → ShownNowhere wide (tables 5) 9
+  says-closing rule = rule 5 9
 
   pub says-put-fresh : PutFresh wide history tables 9 5 → (i : ℕ) → i < 5 → putAt history i ≡ 9 → Unreferenced wide (tables i) 9
   says-put-fresh fresh = fresh
@@ -142,7 +142,21 @@ module _ (table : List ℕ) where
   pub says-stands-nowhere : StandsNowhere wide table 9 → Unreferenced wide table 9 × ShownNowhere wide table 9
   says-stands-nowhere nowhere = (nowhere .unreferenced, nowhere .unshown)
 
--- ---- Locality: what a drop of desk 2, screen 3, and a swap of desk 2 at position 4 leave unchanged.
+-- ---- Locality: what a drop of desk 2, screen 3, reads in two states, and what it does there.
+module _ (left right : State) (here there : Result State) where
+  pub says-same-view : SameView wide left right (2 sends Drop 3)
+      → (deskAt wide left 2 ≡ deskAt wide right 2)
+      × (namedWords wide left (2 sends Drop 3) ≡ namedWords wide right (2 sends Drop 3))
+      × (screensRead wide left (2 sends Drop 3) ≡ screensRead wide right (2 sends Drop 3))
+  says-same-view view = (view .desk, view .named, view .read)
+
+  pub says-steps-alike : StepsAlike wide (2 sends Drop 3) here there
+      → (here .answer ≡ there .answer)
+      × (deskAt wide (here .after) 2 ≡ deskAt wide (there .after) 2)
+      × (namedWords wide (here .after) (2 sends Drop 3) ≡ namedWords wide (there .after) (2 sends Drop 3))
+  says-steps-alike alike = (alike .answer, alike .desk, alike .named)
+
+-- What a drop of desk 2, screen 3, and a swap of desk 2 at position 4 leave unchanged.
 module _ (before after : State) where
   pub says-desks-stay : OthersStay wide (2 sends Drop 3) before after → deskAt wide after 1 ≡ deskAt wide before 1
   says-desks-stay stay = stay .desks 1 (λ same. omega arith)

@@ -26,11 +26,11 @@ record-by-fields = refl
 
 -- One record of each code, with fields that all differ, and its bytes; written, and read at the second byte of a sheet.
 abbrev oneOfEach : List Record
-oneOfEach = recordFor 1 2 3 4 0 ∷ recordFor 2 2 3 0 0 ∷ recordFor 3 2 0 4 500 ∷ recordFor 4 2 0 0 0 ∷ recordFor 5 2 0 0 0 ∷ []
+oneOfEach = recordFor 1 2 3 4 0 ∷ recordFor 2 2 3 0 0 ∷ recordFor 3 2 0 4 500 ∷ recordFor 4 2 0 0 0 ∷ recordFor 5 6 0 0 0 ∷ []
 
 abbrev theirBytes : List (List ℕ)
 theirBytes =
-    (0x01 ∷ 0x02 ∷ 0x03 ∷ 0x04 ∷ []) ∷ (0x02 ∷ 0x02 ∷ 0x03 ∷ []) ∷ (0x03 ∷ 0x02 ∷ 0x04 ∷ 0xF4 ∷ 0x03 ∷ []) ∷ (0x04 ∷ 0x02 ∷ []) ∷ (0x05 ∷ 0x02 ∷ []) ∷ []
+    (0x01 ∷ 0x02 ∷ 0x03 ∷ 0x04 ∷ []) ∷ (0x02 ∷ 0x02 ∷ 0x03 ∷ []) ∷ (0x03 ∷ 0x02 ∷ 0x04 ∷ 0xF4 ∷ 0x03 ∷ []) ∷ (0x04 ∷ 0x02 ∷ []) ∷ (0x05 ∷ 0x06 ∷ []) ∷ []
 
 pub records-written : map (hallEdition .encodeRecord noDesk) oneOfEach ≡ theirBytes
 unfolding encodeRecord encodeNumber
@@ -38,7 +38,7 @@ records-written = refl
 
 pub records-read :
     map (λ (bytes : List ℕ). hallEdition .decodeRecord noDesk (0x09 ∷ bytes) 1) theirBytes
-    ≡ parsed (recordFor 1 2 3 4 0) 5 ∷ parsed (recordFor 2 2 3 0 0) 4 ∷ parsed (recordFor 3 2 0 4 500) 6 ∷ parsed (recordFor 4 2 0 0 0) 3 ∷ parsed (recordFor 5 2 0 0 0) 3 ∷ []
+    ≡ parsed (recordFor 1 2 3 4 0) 5 ∷ parsed (recordFor 2 2 3 0 0) 4 ∷ parsed (recordFor 3 2 0 4 500) 6 ∷ parsed (recordFor 4 2 0 0 0) 3 ∷ parsed (recordFor 5 6 0 0 0) 3 ∷ []
 unfolding decodeRecord decodeNumber
 records-read = refl
 

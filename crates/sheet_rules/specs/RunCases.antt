@@ -7,7 +7,7 @@ use Rattle.rules.specs.Cases.{_⇒_, ok, refusedWith}
 use Rattle.rules.specs.Hall.{hallLimits}
 use Rattle.rules.specs.Steps.{Answer, Collect, Drop, Event, Retire, Swap, Take, _sends_, refuse}
 use Rattle.rules.specs.Table.{sound, stepTable}
-use Rattle.sheet_rules.specs.Lines.{decimal, endLine, eventLines, line, linesFrom}
+use Rattle.sheet_rules.specs.Lines.{decimal, endLine, eventLines, line, linesFrom, spaced}
 use Rattle.sheet_rules.specs.Run.{callOf, callsIn, runRecord}
 use Rattle.sheet_rules.specs.Sheet.{complete, more, recordFor}
 use Rattle.sheet_rules.specs.SheetCases.{characters, text}
@@ -96,6 +96,10 @@ our-tallies = refl
 pub our-lines : map (line 0 9 10) (99 ∷ 100 ∷ 65535 ∷ []) ≡ text ("0 9 10 99" ∷ []) ∷ text ("0 9 10 100" ∷ []) ∷ text ("0 9 10 65535" ∷ []) ∷ []
 unfolding decimal line
 our-lines = refl
+
+-- A line of no numbers is its newline.
+pub empty-line : spaced [] ≡ 10 ∷ []
+empty-line = refl
 
 -- The largest number of 64 bits has twenty digits.
 pub twenty-digits : decimal 18446744073709551615 ≡ characters "18446744073709551615"

@@ -20,6 +20,9 @@ good-take = record { code = refl; desk = omega arith; screen = omega arith; posi
 pub good-swap : GoodRecord 999 (recordFor 3 65535 0 65535 999)
 good-swap = record { code = refl; desk = omega arith; screen = refl; position = omega arith; session = omega arith }
 
+pub good-drop : GoodRecord 999 (recordFor 2 3 4 0 0)
+good-drop = record { code = refl; desk = omega arith; screen = omega arith; position = refl; session = refl }
+
 pub good-retire : GoodRecord 999 (recordFor 4 65535 0 0 0)
 good-retire = record { code = refl; desk = omega arith; screen = refl; position = refl; session = refl }
 
