@@ -9,6 +9,7 @@ mod timing;
 use boards::BOARDS;
 use halls::{tasks, Task, HALLS};
 use reference::Hall;
+use std::array::from_fn;
 use std::env;
 use std::process::Command;
 use timing::{median, Clock, Times, BATCH_BYTES, PASSES, PLACES, REPETITIONS};
@@ -57,11 +58,12 @@ fn times_of_a_process() -> Vec<Times> {
     printed.lines().map(row).collect()
 }
 
+/// The same, as the median of the processes.
 fn medians_of_processes() -> Vec<Times> {
     let processes: Vec<_> = (0..PROCESSES).map(|_| times_of_a_process()).collect();
-    let median_of =
-        |row: usize, board: usize| median(processes.iter().map(|rows| rows[row][board]).collect());
-    (0..processes[0].len()).map(|row| [0, 1, 2].map(|board| median_of(row, board))).collect()
+    let times = |row: usize, board: usize| processes.iter().map(|rows| rows[row][board]).collect();
+    let medians = |row: usize| from_fn(|board| median(times(row, board)));
+    (0..processes[0].len()).map(medians).collect()
 }
 
 fn print_calls() {
