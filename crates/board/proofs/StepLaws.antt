@@ -2,16 +2,16 @@
 use Prim.Native.Nat.{ℕ, zero, suc, _+_, _-_, _≤_, _<_}
 use native.Mathlib.Nat.{add-assoc}
 use native.Mathlib.Omega.{arith}
-use mathlib.Core.Bool.{false}
+use mathlib.Core.Bool.{Bool, true, false, cond}
 use mathlib.Core.List.{List, [], _∷_}
 use mathlib.Core.Path.{_≡_, refl, sym, ap, ap₂, _∙_}
 use lib.Dec.{eqb·suc-zero}
 use lib.ListN.{length, getD, take, drop, set, length-drop}
 use lib.Seq.{getD-drop, getD-set-other, getD-take, length-take-le, set-getD}
-use borrow.Author.Tests.{ne-eqb}
+use borrow.Author.Tests.{eq-eqb, ne-eqb}
 use borrow.Rule.Slice.PartMut.{put-same}
 use Rattle.rules.specs.Hall.{Desk, Hall, allScreens, deskOf, hallLimits}
-use Rattle.rules.specs.Steps.{Call, Collect, Collected, Drop, Retire, Swap, Take, collect, collectSeeing, firstNo, inRange, nextScreens, perform, retire, _sends_, accept, refuse}
+use Rattle.rules.specs.Steps.{Call, Collect, Collected, Drop, Retire, Swap, Take, collect, collectSeeing, firstNo, inRange, isRepeat, nextScreens, perform, retire, _sends_, accept, refuse}
 use Rattle.rules.specs.Steps.{retireQuestions}
 use Rattle.rules.specs.Table.{decode, decodeDesk, encodeDesk, hallIn, headerWords, positionWord, putRecord, recordOf, scannedOffset, stepTable, tableAfter}
 use Rattle.rules.specs.laws.table.EncodedStep.{some-screens}
@@ -82,20 +82,36 @@ module _ {t : List ℕ} {d : ℕ} {p : Location} (e : Admitted t d p) where
       pub swap-owing : (getD t (p .start) 0 ≡ 0 → ⊥) → tableResult Owing t ≡ stepTable hallLimits t (d sends Swap q v)
       swap-owing some = refused-as 11 (d sends Swap q v) (rw (e .yes-desk, h .yes-position, owes, ne-eqb (getD t (p .start) 0) 0 some))
 
-      pub swap-accepted : getD t (p .start) 0 ≡ 0
-          → let old = getD t (positionWord q) 0 in tableResult (Accepted old) (set (set t (positionWord q) v) (p .start) old) ≡ stepTable hallLimits t (d sends Swap q v)
-      swap-accepted none =
+      -- an accepted swap, given whether it is a repeat
+      swap-accepted-as : getD t (p .start) 0 ≡ 0 → (repeat : Bool)
+          → let old = getD t (positionWord q) 0 in
+          isRepeat old v ≡ repeat
+          → tableResult (Accepted old) (cond repeat t (set (set t (positionWord q) v) (p .start) old)) ≡ stepTable hallLimits t (d sends Swap q v)
+      swap-accepted-as none repeat is =
           let old = getD t (positionWord q) 0 in
-          (λ j. record { answer = record { number = 0; session = sym (h .holds) j }; after = set (set t (positionWord q) v) (e .start-is j) old })
+          (λ j. record {
+            answer = record { number = 0; session = sym (h .holds) j };
+            after = cond (sym is j) t (set (set t (positionWord q) v) (e .start-is j) old);
+          })
           ∙ accepted-as (d sends Swap q v) (rw (e .yes-desk, h .yes-position, owes, none))
 
+      -- the position holds it already: nothing is written
+      pub swap-repeated : getD t (p .start) 0 ≡ 0 → getD t (positionWord q) 0 ≡ v
+          → tableResult (Accepted (getD t (positionWord q) 0)) t ≡ stepTable hallLimits t (d sends Swap q v)
+      swap-repeated none same = swap-accepted-as none true (eq-eqb (getD t (positionWord q) 0) v same)
+
+      pub swap-accepted : getD t (p .start) 0 ≡ 0
+          → let old = getD t (positionWord q) 0 in
+          (old ≡ v → ⊥) → tableResult (Accepted old) (set (set t (positionWord q) v) (p .start) old) ≡ stepTable hallLimits t (d sends Swap q v)
+      swap-accepted none other = swap-accepted-as none false (ne-eqb (getD t (positionWord q) 0) v other)
+
       -- nothing stood there: the owed word stays 0
-      pub swap-accepted-none : getD t (p .start) 0 ≡ 0 → getD t (positionWord q) 0 ≡ 0
+      pub swap-accepted-none : getD t (p .start) 0 ≡ 0 → (getD t (positionWord q) 0 ≡ v → ⊥) → getD t (positionWord q) 0 ≡ 0
           → tableResult (Accepted (getD t (positionWord q) 0)) (set t (positionWord q) v) ≡ stepTable hallLimits t (d sends Swap q v)
-      swap-accepted-none none empty =
+      swap-accepted-none none other empty =
           let after : List ℕ = set t (positionWord q) v in
           let owed : getD after (p .start) 0 ≡ getD t (positionWord q) 0 = getD-set-other t (positionWord q) (p .start) v 0 (λ z. omega (arith, z, h .apart (p .start) (e .start-is))) ∙ none ∙ sym empty in
-          (λ j. tableResult (Accepted (getD t (positionWord q) 0)) ((sym (set-getD after (p .start) 0) ∙ ap (set after (p .start)) owed) j)) ∙ swap-accepted none
+          (λ j. tableResult (Accepted (getD t (positionWord q) 0)) ((sym (set-getD after (p .start) 0) ∙ ap (set after (p .start)) owed) j)) ∙ swap-accepted none other
 
   -- ---- retire
   module _ (l : Lent t d p) where

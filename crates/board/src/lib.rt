@@ -335,6 +335,9 @@ fn swap_at(t: &mut [u8], desk: u16, location: Location, position: u16, session: 
     }
     let at = HEADER + (position as usize - 1);
     let old = word(t, at);
+    if old == session {
+        return Reply::Accepted(old);
+    }
     put_word(t, at, session);
     if old != 0 {
         put_word(t, owed, old);
@@ -342,7 +345,8 @@ fn swap_at(t: &mut [u8], desk: u16, location: Location, position: u16, session: 
     Reply::Accepted(old)
 }
 
-// Swap: the position holds the new session or 0; the reply is the old one, and the desk owes it if it is not 0.
+// Swap: the position holds the new session or 0; the reply is the old one, and the desk owes it if it is not 0. A repeat, a swap to what
+// the position holds already, writes nothing.
 pub fn swap(t: &mut [u8], desk: u16, position: u16, session: u16) -> Reply
     ensures { λ r. ⌜ Stepped (desk sends Swap position session) (now (t .entry)) r (now (t .exit)) ⌝ }
 {

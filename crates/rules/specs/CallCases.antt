@@ -33,11 +33,12 @@ twoByTwo = (2 ∷ 2 ∷ 2 ∷ 5 ∷ 0 ∷ 0 ∷ 0 ∷ 0 ∷ 6 ∷ []) ++ (replic
 abbrev named : Step → List ℕ
 named step = below 60 (footprint twoByTwo (2 sends step))
 
--- take and drop, the one screen; swap, the position, and the owed word only where the position holds a session; retire, the owed word, the
+-- take and drop, the one screen; swap, the position, and the owed word only where the position holds a session, and neither where it holds
+-- what the swap sends, a session or 0; retire, the owed word, the
 -- count of waiting and the first unused slot; collect, all of the record but the owed word
 pub words-named :
-    map named (Take 1 2 ∷ Take 2 2 ∷ Drop 1 ∷ Drop 2 ∷ Swap 1 7 ∷ Swap 2 7 ∷ Retire ∷ [])
-    ≡ (7 ∷ []) ∷ (8 ∷ []) ∷ (7 ∷ []) ∷ (8 ∷ []) ∷ (3 ∷ 30 ∷ []) ∷ (4 ∷ []) ∷ (30 ∷ 34 ∷ 44 ∷ []) ∷ []
+    map named (Take 1 2 ∷ Take 2 2 ∷ Drop 1 ∷ Drop 2 ∷ Swap 1 7 ∷ Swap 2 7 ∷ Swap 1 0 ∷ Swap 1 5 ∷ Swap 2 0 ∷ Retire ∷ [])
+    ≡ (7 ∷ []) ∷ (8 ∷ []) ∷ (7 ∷ []) ∷ (8 ∷ []) ∷ (3 ∷ 30 ∷ []) ∷ (4 ∷ []) ∷ (3 ∷ 30 ∷ []) ∷ [] ∷ [] ∷ (30 ∷ 34 ∷ 44 ∷ []) ∷ []
 words-named = refl
 
 pub words-named-by-collect : named Collect ≡ below 51 (λ i. ltb 30 i)
@@ -156,6 +157,11 @@ pub swap-bytes : stepBytes hallLimits (oneDesk 0 0) (1 sends Swap 1 300) ≡ acc
 unfolding stepBytes stepTable overwriteWords sound recordSound encodeDesk decodeDesk
 swap-bytes = refl
 
+-- The repeat of that swap: every byte is unchanged.
+pub repeat-bytes : stepBytes hallLimits (oneDesk 0x2C 0x01) (1 sends Swap 1 300) ≡ accept 300 (oneDesk 0x2C 0x01)
+unfolding stepBytes stepTable overwriteWords sound recordSound encodeDesk decodeDesk
+repeat-bytes = refl
+
 -- A call on bytes agrees with the call on words, `accept 7 (3 ∷ 2 ∷ 4 ∷ [])` on three words and an odd byte.
 abbrev AgreesWith : Result (List ℕ) → Result (List ℕ) → Type 0
 AgreesWith = Agrees (1 ∷ 0 ∷ 2 ∷ 0 ∷ 4 ∷ 0 ∷ 9 ∷ [])
@@ -237,7 +243,7 @@ pub seen-by-steps :
     × (screensRead wide wideState (1 sends Collect) ≡ [])
 seen-by-steps = (refl, refl, refl)
 
--- Which of the screens 1 to 3 and of the positions 1 to 3 each step writes.
+-- Which of the screens 1 to 3 and of the positions 1 to 3 each step may write.
 abbrev writtenOf : (Step → ℕ → Bool) → List (List ℕ)
 writtenOf writes = map (λ (step : Step). map (λ (n : ℕ). toNat (writes step n)) (1 ∷ 2 ∷ 3 ∷ [])) steps
 

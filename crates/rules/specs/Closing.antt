@@ -2,13 +2,14 @@
 -- Document 00: "A video session must never be closed under an operator who is steering by it".
 use Prim.Native.Nat.{ℕ, zero, suc, _≤_, _<_}
 use mathlib.Core.Path.{_≡_}
+use mathlib.Core.Bool.{cond}
 use mathlib.Core.List.{List, [], _∷_}
 use lib.ListN.{getD}
 use Rattle.rules.specs.Demands.{listOfDesk}
 use Rattle.rules.specs.Hall.{Hall}
 use Rattle.rules.specs.History.{_by_, effectAt, handsBack}
 use Rattle.rules.specs.Lists.{occurrences}
-use Rattle.rules.specs.Steps.{Collect, Drop, Event, Retire, Step, Swap, Take}
+use Rattle.rules.specs.Steps.{Collect, Drop, Event, Retire, Step, Swap, Take, isRepeat}
 use Rattle.rules.specs.Table.{owedOffset, positionWord, recordOf, screenWord}
 
 -- Session s is unreferenced: it is at no position, no desk owes it, and it is on no desk's list.
@@ -32,22 +33,23 @@ pub record StandsNowhere (hall : Hall) (table : List ℕ) (s : ℕ) : Type 0 whe
 abbrev pub ClosingRule : Hall → (ℕ → List ℕ) → Type 0
 ClosingRule hall tables = (i s : ℕ) → (s ≡ 0 → ⊥) → Unreferenced hall (tables i) s → ShownNowhere hall (tables i) s
 
--- The session that a step with this reply number put at a position: the new one for an accepted swap, otherwise none.
-abbrev pub stepPuts : Step → ℕ → ℕ
-stepPuts (Take c p) number = 0
-stepPuts (Drop c) number = 0
-stepPuts (Swap p session) zero = session
-stepPuts (Swap p session) (suc n) = 0
-stepPuts Retire number = 0
-stepPuts Collect number = 0
+-- The session that a step put at a position, given the number and the session in its answer: the new one for an accepted swap that
+-- changes its position, otherwise none.
+abbrev pub stepPuts : Step → ℕ → ℕ → ℕ
+stepPuts (Take c p) number session = 0
+stepPuts (Drop c) number session = 0
+stepPuts (Swap p new) zero session = cond (isRepeat session new) 0 new
+stepPuts (Swap p new) (suc n) session = 0
+stepPuts Retire number session = 0
+stepPuts Collect number session = 0
 
 -- The session that the call at an index of a history put; past the end none.
 abbrev pub putAt : List Event → ℕ → ℕ
 putAt [] index = 0
-putAt (event ∷ history) zero = stepPuts (event .call .step) (event .answer .number)
+putAt (event ∷ history) zero = stepPuts (event .call .step) (event .answer .number) (event .answer .session)
 putAt (event ∷ history) (suc index) = putAt history index
 
--- Every accepted swap before index h that put session s found it unreferenced.
+-- Every swap before index h that changed its position to session s found s unreferenced.
 abbrev pub PutFresh : Hall → List Event → (ℕ → List ℕ) → ℕ → ℕ → Type 0
 PutFresh hall history tables s h = (i : ℕ) → i < h → putAt history i ≡ s → Unreferenced hall (tables i) s
 

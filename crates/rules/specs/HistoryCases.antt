@@ -47,12 +47,15 @@ oneOfEach =
     (2 sends Take 3 4 ⇒ ok 5) ∷ (2 sends Drop 3 ⇒ ok 5) ∷ (2 sends Swap 4 6 ⇒ ok 5) ∷ (2 sends Retire ⇒ ok 5) ∷ (2 sends Collect ⇒ ok 0) ∷ (2 sends Collect ⇒ ok 5)
     -- "Refused for want of room is 14"; every other refused call does nothing
     ∷ (2 sends Retire ⇒ refusedWith 14) ∷ (2 sends Retire ⇒ refusedWith 13) ∷ (2 sends Take 3 4 ⇒ refusedWith 14) ∷ (2 sends Drop 3 ⇒ refusedWith 14) ∷ (2 sends Swap 4 6 ⇒ refusedWith 14)
-    ∷ (2 sends Collect ⇒ refusedWith 14) ∷ []
+    ∷ (2 sends Collect ⇒ refusedWith 14)
+    -- a repeat "is no swap for linking", of a session or of 0; from 0 to a session and from a session to 0 the position changes
+    ∷ (2 sends Swap 4 6 ⇒ ok 6) ∷ (2 sends Swap 4 0 ⇒ ok 0) ∷ (2 sends Swap 4 6 ⇒ ok 0) ∷ (2 sends Swap 4 0 ⇒ ok 6) ∷ []
 
 pub effects-of-calls :
     map effectOf oneOfEach
     ≡ (takes 3 4 5 by 2) ∷ (drops 3 by 2) ∷ (swaps 4 by 2) ∷ (retires 5 by 2) ∷ (collects by 2) ∷ (handsBack 5 by 2)
-    ∷ (outOfRoom by 2) ∷ (noAction by 2) ∷ (noAction by 2) ∷ (noAction by 2) ∷ (noAction by 2) ∷ (noAction by 2) ∷ []
+    ∷ (outOfRoom by 2) ∷ (noAction by 2) ∷ (noAction by 2) ∷ (noAction by 2) ∷ (noAction by 2) ∷ (noAction by 2)
+    ∷ (noAction by 2) ∷ (noAction by 2) ∷ (swaps 4 by 2) ∷ (swaps 4 by 2) ∷ []
 effects-of-calls = refl
 
 -- Which actions are a retirement of 5, a hand-back of 5, a collect, and a retire that needs a collect before the next.
@@ -72,8 +75,8 @@ kinds-of-actions = (refl, refl, refl, refl, refl, refl)
 
 -- The effect and the reply number at an index; past the end there is no effect, and the number is 0.
 pub at-an-index :
-    (map (effectAt oneOfEach) (0 ∷ 6 ∷ 12 ∷ []) ≡ (takes 3 4 5 by 2) ∷ (outOfRoom by 2) ∷ (noAction by 0) ∷ [])
-    × (map (numberAt oneOfEach) (0 ∷ 6 ∷ 7 ∷ 12 ∷ []) ≡ 0 ∷ 14 ∷ 13 ∷ 0 ∷ [])
+    (map (effectAt oneOfEach) (0 ∷ 6 ∷ 16 ∷ []) ≡ (takes 3 4 5 by 2) ∷ (outOfRoom by 2) ∷ (noAction by 0) ∷ [])
+    × (map (numberAt oneOfEach) (0 ∷ 6 ∷ 7 ∷ 16 ∷ []) ≡ 0 ∷ 14 ∷ 13 ∷ 0 ∷ [])
 at-an-index = (refl, refl)
 
 -- ---- Counts, by desk and by session: two desks, two sessions, and refused calls, which do not count.
@@ -100,7 +103,7 @@ linkedHistory =
 abbrev linkedEffects : ℕ → Effect
 linkedEffects = effectAt linkedHistory
 
--- "the next accepted swap at its position"
+-- "the next swap that changes the position"
 pub next-swap : NextSwap linkedEffects 0 2 1 5
 next-swap = record {
   later = omega arith;
@@ -241,6 +244,52 @@ not-dropped-yet = not-dropped linkedEffects 0 12 2 2 2 5 refl refl
 -- A drop before the take is not the take's.
 pub dropped-too-soon : DroppedBefore (effectAt ((1 sends Drop 1 ⇒ ok 5) ∷ (1 sends Take 1 1 ⇒ ok 5) ∷ (1 sends Collect ⇒ ok 0) ∷ [])) 1 3 → ⊥
 dropped-too-soon = not-dropped (effectAt ((1 sends Drop 1 ⇒ ok 5) ∷ (1 sends Take 1 1 ⇒ ok 5) ∷ (1 sends Collect ⇒ ok 0) ∷ [])) 1 3 1 1 1 5 refl refl
+
+-- ---- Links across repeats, in a history that the rules compute. Desk 2 takes 5 at index 1. Both desks repeat the swap of 5. Desk 1 changes
+-- the position at index 4 and retires 5 at index 6; the repeats at indices 5 and 10 are answered 12 and 0. Desk 2 drops 5 at index 8.
+abbrev pub repeated : List Call
+repeated =
+    1 sends Swap 1 5 ∷ 2 sends Take 1 1 ∷ 2 sends Swap 1 5 ∷ 1 sends Swap 1 5 ∷ 1 sends Swap 1 6 ∷ 1 sends Swap 1 6 ∷ 1 sends Retire
+    ∷ 1 sends Collect ∷ 2 sends Drop 1 ∷ 1 sends Collect ∷ 1 sends Swap 1 6 ∷ []
+
+pub repeated-answers : answers (historyOf (hallOf 2 1 1) 50 repeated) ≡ ok 0 ∷ ok 5 ∷ ok 5 ∷ ok 5 ∷ ok 5 ∷ refusedWith 12 ∷ map ok (5 ∷ 0 ∷ 5 ∷ 5 ∷ 6 ∷ [])
+unfolding openTable stepTable sound recordSound encodeDesk decodeDesk
+repeated-answers = refl
+
+abbrev repeatedEffects : ℕ → Effect
+repeatedEffects = effectAt (historyOf (hallOf 2 1 1) 50 repeated)
+
+-- "Takes link to the next swap that changes the position": neither desk's repeat is that swap.
+pub next-change : NextSwap repeatedEffects 1 1 1 4
+unfolding openTable stepTable sound recordSound encodeDesk decodeDesk
+next-change = record {
+  later = omega arith;
+  here = refl;
+  first = λ m other after before swap. none-between (λ m. isSwapAt 1 (repeatedEffects m)) 1 4 refl m after before (ap (isSwapAt 1) swap);
+}
+
+pub not-the-next-change : (NextSwap repeatedEffects 1 1 2 2 → ⊥) × (NextSwap repeatedEffects 1 1 1 3 → ⊥)
+unfolding openTable stepTable sound recordSound encodeDesk decodeDesk
+not-the-next-change = (λ next. omega (arith, ap (part 0) (next .here)), λ next. omega (arith, ap (part 0) (next .here)))
+
+pub linked-across-repeats : Linked repeatedEffects 1 6
+unfolding openTable stepTable sound recordSound encodeDesk decodeDesk
+linked-across-repeats = record {
+  desk = 2;
+  screen = 1;
+  position = 1;
+  shown = 5;
+  take = refl;
+  swapper = 1;
+  swapAt = 4;
+  swap = next-change;
+  session = 5;
+  retire = record {
+    later = omega arith;
+    here = refl;
+    first = λ m session after before retire. none-between (λ m. isRetireBy 1 (repeatedEffects m)) 4 6 refl m after before (ap (isRetireBy 1) retire);
+  };
+}
 
 -- ---- "a desk that collects at least once between any two of its retires"
 
@@ -411,6 +460,11 @@ admits-a-pairing = record {
         let at : handsBack 5 by 2 ≡ handsBack s by d = sym (ap (effectAt backOnce) (only-back h d s back)) ∙ back in
         ap (λ (session : ℕ). retires session by 2) (ap (part 2) at) ∙ ap (λ (desk : ℕ). retires s by desk) (ap (part 1) at)
 
+-- In the history with repeats, the hand-back at index 9 is paired with the retirement at index 6.
+pub paired-across-repeats : (g : Guarantee (effectAt (historyOf (hallOf 2 1 1) 50 repeated))) → g .pair 9 ≡ 6
+unfolding openTable stepTable sound recordSound encodeDesk decodeDesk
+paired-across-repeats g = paired-with (historyOf (hallOf 2 1 1) 50 repeated) 6 9 1 5 refl refl g
+
 -- ---- Answers that the guarantee refuses, one field at a time.
 
 -- "hand-backs can be paired with earlier retirements": the only retirement of 5 comes after its hand-back
@@ -472,6 +526,36 @@ module _ (es : List Event) (h d s : ℕ) (none : indicesWhere isDrop 0 es ≡ []
       linked r e =
           let there : r ≡ suc (suc i) = only-at (isRetirementOf s) refl es (suc (suc i)) only r (ap (λ (x : Effect). isRetirementOf s (x .action)) e ∙ eq-eqb s s refl) in
           (i, subst (Linked (effectAt es) i) (sym there) (linked-at-once (effectAt es) i x c p s d s take swap retire))
+
+-- a session handed back while it is shown, because a repeat by another desk came between its take and the swap that replaced it
+abbrev repeatEndsLink : List Event
+repeatEndsLink =
+    (1 sends Swap 1 5 ⇒ ok 0) ∷ (2 sends Take 1 1 ⇒ ok 5) ∷ (2 sends Swap 1 5 ⇒ ok 5) ∷ (1 sends Swap 1 0 ⇒ ok 5) ∷ (1 sends Retire ⇒ ok 5) ∷ (1 sends Collect ⇒ ok 5) ∷ []
+
+pub refuses-repeat-ends-link : Guarantee (effectAt repeatEndsLink) → ⊥
+refuses-repeat-ends-link = refuses repeatEndsLink 5 1 5 refl refl linked
+  where
+    linked : (r : ℕ) → effectAt repeatEndsLink r ≡ retires 5 by 1 → (i : ℕ) × Linked (effectAt repeatEndsLink) i r
+    linked r e =
+        let there : r ≡ 4 = only-at (isRetirementOf 5) refl repeatEndsLink 4 refl r (ap (λ (x : Effect). isRetirementOf 5 (x .action)) e) in (
+          1,
+          subst (Linked (effectAt repeatEndsLink) 1) (sym there) (record {
+            desk = 2;
+            screen = 1;
+            position = 1;
+            shown = 5;
+            take = refl;
+            swapper = 1;
+            swapAt = 3;
+            swap = record {
+              later = omega arith;
+              here = refl;
+              first = λ m other after before swap. none-between (λ m. isSwapAt 1 (effectAt repeatEndsLink m)) 1 3 refl m after before (ap (isSwapAt 1) swap);
+            };
+            session = 5;
+            retire = record { later = omega arith; here = refl; first = λ m session after before. absurd (omega arith) };
+          }),
+        )
 
 -- error 4, the desk's own screen not read
 abbrev ownSkipped : List Event
@@ -668,11 +752,11 @@ shown-somewhere nowhere = nowhere 2 2 (omega arith) (omega arith) (omega arith) 
 pub closing-rule-refuses : ClosingRule (hallOf 2 2 2) (λ i. standing 1 5 1 1) → ⊥
 closing-rule-refuses rule = shown-somewhere (rule 0 5 (λ none. omega arith) (unreferenced-asks .0))
 
--- What each call put at a position: the session of an accepted swap; past the end none.
+-- What each call put at a position: the session of an accepted swap that changes it, so nothing by a repeat; past the end none.
 abbrev puts : List Event
-puts = (2 sends Take 3 4 ⇒ ok 5) ∷ (2 sends Swap 4 6 ⇒ ok 5) ∷ (2 sends Swap 4 7 ⇒ refusedWith 12) ∷ (2 sends Drop 3 ⇒ ok 5) ∷ (2 sends Retire ⇒ ok 5) ∷ (2 sends Collect ⇒ ok 5) ∷ (2 sends Swap 4 8 ⇒ ok 6) ∷ []
+puts = (2 sends Take 3 4 ⇒ ok 5) ∷ (2 sends Swap 4 6 ⇒ ok 5) ∷ (2 sends Swap 4 7 ⇒ refusedWith 12) ∷ (2 sends Drop 3 ⇒ ok 5) ∷ (2 sends Retire ⇒ ok 5) ∷ (2 sends Collect ⇒ ok 5) ∷ (2 sends Swap 4 8 ⇒ ok 6) ∷ (2 sends Swap 4 8 ⇒ ok 8) ∷ []
 
-pub put-by-calls : map (putAt puts) (0 ∷ 1 ∷ 2 ∷ 3 ∷ 4 ∷ 5 ∷ 6 ∷ 7 ∷ []) ≡ 0 ∷ 6 ∷ 0 ∷ 0 ∷ 0 ∷ 0 ∷ 8 ∷ 0 ∷ []
+pub put-by-calls : map (putAt puts) (0 ∷ 1 ∷ 2 ∷ 3 ∷ 4 ∷ 5 ∷ 6 ∷ 7 ∷ 8 ∷ []) ≡ 0 ∷ 6 ∷ 0 ∷ 0 ∷ 0 ∷ 0 ∷ 8 ∷ 0 ∷ 0 ∷ []
 put-by-calls = refl
 
 -- 6 was put at index 1, when it was at position 2: so it was put while referenced, before index 2 and not before index 1. 7 was never put.
@@ -715,6 +799,11 @@ reused-answers = refl
 pub reused-put-fresh : PutFresh (hallOf 2 1 1) (historyOf (hallOf 2 1 1) 50 reused) (tablesOf (hallOf 2 1 1) 50 reused) 5 12
 unfolding openTable stepTable sound recordSound encodeDesk decodeDesk
 reused-put-fresh = put-fresh-by-test (hallOf 2 1 1) (historyOf (hallOf 2 1 1) 50 reused) (tablesOf (hallOf 2 1 1) 50 reused) 5 12 refl
+
+-- In the history with repeats, both repeats find 5 at the position; but they put nothing, and the swap at index 0 finds it unreferenced.
+pub repeated-put-fresh : PutFresh (hallOf 2 1 1) (historyOf (hallOf 2 1 1) 50 repeated) (tablesOf (hallOf 2 1 1) 50 repeated) 5 9
+unfolding openTable stepTable sound recordSound encodeDesk decodeDesk
+repeated-put-fresh = put-fresh-by-test (hallOf 2 1 1) (historyOf (hallOf 2 1 1) 50 repeated) (tablesOf (hallOf 2 1 1) 50 repeated) 5 9 refl
 
 -- The session at position 1, what desk 1 owes, how many sessions are on its list, and what desk 2's screen 1 shows.
 abbrev partsOf : Hall → List ℕ → List ℕ

@@ -64,7 +64,7 @@ pub record StepsAlike (hall : Hall) (call : Call) (left right : Result State) : 
 
 -- ---- What a call may change.
 
--- Does a step write screen c of its desk? Does it write position p?
+-- May a step write screen c of its desk? May it write position p? (A swap that is a repeat does not.)
 abbrev pub writesScreen : Step → ℕ → Bool
 writesScreen (Take screen position) c = eqb screen c
 writesScreen (Drop screen) c = eqb screen c
@@ -79,8 +79,8 @@ writesPosition (Swap position session) p = eqb position p
 writesPosition Retire p = false
 writesPosition Collect p = false
 
--- A call leaves alone the records and the screens of the other desks, the screens of its own desk that its step does not write,
--- and the positions that its step does not write.
+-- A call leaves alone the records and the screens of the other desks, the screens of its own desk that its step may not write,
+-- and the positions that its step may not write.
 pub record OthersStay (hall : Hall) (call : Call) (before after : State) : Type 0 where
   pub desks : (d : ℕ) → (d ≡ call .desk → ⊥) → deskAt hall after d ≡ deskAt hall before d
   pub screens : (d c : ℕ) → (d ≡ call .desk → writesScreen (call .step) c ≡ false) → screenAt hall after d c ≡ screenAt hall before d c

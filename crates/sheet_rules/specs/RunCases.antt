@@ -111,7 +111,7 @@ pub our-end : endLine (tallyOf 12345 0 4294967295) ≡ text ("end 12345 0 429496
 unfolding decimal endLine
 our-end = refl
 
--- ---- Lists of steps with their answers: four accepted, of which one hands 300 back, and two refused.
+-- ---- Lists of steps with their answers: five accepted, of which one is a repeat and one hands 300 back, and two refused.
 abbrev events : List Event
 events =
     (2 sends Swap 4 300 ⇒ ok 0)
@@ -120,13 +120,14 @@ events =
     ∷ (2 sends Collect ⇒ ok 300)
     ∷ (2 sends Drop 3 ⇒ ok 300)
     ∷ (2 sends Collect ⇒ refusedWith 5)
+    ∷ (2 sends Swap 4 300 ⇒ ok 300)
     ∷ []
 
-pub tally-of-events : (addSteps zeros events ≡ tallyOf 4 2 1) × (countsIn events ≡ tallyOf 4 2 1)
+pub tally-of-events : (addSteps zeros events ≡ tallyOf 5 2 1) × (countsIn events ≡ tallyOf 5 2 1)
 unfolding addStep
 tally-of-events = (refl, refl)
 
 -- Their lines, numbered from record 7 on.
-pub lines-of-events : eventLines 7 events ≡ text ("7 3 0 0" ∷ "8 1 0 300" ∷ "9 4 13 0" ∷ "10 5 0 300" ∷ "11 2 0 300" ∷ "12 5 5 0" ∷ [])
+pub lines-of-events : eventLines 7 events ≡ text ("7 3 0 0" ∷ "8 1 0 300" ∷ "9 4 13 0" ∷ "10 5 0 300" ∷ "11 2 0 300" ∷ "12 5 5 0" ∷ "13 3 0 300" ∷ [])
 unfolding decimal line
 lines-of-events = refl

@@ -1,4 +1,4 @@
--- Calls on tables of words: encoding and decoding, histories, word bounds, demand 1, and what lies past the need.
+-- Calls on tables of words: encoding and decoding, histories, word bounds, demand 1, repeats, and what lies past the need.
 pub mod EncodedStep
 pub mod TableSteps
 pub mod DecodeStepEncode
@@ -6,4 +6,5 @@ pub mod TableHistories
 pub mod ClosingHistories
 pub mod WordBounds
 pub mod Demand1
+pub mod Repeats
 pub mod NeedSuffices

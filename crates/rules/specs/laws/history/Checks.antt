@@ -93,7 +93,7 @@ isTakeOn d c s effect = eqb (part 0 effect) 1 && (eqb (part 1 effect) d && (eqb 
 abbrev pub isDropOf : ℕ → ℕ → Effect → Bool
 isDropOf d c effect = eqb (part 0 effect) 2 && (eqb (part 1 effect) d && eqb (part 2 effect) c)
 
--- an accepted swap at position p, and an accepted retire by desk d
+-- a swap that changes position p, and an accepted retire by desk d
 abbrev pub isSwapAt : ℕ → Effect → Bool
 isSwapAt p effect = eqb (part 0 effect) 3 && eqb (part 2 effect) p
 

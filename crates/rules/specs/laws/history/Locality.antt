@@ -9,10 +9,10 @@ use lib.Seq.{getD-set-same, getD-set-other}
 use borrow.Author.Tests.{eqb-false}
 use Rattle.rules.specs.Hall.{Desk, Formed, Hall, State, TestedSlot, allScreens, deskOf, emptyDesk, screenIndex, withHeld, withShown}
 use Rattle.rules.specs.Locality.{OthersStay, SameView, StepsAlike, deskAt, positionAt, collectReads, readIfTested, screenAt}
-use Rattle.rules.specs.Steps.{Answer, Call, Collect, Collected, Drop, Retire, Step, Swap, Take, _sends_, begin, collect, decide, firstNo, handBack, inRange}
-use Rattle.rules.specs.Steps.{isNone, isSession, owe, performStep, questions, readScreens, retire, retireQuestions, scanAt, settle, step}
+use Rattle.rules.specs.Steps.{Answer, Call, Collect, Collected, Drop, Retire, Step, Swap, Take, _sends_, accept, begin, changePosition, collect, decide, firstNo, handBack, inRange}
+use Rattle.rules.specs.Steps.{isNone, isRepeat, isSession, owe, performStep, questions, readScreens, retire, retireQuestions, scanAt, settle, step}
 use Rattle.rules.specs.laws.history.ScreenIndex.{screen-in, screen-same}
-use Rattle.rules.specs.laws.history.StepEffects.{IsDesk, IsPosition, IsScreen, desk-asked, drop-asked, in-range, range-holds, swap-asked, take-asked}
+use Rattle.rules.specs.laws.history.StepEffects.{IsDesk, IsPosition, IsScreen, SwapAsked, desk-asked, drop-asked, in-range, range-holds, swap-asked, take-asked}
 use Rattle.rules.specs.laws.lists.Bools.{and-left, and-right, and-true}
 
 -- What is chosen by a test is the same where it is the same whenever the test holds; and back, where it holds.
@@ -59,6 +59,15 @@ module _ (H : Hall) (st : State) where
   pub others-stay : (call : Call) → OthersStay H call st (step H st call .after)
   others-stay call = by-number (firstNo (questions H st call)) (call .desk) (call .step) refl
     where
+      swapped : (d p v : ℕ) (b : Bool) → SwapAsked H st d p
+          → OthersStay H (d sends Swap p v) st (cond b st (changePosition st d p v))
+      swapped d p v true asked = record { desks = λ x other. refl; screens = λ x y free. refl; positions = λ q free. refl }
+      swapped d p v false asked = record {
+        desks = other-desk-stays (set (st .held) (p - 1) v) d _ (asked .desk);
+        screens = λ x y free. refl;
+        positions = λ q free. other-position-stays p v (asked .position) q (λ same. eqb-false p q free (sym same));
+      }
+
       by-number : (n d : ℕ) (s : Step) → firstNo (questions H st (d sends s)) ≡ n
           → let outcome = performStep H st d s in
           OthersStay H (d sends s) st (decide n st (outcome .session) (outcome .after) .after)
@@ -76,13 +85,7 @@ module _ (H : Hall) (st : State) where
             screens = λ x y free. other-screen-stays d c 0 (asked .desk) (asked .screen) x y (λ own same. eqb-false c y (free own) (sym same));
             positions = λ q free. refl;
           }
-      by-number zero d (Swap p v) e =
-          let asked = swap-asked H st d p v e in
-          record {
-            desks = other-desk-stays (set (st .held) (p - 1) v) d _ (asked .desk);
-            screens = λ x y free. refl;
-            positions = λ q free. other-position-stays p v (asked .position) q (λ same. eqb-false p q free (sym same));
-          }
+      by-number zero d (Swap p v) e = swapped d p v (isRepeat (getD (st .held) (p - 1) 0) v) (swap-asked H st d p v e)
       by-number zero d Retire e =
           record { desks = other-desk-stays (st .held) d _ (desk-asked H st (d sends Retire) e); screens = λ x y free. refl; positions = λ q free. refl }
       by-number zero d Collect e =
@@ -175,6 +178,21 @@ module _ (H : Hall) (A B : State) where
             collect-reads (allScreens H) (A .shown) (B .shown) (deskOf A d) (reads ∙ ap (collectReads (B .shown)) (sym same))
             ∙ ap (collect (allScreens H) (B .shown)) same
 
+        -- a swap that both states find to be a repeat, or both find to be a change
+        swap-alike : (d p v : ℕ) → SameView H A B (d sends Swap p v) → SwapAsked H A d p
+            → let left = getD (A .held) (p - 1) 0 in
+            let right = getD (B .held) (p - 1) 0 in
+            left ≡ right → (b : Bool)
+            → StepsAlike H (d sends Swap p v) (accept left (cond b A (changePosition A d p v))) (accept right (cond b B (changePosition B d p v)))
+        swap-alike d p v view asked old true = record { answer = accepted old; desk = view .desk; named = view .named }
+        swap-alike d p v view asked old false =
+            let same = same-desk d (view .desk) (range-holds d (H .desks) (asked .desk)) in
+            record {
+              answer = accepted old;
+              desk = desk-stored d _ _ (set (A .held) (p - 1) v) (set (B .held) (p - 1) v) (asked .desk) (ap₂ owe same old);
+              named = λ i. position-stored p v (asked .position) i ∷ [];
+            }
+
         by-number : (n d : ℕ) (s : Step) → SameView H A B (d sends s) → firstNo (questions H A (d sends s)) ≡ n
             → let left = performStep H A d s in
             let right = performStep H B d s in
@@ -197,11 +215,7 @@ module _ (H : Hall) (A B : State) where
         by-number zero d (Swap p v) view e =
             let asked = swap-asked H A d p v e in
             let old = same-position p (first-same (view .named)) (range-holds p (H .positions) (asked .position)) in
-            record {
-              answer = accepted old;
-              desk = desk-stored d _ _ (set (A .held) (p - 1) v) (set (B .held) (p - 1) v) (asked .desk) (ap₂ owe (same-desk d (view .desk) (range-holds d (H .desks) (asked .desk))) old);
-              named = λ i. position-stored p v (asked .position) i ∷ [];
-            }
+            rw (ap (λ (session : ℕ). isRepeat session v) old) (swap-alike d p v view asked old (isRepeat (getD (B .held) (p - 1) 0) v))
         by-number zero d Retire view e =
             let hd = desk-asked H A (d sends Retire) e in
             let same = same-desk d (view .desk) (range-holds d (H .desks) hd) in

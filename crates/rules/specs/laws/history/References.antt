@@ -1,4 +1,4 @@
--- The references to a session in a state: at positions, owed, and on lists. A swap puts one, a hand-back takes one, and no other call
+-- The references to a session in a state: at positions, owed, and on lists. A swap that changes its position puts one, a hand-back takes one, and no other call
 -- makes or loses one; so a session put only where there was none has none once it is handed back.
 use Prim.Native.Nat.{ℕ, zero, suc, _+_, _-_, _≤_, _<_}
 use native.Mathlib.Omega.{arith}
@@ -11,9 +11,9 @@ use lib.Dec.{eqb}
 use borrow.Author.Tests.{eqb-true}
 use Rattle.rules.specs.Closing.{putAt, stepPuts}
 use Rattle.rules.specs.Hall.{Desk, Formed, Hall, State, allScreens, deskOf, emptyDesk}
-use Rattle.rules.specs.History.{Effect, _by_, actionOf, collects, effectAt, handsBack, isHandBackOf, noAction, outOfRoom}
+use Rattle.rules.specs.History.{Effect, _by_, actionOf, collects, effectAt, handsBack, isHandBackOf, noAction, outOfRoom, swaps}
 use Rattle.rules.specs.Lists.{occurrences, toNat}
-use Rattle.rules.specs.Steps.{Call, Collect, Drop, Retire, Step, Swap, Take, _sends_, collect, decide, end, firstNo, owe, performStep, questions, retire, run, step}
+use Rattle.rules.specs.Steps.{Call, Collect, Drop, Retire, Step, Swap, Take, _sends_, changePosition, collect, decide, end, firstNo, isRepeat, owe, performStep, questions, retire, run, step}
 use Rattle.rules.specs.laws.desk.Collect.{Orderly, collect-copies, copiesOn, owed-collect, retire-copies}
 use Rattle.rules.specs.laws.desk.Sound.{Sound, sound-orderly}
 use Rattle.rules.specs.laws.history.Actions.{same-action}
@@ -77,18 +77,23 @@ module _ (s : ℕ) (hs : s ≡ 0 → ⊥) where
     references-balance : (st : State) → Formed H st → ((d : ℕ) → 1 ≤ d → Orderly (allScreens H) (deskOf st d)) → (n d : ℕ) (w : Step) → firstNo (questions H st (d sends w)) ≡ n
         → let outcome = performStep H st d w in
         let r = decide n st (outcome .session) (outcome .after) in
-        references s (r .after) + toNat (isHandBackOf s (actionOf w (r .answer .number) (r .answer .session))) ≡ references s st + indicator s (stepPuts w (r .answer .number))
+        references s (r .after) + toNat (isHandBackOf s (actionOf w (r .answer .number) (r .answer .session))) ≡ references s st + indicator s (stepPuts w (r .answer .number) (r .answer .session))
     references-balance st formed ok zero d (Take c p) e = omega (arith, indicator-other s 0 hs)
     references-balance st formed ok zero d (Drop c) e = omega (arith, indicator-other s 0 hs)
-    references-balance st formed ok zero d (Swap p v) e =
-        let t = swap-asked H st d p v e in
-        omega (
-          arith,
-          occurs-set (st .held) (p - 1) v (omega (arith, formed .positions)),
-          references-set (st .desks) (d - 1) (owe (deskOf st d) (getD (st .held) (p - 1) 0)) (omega (arith, formed .desks)),
-          ap (indicator s) (t .owesNothing),
-          indicator-other s 0 hs,
-        )
+    references-balance st formed ok zero d (Swap p v) e = by-repeat (isRepeat (getD (st .held) (p - 1) 0) v)
+      where
+        by-repeat : (b : Bool)
+            → references s (cond b st (changePosition st d p v)) + toNat (isHandBackOf s (cond b noAction (swaps p))) ≡ references s st + indicator s (cond b 0 v)
+        by-repeat true = omega (arith, indicator-other s 0 hs)
+        by-repeat false =
+            let t = swap-asked H st d p v e in
+            omega (
+              arith,
+              occurs-set (st .held) (p - 1) v (omega (arith, formed .positions)),
+              references-set (st .desks) (d - 1) (owe (deskOf st d) (getD (st .held) (p - 1) 0)) (omega (arith, formed .desks)),
+              ap (indicator s) (t .owesNothing),
+              indicator-other s 0 hs,
+            )
     references-balance st formed ok zero d Retire e =
         let t = retire-asked H st d e in
         omega (
@@ -116,12 +121,16 @@ module _ (s : ℕ) (hs : s ≡ 0 → ⊥) where
     references-balance st formed ok (suc n) d Collect e = omega (arith, indicator-other s 0 hs)
 
     -- no call both puts a session and hands one back
-    put-or-back : (w : Step) (n v : ℕ) → toNat (isHandBackOf s (actionOf w n v)) + indicator s (stepPuts w n) ≤ 1
+    put-or-back : (w : Step) (n v : ℕ) → toNat (isHandBackOf s (actionOf w n v)) + indicator s (stepPuts w n v) ≤ 1
     put-or-back (Take c p) zero v = omega (arith, indicator-other s 0 hs)
     put-or-back (Take c p) (suc n) v = omega (arith, indicator-other s 0 hs)
     put-or-back (Drop c) zero v = omega (arith, indicator-other s 0 hs)
     put-or-back (Drop c) (suc n) v = omega (arith, indicator-other s 0 hs)
-    put-or-back (Swap p u) zero v = omega (arith, indicator-at-most-one s u)
+    put-or-back (Swap p u) zero v = by-repeat (isRepeat v u)
+      where
+        by-repeat : (b : Bool) → toNat (isHandBackOf s (cond b noAction (swaps p))) + indicator s (cond b 0 u) ≤ 1
+        by-repeat true = omega (arith, indicator-other s 0 hs)
+        by-repeat false = omega (arith, indicator-at-most-one s u)
     put-or-back (Swap p u) (suc n) v = omega (arith, indicator-other s 0 hs)
     put-or-back Retire n v = omega (arith, indicator-other s 0 hs, one-if-le (isHandBackOf s (actionOf Retire n v)))
     put-or-back Collect n v = omega (arith, indicator-other s 0 hs, one-if-le (isHandBackOf s (actionOf Collect n v)))

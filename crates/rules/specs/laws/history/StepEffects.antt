@@ -11,7 +11,7 @@ use lib.Dec.{leb, ltb, eqb}
 use borrow.Author.Tests.{eqb-true, eqb-false, ltb-true, ltb-false, leb-true, not-true, le-leb}
 use Rattle.rules.specs.Hall.{Desk, Formed, Hall, State, allScreens, deskOf, emptyDesk, screenIndex, usedSlots, withDesk, withHeld, withShown}
 use Rattle.rules.specs.History.{Action, Effect, _by_, actionOf, byDesk, collects, drops, handsBack, noAction, outOfRoom, retires, swaps, takes}
-use Rattle.rules.specs.Steps.{Call, Collect, Drop, Question, Retire, Step, Swap, Take, _sends_, ask, collect, decide, firstNo, inRange, owe, performStep}
+use Rattle.rules.specs.Steps.{Call, Collect, Drop, Question, Retire, Step, Swap, Take, _sends_, ask, changePosition, collect, decide, firstNo, inRange, isRepeat, owe, performStep}
 use Rattle.rules.specs.Steps.{questions, retire, step}
 use Rattle.rules.specs.laws.lists.Bools.{and-left, and-right, and-true}
 
@@ -174,7 +174,7 @@ pub record Swapped (H : Hall) (st : State) (d p : ℕ) (after : State) : Type 0 
   pub position : 1 ≤ p
   pub owesNothing : deskOf st d .owed ≡ 0
   pub session : ℕ
-  pub state : after ≡ withDesk (withHeld st (p - 1) session) d (owe (deskOf st d) (getD (st .held) (p - 1) 0))
+  pub state : after ≡ changePosition st d p session
 
 -- an action that changes its desk alone
 pub record OnDesk (H : Hall) (st : State) (d : ℕ) (action : Action) (after : State) : Type 0 where
@@ -216,6 +216,11 @@ module _ (H : Hall) (st : State) where
       collected d v true q r e = record { desk = r; new = _; done = record { session = e ∙ eqb-true v 0 q; after = refl }; state = refl }
       collected d v false q r e = record { desk = r; new = _; done = (eqb-false v 0 q, record { session = e; after = refl }); state = refl }
 
+      swapped : (d p v : ℕ) (b : Bool) → SwapAsked H st d p
+          → StateChange H st d (cond b noAction (swaps p)) (cond b st (changePosition st d p v))
+      swapped d p v true t = refl
+      swapped d p v false t = record { desk = t .desk; position = t .position .0; owesNothing = t .owesNothing; session = v; state = refl }
+
       full : (d n : ℕ) (b : Bool) → eqb n 14 ≡ b → firstNo (questions H st (d sends Retire)) ≡ n → StateChange H st d (cond b outOfRoom noAction) st
       full d n true q e =
           let y =
@@ -237,9 +242,7 @@ module _ (H : Hall) (st : State) where
           let t = take-asked H st d c p e in
           record { desk = t .desk; screen = t .screen; position = t .position .0; empty = t .empty; session = refl; some = t .some; state = refl }
       by-number zero d (Drop c) e = let t = drop-asked H st d c e in record { desk = t .desk; screen = t .screen; state = refl }
-      by-number zero d (Swap p v) e =
-          let t = swap-asked H st d p v e in
-          record { desk = t .desk; position = t .position .0; owesNothing = t .owesNothing; session = v; state = refl }
+      by-number zero d (Swap p v) e = swapped d p v (isRepeat (getD (st .held) (p - 1) 0) v) (swap-asked H st d p v e)
       by-number zero d Retire e =
           let t = retire-asked H st d e in
           record {

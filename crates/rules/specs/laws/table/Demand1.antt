@@ -3,7 +3,7 @@
 use Prim.Native.Nat.{ℕ, _+_, _-_, _≤_, zero, suc, _*_, _<_}
 use native.Mathlib.Omega.{arith}
 use mathlib.Core.Path.{_≡_, refl, sym, ap, _∙_, subst}
-use mathlib.Core.Bool.{Bool, true, false, not, _&&_, _||_, true≢false}
+use mathlib.Core.Bool.{Bool, true, false, cond, not, _&&_, _||_, true≢false}
 use mathlib.Core.List.{List, [], _∷_, _++_, append-assoc}
 use lib.ListN.{length, take, getD, drop, set, replicate, length-replicate, length-drop, length-set, List·getD-append}
 use lib.Seq.{getD-set-same, getD-set-other, length-take-le, getD-drop, getD-take}
@@ -15,7 +15,7 @@ use Rattle.rules.specs.Demands.{Demand1, footprint, openingFootprint, op
 use Rattle.rules.specs.Hall.{Desk, Hall, Limits, State, allScreens, usedSlots}
 use Rattle.rules.specs.History.{numberAt}
 use Rattle.rules.specs.Lists.{occurrences}
-use Rattle.rules.specs.Steps.{Call, Collect, Drop, Result, Retire, Step, Swap, Take, _sends_, collect, decide, end, firstNo, isSession, perform}
+use Rattle.rules.specs.Steps.{Call, Collect, Drop, Result, Retire, Step, Swap, Take, _sends_, collect, decide, end, firstNo, isRepeat, isSession, perform}
 use Rattle.rules.specs.Steps.{questions, retire, run}
 use Rattle.rules.specs.Table.{allMarks, decode, decodeDesk, encodeDesk, encodeTail, hallIn, headerWords, listOf, listOffset, markWords, marksOf, need}
 use Rattle.rules.specs.Table.{openQuestions, openTable, openedTable, owedOffset, positionWord, putRecord, recordOf, recordSound, recordStart, recordWidth}
@@ -155,39 +155,39 @@ module _ (limits : Limits) (t : List ℕ) (small : Words16 t) (s : sound limits 
         (length-encoded (hallIn t) (k .fits) E sE) i (getD t i 0)
         (λ j l e. h j l e ∙ word-inside j l ∙ ap (λ (n : ℕ). getD t n 0) e) (λ _. refl)
 
-  -- a swap writes the owed word only where the old session is not 0
+  -- a swap writes the owed word only where the old session is not 0; a repeat writes nothing
   swap-keeps : (d p new : ℕ) → asked t (d sends Swap p new) ≡ 0 → (i : ℕ) → stepFootprint t d (Swap p new) i ≡ false
       → getD (tableAfterStep t d (Swap p new)) i 0 ≡ getD t i 0
-  swap-keeps d p new e i q = by-word (eqb i (recordStart (hallIn t) d)) refl
+  swap-keeps d p new e i q = by-repeat (isRepeat (getD t (positionWord p) 0) new) q
     where
       asks : SwapAsked (hallIn t) (decode (hallIn t) t) d p
       asks = swap-asked (hallIn t) (decode (hallIn t) t) d p new e
-
-      parts : (eqb i (positionWord p) ≡ false) × (eqb i (recordStart (hallIn t) d) && isSession (getD t (positionWord p) 0) ≡ false)
-      parts = or-no (eqb i (positionWord p)) (eqb i (recordStart (hallIn t) d) && isSession (getD t (positionWord p) 0)) q
-
-      elsewhere : getD (set t (positionWord p) new) i 0 ≡ getD t i 0
-      elsewhere = getD-set-other t (positionWord p) i new 0 (λ z. eqb-false i (positionWord p) (parts .0) z)
 
       none : (b : Bool) → eqb (getD t (positionWord p) 0) 0 ≡ b → not b ≡ false → getD t (positionWord p) 0 ≡ 0
       none true t0 z = eqb-true (getD t (positionWord p) 0) 0 t0
       none false t0 z = let o : _≡_ {A = ℕ} 0 1 = cc in absurd (omega arith)
 
-      by-word : (b : Bool) → eqb i (recordStart (hallIn t) d) ≡ b
+      by-word : eqb i (positionWord p) ≡ false → (b : Bool) → eqb i (recordStart (hallIn t) d) ≡ b → b && isSession (getD t (positionWord p) 0) ≡ false
           → getD (set (set t (positionWord p) new) (recordStart (hallIn t) d) (getD t (positionWord p) 0)) i 0 ≡ getD t i 0
-      by-word true z =
+      by-word elsewhere true z q =
           let is : i ≡ recordStart (hallIn t) d = eqb-true i (recordStart (hallIn t) d) z in
-          let old : getD t (positionWord p) 0 ≡ 0 =
-          none (eqb (getD t (positionWord p) 0) 0) refl (ap (λ (b : Bool). b && isSession (getD t (positionWord p) 0)) (sym z) ∙ parts .1) in
+          let old : getD t (positionWord p) 0 ≡ 0 = none (eqb (getD t (positionWord p) 0) 0) refl q in
           let owed : getD t (recordStart (hallIn t) d) 0 ≡ 0 = sym (owed-word t d (asks .desk .0) (asks .desk .1)) ∙ asks .owesNothing in
           ap (λ (n : ℕ). getD (set (set t (positionWord p) new) (recordStart (hallIn t) d) (getD t (positionWord p) 0)) n 0) is
           ∙ getD-set-same (set t (positionWord p) new) (recordStart (hallIn t) d) (getD t (positionWord p) 0) 0
           (omega (arith, fits d (asks .desk), length-set t (positionWord p) new))
           ∙ old ∙ sym owed ∙ ap (λ (n : ℕ). getD t n 0) (sym is)
-      by-word false z =
+      by-word elsewhere false z q =
           getD-set-other (set t (positionWord p) new) (recordStart (hallIn t) d) i (getD t (positionWord p) 0) 0
           (λ y. eqb-false i (recordStart (hallIn t) d) z y)
-          ∙ elsewhere
+          ∙ getD-set-other t (positionWord p) i new 0 (λ y. eqb-false i (positionWord p) elsewhere y)
+
+      by-repeat : (b : Bool) → not b && (eqb i (positionWord p) || (eqb i (recordStart (hallIn t) d) && isSession (getD t (positionWord p) 0))) ≡ false
+          → getD (cond b t (set (set t (positionWord p) new) (recordStart (hallIn t) d) (getD t (positionWord p) 0))) i 0 ≡ getD t i 0
+      by-repeat true q = refl
+      by-repeat false q =
+          let parts = or-no (eqb i (positionWord p)) (eqb i (recordStart (hallIn t) d) && isSession (getD t (positionWord p) 0)) q in
+          by-word (parts .0) (eqb i (recordStart (hallIn t) d)) refl (parts .1)
 
   retire-keeps-words : (d : ℕ) → asked t (d sends Retire) ≡ 0 → (i : ℕ) → stepFootprint t d Retire i ≡ false
       → getD (tableAfterStep t d Retire) i 0 ≡ getD t i 0

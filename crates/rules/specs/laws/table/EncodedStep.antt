@@ -3,7 +3,7 @@ use Prim.Native.Nat.{ℕ, zero, suc, _+_, _*_, _-_, _≤_, _<_}
 use native.Mathlib.Omega.{arith}
 use native.Mathlib.Nat.{mul-pos, mul-le-mul}
 use mathlib.Core.Path.{_≡_, refl, sym, ap, ap₂, _∙_}
-use mathlib.Core.Bool.{Bool, true, _&&_}
+use mathlib.Core.Bool.{Bool, true, false, cond, _&&_}
 use mathlib.Core.List.{List, [], _∷_, _++_, map, append-assoc}
 use lib.ListN.{length, getD, take, drop, set, replicate, length-append, length-set, replicate-append-replicate}
 use lib.Seq.{take-at, drop-at}
@@ -12,7 +12,7 @@ use borrow.Author.Tests.{le-leb, leb-true}
 use Rattle.rules.specs.Hall.{Desk, Formed, Hall, Limits, State, allScreens, deskOf, emptyDesk, fresh, maxAllScreens, maxDesks, maxPositions, maxScreens}
 use Rattle.rules.specs.Hall.{screenIndex, usedSlots, withDesk, withHeld, withShown}
 use Rattle.rules.specs.Lists.{chunks, concat, every}
-use Rattle.rules.specs.Steps.{Call, Collect, Drop, Event, Result, Retire, Step, Swap, Take, _sends_, accept, collect, decide, end, firstNo, inRange, owe}
+use Rattle.rules.specs.Steps.{Call, Collect, Drop, Event, Result, Retire, Step, Swap, Take, _sends_, accept, changePosition, collect, decide, end, firstNo, inRange, isRepeat, owe}
 use Rattle.rules.specs.Steps.{perform, performStep, questions, retire, run, step}
 use Rattle.rules.specs.Table.{decode, decodeDesk, encode, encodeDesk, encodeTail, headerWords, inLimits, listOffset, need, openQuestions, openedTable}
 use Rattle.rules.specs.Table.{positionWord, putRecord, recordOf, recordSound, recordStart, recordWidth, recordsIn, screenWord, slotsFor, sound, stepIf}
@@ -21,7 +21,7 @@ use Rattle.rules.specs.laws.desk.Encoding.{desk-read-back, length-slots-
 use Rattle.rules.specs.laws.desk.Sound.{Sound, collect-sound, encoded-sound, retire-sound, sound-owe}
 use Rattle.rules.specs.laws.history.InitialState.{fresh-formed}
 use Rattle.rules.specs.laws.history.ScreenIndex.{screen-in}
-use Rattle.rules.specs.laws.history.StepEffects.{IsDesk, desk-asked, drop-asked, formed-step, holds, in-range, retire-asked, swap-asked}
+use Rattle.rules.specs.laws.history.StepEffects.{IsDesk, SwapAsked, desk-asked, drop-asked, formed-step, holds, in-range, retire-asked, swap-asked}
 use Rattle.rules.specs.laws.history.StepEffects.{take-asked}
 use Rattle.rules.specs.laws.lists.Bools.{and-left, and-right, and-true}
 use Rattle.rules.specs.laws.lists.ListSlices.{get-mid, put-mid, set-mid, take-mid}
@@ -98,7 +98,12 @@ module _ (H : Hall) (fits : Fits H) where
       desks-sound : (n d : ℕ) (s : Step) → firstNo (questions H st (d sends s)) ≡ n → All (Sound (allScreens H)) (afterwards n d s .desks)
       desks-sound zero d (Take c p) e = v .desks
       desks-sound zero d (Drop c) e = v .desks
-      desks-sound zero d (Swap p w) e = stored d _ (sound-owe (allScreens H) (getD (st .held) (p - 1) 0) (deskOf st d) (desk-sound d))
+      desks-sound zero d (Swap p w) e = by-repeat (isRepeat (getD (st .held) (p - 1) 0) w)
+        where
+          by-repeat : (b : Bool)
+              → All (Sound (allScreens H)) (cond b st (changePosition st d p w) .desks)
+          by-repeat true = v .desks
+          by-repeat false = stored d _ (sound-owe (allScreens H) (getD (st .held) (p - 1) 0) (deskOf st d) (desk-sound d))
       desks-sound zero d Retire e =
           let asked = retire-asked H st d e in
           stored d _ (retire-sound (allScreens H) (deskOf st d) (asked .owes) (asked .room) (desk-sound d))
@@ -302,6 +307,27 @@ module _ (H : Hall) (fits : Fits H) where
     unfolding encodeDesk
     after-encoded c e = by-step (c .desk) (c .step) e
       where
+        swapped : (d p w : ℕ) → SwapAsked H st d p → (b : Bool)
+            → let o = getD (st .held) (p - 1) 0 in
+            cond b (encode H st ++ rest) (set (set (encode H st ++ rest) (positionWord p) w) (recordStart H d) o)
+            ≡ encode H (cond b st (changePosition st d p w)) ++ rest
+        swapped d p w asked true = refl
+        swapped d p w asked false =
+            let k = at-desk d (asked .desk) in
+            let h : List ℕ = set (st .held) (p - 1) w in
+            let o = getD (st .held) (p - 1) 0 in
+            let a : List ℕ = H .desks ∷ H .screens ∷ H .positions ∷ (h ++ (st .shown ++ k .front)) in
+            let n : length a ≡ recordStart H d =
+            omega
+            (arith, length-append h (st .shown ++ k .front), length-append (st .shown) (k .front), length-set (st .held) (p - 1) w, v .formed .positions, v .formed .screens, k .starts) in
+            let z : recordStart H d ≡ recordStart H d + 0 = omega arith in
+            (λ i. set (position-written p w (asked .position .0) (asked .position .1) i) (z i) o)
+            ∙ ap (λ (t : List ℕ). set t (recordStart H d + 0) o)
+            (as-record h (st .shown) (k .front) (encodeDesk (allScreens H) (deskOf st d)) (k .back) (concat (map (encodeDesk (allScreens H)) (st .desks))) (k .is))
+            ∙ set-mid a (encodeDesk (allScreens H) (deskOf st d)) (k .back ++ rest) (recordStart H d) n 0 o (omega (arith, k .wide))
+            ∙ sym
+            (as-record h (st .shown) (k .front) (encodeDesk (allScreens H) (owe (deskOf st d) o)) (k .back) (concat (map (encodeDesk (allScreens H)) (set (st .desks) (d - 1) (owe (deskOf st d) o)))) (k .put (owe (deskOf st d) o)))
+
         by-step : (d : ℕ) (s : Step) → firstNo (questions H st (d sends s)) ≡ 0
             → tableAfterStep (encode H st ++ rest) d s ≡ encode H (performStep H st d s .after) ++ rest
         by-step d (Take c p) e =
@@ -311,21 +337,7 @@ module _ (H : Hall) (fits : Fits H) where
         by-step d (Drop c) e = let asked = drop-asked H st d c e in screen-written d c 0 (asked .desk) (asked .screen)
         by-step d (Swap p w) e =
             let asked = swap-asked H st d p w e in
-            let k = at-desk d (asked .desk) in
-            let ip = asked .position in
-            let h : List ℕ = set (st .held) (p - 1) w in
-            let o = getD (st .held) (p - 1) 0 in
-            let a : List ℕ = H .desks ∷ H .screens ∷ H .positions ∷ (h ++ (st .shown ++ k .front)) in
-            let n : length a ≡ recordStart H d =
-            omega
-            (arith, length-append h (st .shown ++ k .front), length-append (st .shown) (k .front), length-set (st .held) (p - 1) w, v .formed .positions, v .formed .screens, k .starts) in
-            let z : recordStart H d ≡ recordStart H d + 0 = omega arith in
-            (λ i. set (position-written p w (ip .0) (ip .1) i) (z i) (position-word-is p (ip .0) (ip .1) i))
-            ∙ ap (λ (t : List ℕ). set t (recordStart H d + 0) o)
-            (as-record h (st .shown) (k .front) (encodeDesk (allScreens H) (deskOf st d)) (k .back) (concat (map (encodeDesk (allScreens H)) (st .desks))) (k .is))
-            ∙ set-mid a (encodeDesk (allScreens H) (deskOf st d)) (k .back ++ rest) (recordStart H d) n 0 o (omega (arith, k .wide))
-            ∙ sym
-            (as-record h (st .shown) (k .front) (encodeDesk (allScreens H) (owe (deskOf st d) o)) (k .back) (concat (map (encodeDesk (allScreens H)) (set (st .desks) (d - 1) (owe (deskOf st d) o)))) (k .put (owe (deskOf st d) o)))
+            rw (position-word-is p (asked .position .0) (asked .position .1)) (swapped d p w asked (isRepeat (getD (st .held) (p - 1) 0) w))
         by-step d Retire e =
             let k = at-desk d (retire-asked H st d e .desk) in
             ap (λ (D : Desk). putRecord H (encode H st ++ rest) d (encodeDesk (allScreens H) (retire D))) (record-decoded d k)

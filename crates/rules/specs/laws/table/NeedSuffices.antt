@@ -3,7 +3,7 @@ use Prim.Native.Nat.{ℕ, _+_, _-_, _≤_, zero, suc, _*_, _<_}
 use native.Mathlib.Omega.{arith}
 use native.Mathlib.Nat.{mul-le-mul-right, mul-le-mul}
 use mathlib.Core.Path.{_≡_, refl, sym, ap, _∙_}
-use mathlib.Core.Bool.{Bool, true, false, _&&_}
+use mathlib.Core.Bool.{Bool, true, false, cond, _&&_}
 use mathlib.Core.List.{List, [], _∷_, _++_, map, append-assoc}
 use lib.ListN.{length, take, getD, drop, set, length-append, replicate, length-drop, length-set, List·getD-append}
 use lib.Seq.{set-append-left, take-append-le}
@@ -11,13 +11,13 @@ use lib.Dec.{leb}
 use borrow.Author.Tests.{le-leb}
 use Rattle.rules.specs.Hall.{Hall, Limits, State, allScreens, maxAllScreens, maxDesks}
 use Rattle.rules.specs.Lists.{chunks, every}
-use Rattle.rules.specs.Steps.{Call, Collect, Drop, Retire, Swap, Take, collect, firstNo, perform, questions, retire, Result, Step, _sends_, accept}
+use Rattle.rules.specs.Steps.{Call, Collect, Drop, Retire, Swap, Take, collect, firstNo, isRepeat, perform, questions, retire, Result, Step, _sends_, accept}
 use Rattle.rules.specs.Table.{decode, decodeDesk, encodeDesk, hallIn, headerWords, inLimits, maxWords, need, openQuestions, openTable, openedTable, tableAfter, tableAfterStep}
 use Rattle.rules.specs.Table.{positionWord, putRecord, recordOf, recordSound, recordStart, recordWidth, recordsIn, screenWord, sound, stepTable, widthFor}
 use Rattle.rules.specs.laws.history.ScreenIndex.{screen-in}
 use Rattle.rules.specs.laws.table.EncodedStep.{Fits}
 use Rattle.rules.specs.laws.table.TableSteps.{accepted-open, accepted-step, asked, known, refused-open, refused-step, unsound-step}
-use Rattle.rules.specs.laws.history.StepEffects.{take-asked, drop-asked, swap-asked, desk-asked}
+use Rattle.rules.specs.laws.history.StepEffects.{SwapAsked, take-asked, drop-asked, swap-asked, desk-asked}
 
 pub need-at-most : (H : Hall) → Fits H → need H ≤ maxWords
 need-at-most H o =
@@ -46,7 +46,8 @@ long-before a b H far =
 abbrev afterIn : Hall → List ℕ → ℕ → Step → List ℕ
 afterIn H t d (Take c p) = set t (screenWord H d c) (getD t (positionWord p) 0)
 afterIn H t d (Drop c) = set t (screenWord H d c) 0
-afterIn H t d (Swap p v) = set (set t (positionWord p) v) (recordStart H d) (getD t (positionWord p) 0)
+afterIn H t d (Swap p v) =
+    let old = getD t (positionWord p) 0 in cond (isRepeat old v) t (set (set t (positionWord p) v) (recordStart H d) old)
 afterIn H t d Retire = putRecord H t d (encodeDesk (allScreens H) (retire (decodeDesk (allScreens H) (recordOf H t d))))
 afterIn H t d Collect =
     putRecord H t d (encodeDesk (allScreens H) (collect (allScreens H) (decode H t .shown) (decodeDesk (allScreens H) (recordOf H t d)) .after))
@@ -132,10 +133,17 @@ module _ (a b : List ℕ) (three : headerWords ≤ length a) where
         set-same a (screenWord H d c) 0 refl (omega arith)
     after-before st d (Swap p v) e =
         let f = swap-asked H st d p v e in
-        let room = fits d (f .desk) in
-        let m : suc (d - 1) * recordWidth H ≤ H .desks * recordWidth H = mul-le-mul-right (recordWidth H) (omega (arith, f .desk)) in
-        (λ i. set (set-same a (positionWord p) v refl (omega (arith, f .position)) i) (recordStart H d) (word-same (positionWord p) (omega (arith, f .position)) i))
-        ∙ set-same (set a (positionWord p) v) (recordStart H d) (getD a (positionWord p) 0) (length-set a (positionWord p) v) (omega (arith, f .desk))
+        rw (word-same (positionWord p) (omega (arith, f .position))) (by-repeat f (isRepeat (getD a (positionWord p) 0) v))
+      where
+        by-repeat : SwapAsked H st d p → (r : Bool)
+            → let old = getD a (positionWord p) 0 in
+            cond r (a ++ b) (set (set (a ++ b) (positionWord p) v) (recordStart H d) old) ≡ cond r a (set (set a (positionWord p) v) (recordStart H d) old) ++ b
+        by-repeat f true = refl
+        by-repeat f false =
+            let room = fits d (f .desk) in
+            let m : suc (d - 1) * recordWidth H ≤ H .desks * recordWidth H = mul-le-mul-right (recordWidth H) (omega (arith, f .desk)) in
+            (λ i. set (set-same a (positionWord p) v refl (omega (arith, f .position)) i) (recordStart H d) (getD a (positionWord p) 0))
+            ∙ set-same (set a (positionWord p) v) (recordStart H d) (getD a (positionWord p) 0) (length-set a (positionWord p) v) (omega (arith, f .desk))
     after-before st d Retire e =
         let r = desk-asked H st (d sends Retire) e in
         ap (λ (words : List ℕ). putRecord H (a ++ b) d (encodeDesk (allScreens H) (retire (decodeDesk (allScreens H) words)))) (record-same d r)

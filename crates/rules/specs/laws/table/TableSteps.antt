@@ -12,7 +12,7 @@ use borrow.Author.Tests.{leb-true}
 use Rattle.rules.specs.Hall.{Desk, Hall, Limits, TestedSlot, allScreens, deskOf, emptyDesk, maxAllScreens, screenIndex}
 use Rattle.rules.specs.Lists.{chunks, every}
 use Rattle.rules.specs.Steps.{Call, accept, beginAt, collect, collectSeeing, decide, firstNo, perform, questions, refuse}
-use Rattle.rules.specs.Table.{decode, decodeDesk, hallIn, headerWords, inLimits, need, openQuestions, openTable, openedTable, positionWord, recordOf}
+use Rattle.rules.specs.Table.{decode, decodeDesk, hallIn, headerWords, inLimits, need, openQuestions, openTable, openedTable, owedOffset, positionWord, recordOf}
 use Rattle.rules.specs.Table.{recordSound, recordStart, recordWidth, recordsIn, screenWord, sound, stepIf, stepTable, tableAfter}
 use Rattle.rules.specs.laws.history.ScreenIndex.{screen-in}
 use Rattle.rules.specs.laws.lists.Bools.{and-left, and-right}
@@ -127,13 +127,16 @@ desk-word t d h g =
     records-at (allScreens (hallIn t)) (hallIn t .desks) (recordWidth (hallIn t)) (drop (allScreens (hallIn t)) (drop (hallIn t .positions) (drop headerWords t))) (d - 1) (omega arith)
     ∙ ap (λ (y : List ℕ). decodeDesk (allScreens (hallIn t)) (take (recordWidth (hallIn t)) y)) (record-part t d)
 
+-- the owed word is a record's first
+pub record-owed : (H : Hall) (t : List ℕ) (d : ℕ) → getD (recordOf H t d) owedOffset 0 ≡ getD t (recordStart H d) 0
+record-owed H t d =
+    let a : ℕ = recordStart H d in
+    let e : a + 0 ≡ a = omega arith in
+    getD-take (recordWidth H) (drop a t) 0 0 (omega arith) ∙ getD-drop a t 0 0 ∙ ap (λ (k : ℕ). getD t k 0) e
+
 pub owed-word : (t : List ℕ) (d : ℕ) → 1 ≤ d → d ≤ hallIn t .desks → deskOf (decode (hallIn t) t) d .owed ≡ getD t (recordStart (hallIn t) d) 0
 unfolding decodeDesk
-owed-word t d h g =
-    let a : ℕ = recordStart (hallIn t) d in
-    let e : a + 0 ≡ a = omega arith in
-    ap (λ (D : Desk). D .owed) (desk-word t d h g) ∙ getD-take (recordWidth (hallIn t)) (drop a t) 0 0 (omega arith) ∙ getD-drop a t 0 0
-    ∙ ap (λ (k : ℕ). getD t k 0) e
+owed-word t d h g = ap (λ (D : Desk). D .owed) (desk-word t d h g) ∙ record-owed (hallIn t) t d
 
 -- ---- a collect reads the screens from the desk's own k on
 pub collect-seeing : (S : ℕ) (shown : List ℕ) (D : Desk) → collectSeeing S (take 2 (drop (D .scanned) shown)) D ≡ collect S shown D

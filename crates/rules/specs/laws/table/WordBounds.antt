@@ -11,7 +11,7 @@ use Rattle.rules.specs.Bytes.{Call16, Step16, Words16}
 use Rattle.rules.specs.Demands.{refusals, stepRefusals}
 use Rattle.rules.specs.Hall.{Desk, Hall, Limits, State, TestedSlot, allScreens, deskOf, emptyDesk, maxAllScreens, screenIndex, usedSlots}
 use Rattle.rules.specs.Lists.{occurrences}
-use Rattle.rules.specs.Steps.{Call, Collect, Drop, Question, Result, Retire, Step, Swap, Take, _sends_, accept, collect, decide, firstNo, perform}
+use Rattle.rules.specs.Steps.{Call, Collect, Drop, Question, Result, Retire, Step, Swap, Take, _sends_, accept, collect, decide, firstNo, isRepeat, perform}
 use Rattle.rules.specs.Steps.{performStep, questions, refuse, retire}
 use Rattle.rules.specs.Table.{allMarks, decode, decodeDesk, encode, encodeDesk, encodeTail, hallIn, headerWords, listOf, listOffset, markWords, marksIn}
 use Rattle.rules.specs.Table.{marksOf, need, openQuestions, openTable, openedTable, positionWord, putRecord, recordOf, recordStart, recordWidth}
@@ -284,9 +284,13 @@ after-words t c h w k q = by-step (c .desk) (c .step) (w .1) q
     by-step : (d : ℕ) (s : Step) → Step16 s → asked t (d sends s) ≡ 0 → Words16 (tableAfterStep t d s)
     by-step d (Take c p) w q = words-set t (screenWord (hallIn t) d c) (getD t (positionWord p) 0) (h (positionWord p)) h
     by-step d (Drop c) w q = words-set t (screenWord (hallIn t) d c) 0 (omega arith) h
-    by-step d (Swap p v) w q =
-        words-set (set t (positionWord p) v) (recordStart (hallIn t) d) (getD t (positionWord p) 0) (h (positionWord p))
-        (words-set t (positionWord p) v (w .1) h)
+    by-step d (Swap p v) w q = by-repeat (isRepeat (getD t (positionWord p) 0) v)
+      where
+        by-repeat : (b : Bool) → Words16 (cond b t (set (set t (positionWord p) v) (recordStart (hallIn t) d) (getD t (positionWord p) 0)))
+        by-repeat true = h
+        by-repeat false =
+            words-set (set t (positionWord p) v) (recordStart (hallIn t) d) (getD t (positionWord p) 0) (h (positionWord p))
+            (words-set t (positionWord p) v (w .1) h)
     by-step d Retire w q =
         let asks = retire-asked (hallIn t) st d q in
         let D : Desk = deskOf st d in
