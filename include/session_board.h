@@ -16,18 +16,18 @@
  * board_number() to detect a refusal; session 0 is also a valid result.
  *
  * The life of a session: a swap puts it at a position, and takes show it on
- * screens. A later swap replaces it there; the desk of that swap owes it, and
- * retires it. A collect of that desk hands this retirement back once the
- * screens that took the session there have dropped it. If no screen shows the
- * session from the retire on, it is handed back within 3 of these collects for
- * each screen of the hall.
+ * screens. A later swap to another session, or to none, replaces it there; the
+ * desk of that swap owes it, and retires it. A collect of that desk hands this
+ * retirement back once the screens that took the session there have dropped it.
+ * If no screen shows the session from the retire on, it is handed back within 3
+ * of these collects for each screen of the hall.
  *
  * When a session may be closed: a hand-back gives back one retirement, and the
  * session may be at another position too, or may have been put back. Close it
  * once it is at no position, owed by no desk and on no desk's list: then no
  * screen shows it. A host that never puts a session that is still in the table,
  * so that it reuses no number before that number was handed back, may close a
- * session as soon as it is handed back.
+ * session as soon as it is handed back. A repeat (see board_swap) puts nothing.
  *
  * The board keeps nothing between calls: the table is the whole state of the
  * hall. It uses no memory but the table and less than 1 KB of stack, and only
@@ -105,8 +105,23 @@ uint32_t board_drop(uint16_t desk, uint16_t screen,
                     uint8_t *table, size_t bytes);
 
 /* Puts the given session at the position, or none for 0; the answer has the old
- * one, which the desk then owes unless it is 0. Asks 5, 6, 8, 12. Writes the
- * position and, if the old session is not 0, what the desk owes. */
+ * one. Asks 5, 6, 8, 12. If this changes the position, the desk then owes the
+ * old session unless it is 0. Writes the position and, if the old session is
+ * not 0, what the desk owes.
+ *
+ * A repeat is a swap to the session that is already at the position, or of 0
+ * onto an empty position. It asks the same questions. Accepted, its answer has
+ * what is there; it writes nothing, and nothing is owed for it. So an accepted
+ * swap whose answer has the session that was sent was a repeat: do not retire
+ * after it (a retire just after it gets 13).
+ *
+ * A desk's last swap may be sent again, as a camera switch does when its link
+ * was interrupted. If the first one was accepted and the desk owes for it, the
+ * second gets 12 and changes nothing, and the retire's answer has the replaced
+ * session. After the retire, or if nothing was owed, the second is a repeat if
+ * the position still holds the session. If it does not, the second puts the
+ * session back, which may still be in the table elsewhere. If the first one was
+ * lost or refused, the second takes its place. */
 uint32_t board_swap(uint16_t desk, uint16_t position, uint16_t session,
                     uint8_t *table, size_t bytes);
 
