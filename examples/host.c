@@ -7,7 +7,8 @@
  * not closed at once: an operator may still be steering by it. The board hands
  * its retirement back once the screens that took it there have dropped it. This
  * host reuses no number before it was handed back, so a session that is handed
- * back is nowhere else in the table, and may be closed at once.
+ * back is nowhere else in the table, and may be closed at once. A command that
+ * arrives twice reuses none: the position holds its session already.
  */
 #include "session_board.h"
 
@@ -71,7 +72,8 @@ static void drop(uint16_t desk, uint16_t screen)
 }
 
 /* A swap and its retire belong together: the desk owes the session that it
- * replaced, and cannot swap again before it has retired it. */
+ * replaced, and cannot swap again before it has retired it. A repeat replaces
+ * nothing, so it has no retire. Its answer has the session that was sent. */
 static void replace(uint16_t desk, uint16_t position, uint16_t session)
 {
     printf("desk %u puts session %u at position %u: ", (unsigned)desk, (unsigned)session,
@@ -79,11 +81,16 @@ static void replace(uint16_t desk, uint16_t position, uint16_t session)
     uint32_t answer = board_swap(desk, position, session, table, sizeof table);
     if (!accepted(answer))
         return;
-    if (board_session(answer) == 0) {
+    uint16_t old = board_session(answer);
+    if (old == session) {
+        printf("nothing changes, it is there already\n");
+        return;
+    }
+    if (old == 0) {
         printf("it was empty\n");
         return;
     }
-    printf("session %u is replaced, ", (unsigned)board_session(answer));
+    printf("session %u is replaced, ", (unsigned)old);
     answer = board_retire(desk, table, sizeof table);
     if (accepted(answer))
         printf("and retired\n");
@@ -122,6 +129,9 @@ int main(void)
     replace(1, 1, 301);
     if (collect(1) != 0) /* a screen shows it, so it must not be handed back */
         return EXIT_FAILURE;
+
+    printf("\nThe camera switch lost its link for a moment, and sends its last command again.\n");
+    replace(1, 1, 301);
 
     printf("\nSession 400 is replaced too; nobody shows that one.\n");
     replace(1, 2, 401);
