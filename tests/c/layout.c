@@ -58,11 +58,15 @@ struct footprint footprint_of(const struct call *call, const uint8_t *table)
     case DROP:
         add_words(&footprint, screen_index(table, numbers[0], numbers[1]), 1);
         break;
-    case SWAP:
+    case SWAP: {
+        uint16_t old = read_word(table, position_index(numbers[1]));
+        if (old == numbers[2])
+            break; /* a repeat */
         add_words(&footprint, position_index(numbers[1]), 1);
-        if (read_word(table, position_index(numbers[1])) != 0)
+        if (old != 0)
             add_words(&footprint, record + OWED, 1);
         break;
+    }
     case RETIRE:
         add_words(&footprint, record + OWED, 1);
         add_words(&footprint, record + WAITING, 1);

@@ -27,7 +27,8 @@ struct footprint {
     } ranges[3];
 };
 
-/* What a call writes if it is accepted, given the table before the call. */
+/* What a call writes if it is accepted, given the table before the call: no
+ * range for a swap to what is already at the position. */
 struct footprint footprint_of(const struct call *call, const uint8_t *table);
 bool in_footprint(const struct footprint *footprint, size_t byte);
 

@@ -5,9 +5,10 @@
  * Every table is placed in guarded memory: a stray write changes a guard byte,
  * and a stray access beyond the guard bytes faults.
  *
- * Where asked for, each call is repeated on copies of its table whose pages are
- * read-only, except those with a word of the call's footprint: this catches a
- * store to any other page, even one that changes nothing.
+ * Where asked for, each call is made again on copies of its table whose pages
+ * are read-only, except those with a word of the call's footprint: this catches
+ * a store to any other page, even one that changes nothing. A refusal and a
+ * repeat have no footprint, so that every page is read-only.
  */
 #define _DEFAULT_SOURCE
 #include "guarded_memory.h"
@@ -25,14 +26,14 @@
 /* ---- checks ---------------------------------------------------------- */
 
 static const char *group = "start";
-static unsigned long checks, failed, checks_before;
+static unsigned long checks, failed, printed, checks_before;
 
 static void check(bool good, const char *what)
 {
     checks++;
     if (!good) {
         failed++;
-        if (failed <= 20)
+        if (printed++ < 20)
             printf("FAILED in %s: %s\n", group, what);
     }
 }
@@ -100,7 +101,7 @@ enum { STRIP_PAGES = 4, MAX_REPORTS = 2 /* of each function */ };
 
 static size_t page;
 static uint8_t *strip, *strip_guards;
-static bool read_only; /* is each call repeated on read-only pages? */
+static bool read_only; /* is each call made again on read-only pages? */
 static unsigned long stray_stores[FUNCTIONS];
 
 static void make_strip(void)
@@ -145,9 +146,9 @@ static void report_stray(const struct call *call, size_t table, long edge)
            (long)(stored_to - strip) - (long)table, table % page, edge);
 }
 
-/* Repeats the call with a page boundary before this byte of its table, which
+/* Makes the call again with a page boundary before this byte of its table, which
  * may be one outside of it. */
-static void repeat_at(const struct call *call, uint32_t answer, const struct footprint *footprint, long edge)
+static void again_at(const struct call *call, uint32_t answer, const struct footprint *footprint, long edge)
 {
     size_t table = (size_t)((long)(STRIP_PAGES / 2 * page) - edge);
     for (size_t which = 0; which < STRIP_PAGES; which++)
@@ -171,19 +172,18 @@ static void repeat_at(const struct call *call, uint32_t answer, const struct foo
           "nothing written behind the table");
 }
 
-/* Repeats the call with a page boundary just before and just behind each range
- * of its footprint, and one byte to either side: there the table has an odd
- * address. A refusal has no footprint, and all pages are read-only. */
-static void repeat_on_read_only_pages(const struct call *call, uint32_t answer, const struct footprint *footprint)
+/* Makes the call again with a page boundary just before and just behind each
+ * range of its footprint, and one byte to either side: there the table has an
+ * odd address. With no footprint, the table is put at all eight alignments. */
+static void again_on_read_only_pages(const struct call *call, uint32_t answer, const struct footprint *footprint)
 {
-    for (long by = -1; by <= 1; by++) {
-        for (size_t i = 0; i < footprint->count; i++) {
-            repeat_at(call, answer, footprint, (long)footprint->ranges[i].first + by);
-            repeat_at(call, answer, footprint, (long)footprint->ranges[i].past + by);
+    for (size_t i = 0; i < footprint->count; i++)
+        for (long by = -1; by <= 1; by++) {
+            again_at(call, answer, footprint, (long)footprint->ranges[i].first + by);
+            again_at(call, answer, footprint, (long)footprint->ranges[i].past + by);
         }
-        if (footprint->count == 0)
-            repeat_at(call, answer, footprint, (long)lent.bytes / 2 + by);
-    }
+    for (long by = 0; by < 8 && footprint->count == 0; by++)
+        again_at(call, answer, footprint, (long)lent.bytes / 2 + by);
 }
 
 /* ---- the calls, checked ---------------------------------------------- */
@@ -212,7 +212,7 @@ static uint32_t perform(struct call call)
         check(only_footprint_changed(&footprint), "only the words of the call's footprint change");
     }
     if (read_only)
-        repeat_on_read_only_pages(&call, answer, &footprint);
+        again_on_read_only_pages(&call, answer, &footprint);
     return answer;
 }
 
@@ -402,6 +402,7 @@ static void case_j(void)
 {
     hall(1, 1, 1);
     accepts(swap(1, 1, 0), 0, "J: nothing for nothing");
+    check(memcmp(before, lent.table, lent.bytes) == 0, "J: nothing written");
     refuses(retire(1), BOARD_OWES_NOTHING, "J: nothing owed");
 }
 
@@ -622,6 +623,83 @@ static void every_answer(uint16_t desks, uint16_t screens, uint16_t positions, u
     accepts(collect(desk), 0, "nothing is left");
 }
 
+/* ---- repeats --------------------------------------------------------- */
+
+static uint16_t held_at(uint16_t position)
+{
+    return word(position_index(position));
+}
+
+/* A desk that owes nothing swaps a position to what is there. */
+static void repeat(uint16_t desk, uint16_t position)
+{
+    accepts(swap(desk, position, held_at(position)), held_at(position), "a repeat replies what is there");
+    check(memcmp(before, lent.table, lent.bytes) == 0, "a repeat leaves every byte");
+    refuses(retire(desk), BOARD_OWES_NOTHING, "a repeat owes nothing");
+}
+
+static void every_desk_repeats(uint16_t desks, uint16_t positions)
+{
+    for (uint16_t desk = 1; desk <= desks; desk++)
+        for (uint16_t position = 1; position <= positions; position++)
+            repeat(desk, position);
+}
+
+/* What is asked before the board looks at the position. */
+static void repeats_refused(uint16_t desks, uint16_t positions, uint16_t desk)
+{
+    uint16_t held = held_at(positions);
+    refuses(swap(0, positions, held), BOARD_NO_DESK, "6 also for a repeat");
+    refuses(swap((uint16_t)(desks + 1), positions, held), BOARD_NO_DESK, "6 also for a repeat");
+    refuses(swap(desk, 0, 0), BOARD_NO_POSITION, "8 also where nothing is put");
+    refuses(swap(desk, (uint16_t)(positions + 1), 0), BOARD_NO_POSITION, "8 also where nothing is put");
+    set_word(record(desks) + MARKS + 7, 0x8000);
+    refuses(swap(desk, positions, held), BOARD_UNSOUND, "5 also for a repeat");
+    set_word(record(desks) + MARKS + 7, 0);
+}
+
+/* The desk replaces what is at position 1. While it owes, its own repeats are
+ * refused and those of the next desk are not. Once it has retired, its swap may
+ * be sent again. */
+static void sent_again(uint16_t desks, uint16_t positions, uint16_t desk, uint16_t session)
+{
+    uint16_t old = held_at(1), next = (uint16_t)(desk % desks + 1);
+    accepts(swap(desk, 1, session), old, "another session");
+    for (uint16_t position = 1; position <= positions; position++)
+        refuses(swap(desk, position, held_at(position)), BOARD_OWING, "12 also for a repeat");
+    if (next != desk)
+        repeat(next, 1);
+    accepts(retire(desk), old, "the replaced session is retired");
+    repeat(desk, 1);
+}
+
+/* Repeats of none, of sessions (of which some are at two positions), while a
+ * screen shows one, with a full list, and in mid-reading. */
+static void repeats(uint16_t desks, uint16_t screens, uint16_t positions)
+{
+    uint16_t all = (uint16_t)(desks * screens), session = 2000;
+    hall(desks, screens, positions);
+    every_desk_repeats(desks, positions);
+    for (uint16_t position = 1; position <= positions; position++)
+        accepts(swap(desks, position, position == positions ? 65535 : (uint16_t)(1 + position / 2)), 0,
+                "a position's first session");
+    every_desk_repeats(desks, positions);
+    accepts(take(desks, screens, 1), held_at(1), "a screen shows it");
+    for (uint16_t desk = 1; desk <= desks; desk++) {
+        repeat(desk, 1);
+        repeats_refused(desks, positions, desk);
+        sent_again(desks, positions, desk, session++);
+    }
+    for (uint16_t used = 1; used < 2 * all; used++, session++) {
+        uint16_t old = held_at(1);
+        accepts(swap(1, 1, session), old, "one more session");
+        accepts(retire(1), old, "one more on the list");
+    }
+    repeat(1, 1);
+    check((board_session(collect(1)) == 0) == (all > 2), "in mid-reading if the hall is large enough");
+    repeat(1, 1);
+}
+
 /* ---- the stack ------------------------------------------------------- */
 
 /* What the header says that a call takes at most. */
@@ -637,6 +715,7 @@ static void busy_hall(void)
     board_open(busy_desks, busy_screens, busy_positions, table, bytes);
     for (uint16_t session = 1; session <= 130; session++) {
         board_swap(1, 1, session, table, bytes);
+        board_swap(1, 1, session, table, bytes); /* a repeat */
         board_take(1, 1, 1, table, bytes);
         board_swap(1, 1, 0, table, bytes);
         board_retire(1, table, bytes);
@@ -729,6 +808,19 @@ int main(void)
     every_answer(16, 4, 64, 1);
     every_answer(16, 4, 64, 8);
     every_answer(16, 4, 64, 16);
+    read_only = false;
+    end();
+
+    begin("repeats, with all pages read-only");
+    read_only = true;
+    for (int place = AT_START; place < PLACES; place++) {
+        book_place = place;
+        repeats(1, 1, 1);
+        repeats(2, 1, 3);
+    }
+    repeats(6, 1, 12);
+    repeats(3, 3, 1);
+    repeats(16, 4, 64);
     read_only = false;
     end();
 
