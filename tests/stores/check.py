@@ -13,12 +13,13 @@ import subprocess
 import sys
 import tempfile
 
-# Accepted, these always change a word: if the trace shows no store of theirs, the trace is broken.
-ALWAYS_STORE = ('open', 'take', 'drop', 'retire')
+# Accepted, and not a repeat, these always change a word: if the trace shows no store of theirs, the trace is broken.
+ALWAYS_STORE = ('open', 'take', 'drop', 'swap', 'retire')
 
 
 class Call:
-    """A call as the driver prints it. The footprint is a list of ranges of bytes of the table, empty for a refusal."""
+    """A call as the driver prints it. The footprint is a list of ranges of bytes of the table, empty for a refusal and for a
+    swap to what is already at the position."""
 
     def __init__(self, line):
         self.name, self.hall, table, memory, footprint = line.removeprefix('call ').split('|')

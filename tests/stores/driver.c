@@ -8,8 +8,9 @@
  * The driver stores to the marker just before and just after each call, in the
  * order of the lines. TABLE is an address, MEMORY is the range of addresses
  * around the table, and the ranges at the end are bytes of the table: the
- * footprint of an accepted call, from document 01 and the table's words before
- * the call. The code below says of each call whether it is accepted.
+ * footprint of an accepted call, from documents 01 and 02 and the table's words
+ * before the call. A refusal and a repeat have none. The code below says of each
+ * call whether it is accepted.
  */
 #include "layout.h"
 
@@ -157,7 +158,7 @@ static void screens_and_positions(uint16_t desk)
 {
     uint16_t screen = hall_screens, position = hall_positions;
     call(COLLECT, desk, 0, 0, BOARD_ACCEPTED);
-    call(SWAP, desk, position, 0, BOARD_ACCEPTED);
+    call(SWAP, desk, position, 0, BOARD_ACCEPTED); /* a repeat */
     call(TAKE, desk, screen, position, BOARD_POSITION_EMPTY);
     call(DROP, desk, screen, 0, BOARD_SCREEN_EMPTY);
     call(RETIRE, desk, 0, 0, BOARD_OWES_NOTHING);
@@ -166,10 +167,15 @@ static void screens_and_positions(uint16_t desk)
     call(TAKE, desk, screen, position, BOARD_SCREEN_FULL);
     call(DROP, desk, screen, 0, BOARD_ACCEPTED);
     call(TAKE, desk, 1, position, BOARD_ACCEPTED);
-    call(SWAP, desk, position, 300, BOARD_ACCEPTED); /* the same session: it is owed all the same */
+    expect(call(SWAP, desk, position, 300, BOARD_ACCEPTED) == 300, "a repeat");
+    call(RETIRE, desk, 0, 0, BOARD_OWES_NOTHING);
+    call(SWAP, desk, position, 301, BOARD_ACCEPTED);
     call(SWAP, desk, 1, 7, BOARD_OWING);
+    call(SWAP, desk, position, 301, BOARD_OWING); /* also for a repeat */
     call(RETIRE, desk, 0, 0, BOARD_ACCEPTED);
+    expect(call(SWAP, desk, position, 301, BOARD_ACCEPTED) == 301, "a repeat after the retire");
     call(SWAP, desk, position, 0, BOARD_ACCEPTED);
+    call(SWAP, desk, position, 0, BOARD_OWING); /* also for a repeat */
     call(RETIRE, desk, 0, 0, BOARD_ACCEPTED);
     call(DROP, desk, 1, 0, BOARD_ACCEPTED);
 }
@@ -215,8 +221,9 @@ static void readings(uint16_t desk, bool steps)
         call(COLLECT, desk, 0, 0, BOARD_ACCEPTED);
     if (all > 2) {
         expect(word(at + TESTED) != 0, "in mid-reading again");
-        call(SWAP, desk, 1, 0, BOARD_ACCEPTED);
+        call(SWAP, desk, 1, 0, BOARD_ACCEPTED); /* a repeat */
         call(SWAP, desk, 1, 8, BOARD_ACCEPTED);
+        expect(call(SWAP, desk, 1, 8, BOARD_ACCEPTED) == 8, "a repeat in mid-reading");
         call(TAKE, desk, 1, 1, BOARD_ACCEPTED);
         call(SWAP, desk, 1, 0, BOARD_ACCEPTED);
         call(RETIRE, desk, 0, 0, BOARD_ACCEPTED);

@@ -46,14 +46,19 @@ uint32_t __wrap_board_drop(uint16_t desk, uint16_t screen, uint8_t *table, size_
         rewrite(table, bytes - 1);
     return answer;
 }
-#elif defined SWAP_OF_NONE_REWRITES_OWED
+#elif defined SWAP_OF_NONE_REWRITES_OWED || defined SWAP_REPEAT_REWRITES_THE_POSITION
 uint32_t __real_board_swap(uint16_t desk, uint16_t position, uint16_t session, uint8_t *table, size_t bytes);
 
 uint32_t __wrap_board_swap(uint16_t desk, uint16_t position, uint16_t session, uint8_t *table, size_t bytes)
 {
     uint32_t answer = __real_board_swap(desk, position, session, table, bytes);
+#if defined SWAP_OF_NONE_REWRITES_OWED
     if (answer == 0)
         rewrite(table, record_byte(table, desk, 0));
+#else
+    if (answer == session) /* accepted, and what was sent is what was there */
+        rewrite(table, 2 * (3 + position - 1u));
+#endif
     return answer;
 }
 #elif defined RETIRE_REWRITES_K
