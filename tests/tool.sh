@@ -116,6 +116,42 @@ echo "9 5 0 5     desk 1 collects: one retirement of 5 is handed back; it is sti
 sheet explain twice.sheet --program "$program" | sed -n 's/ *$//; /^9 /p' >twice.explained
 same "explain: a session that must stay open" twice.meaning twice.explained
 
+# Repeats: a swap to what is already at the position changes nothing, and nothing is owed for it.
+cat >repeats.txt <<'END'
+hall 2 1 2
+swap 1 2 0
+swap 1 1 500
+swap 2 1 500
+retire 2
+swap 1 1 600
+swap 1 1 600
+retire 1
+swap 1 1 600
+collect 1
+END
+cat >repeats.meaning <<'END'
+0 0 0 0     a hall of 2 desks, 1 screen per desk, 2 positions opens
+1 3 0 0     desk 1 swaps position 2 to nothing: it is already empty, nothing changes
+2 3 0 0     desk 1 swaps position 1 to session 500: was empty, nothing is owed
+3 3 0 500   desk 2 swaps position 1 to session 500: it already holds 500, nothing changes
+4 4 13 0    desk 2 retires: refused, the desk owes no session
+5 3 0 500   desk 1 swaps position 1 to session 600: was 500, now owed
+6 3 12 0    desk 1 swaps position 1 to session 600: refused, the desk must first retire the session it owes
+7 4 0 500   desk 1 retires: 500 now waits on its list
+8 3 0 600   desk 1 swaps position 1 to session 600: it already holds 600, nothing changes
+9 5 0 500   desk 1 collects: one retirement of 500 is handed back; nothing references it now, so it may be closed
+end 7 2 1   7 steps accepted, 2 refused by the board, 1 session handed back
+END
+sheet encode repeats.txt >repeats.sheet
+sheet explain repeats.sheet --program "$program" >repeats.explained
+same "explain: repeats" repeats.meaning repeats.explained
+sheet picture repeats.sheet repeats.svg --program "$program"
+[ "$(grep -c '>no change<' repeats.svg)" -eq 3 ] || fail "the picture of repeats does not show three"
+[ "$(grep -c '>owes<' repeats.svg)" -eq 2 ] && [ "$(grep -c 'stroke-dasharray="2 2"' repeats.svg)" -eq 1 ] ||
+    fail "the picture of repeats does not show that only one swap owes"
+[ "$(grep -c '>600</text>' repeats.svg)" -eq 1 ] || fail "the picture of repeats does not show 600 in one bar"
+passed
+
 # Comments, blank lines, spaces and other line ends do not change the bytes.
 printf '\357\273\277# a comment\r\n\r\n\thall  1 1 1 # the hall\r\nswap 1 01 300\r\n' >loose.txt
 sheet encode loose.txt >loose.sheet
@@ -189,10 +225,10 @@ refused 2 "the opening is refused with 1, so there is no hall to draw ('explain'
 refused 2 "d.lines:2: not a line of this sheet: it says record 1, code 3; the sheet has record 1, code 1" \
     explain mistakes.sheet --lines d.lines
 sed 's/^7 5 0 300$/7 5 0 0/' d.lines >wrong.lines
-refused 2 "record 7: the program printed 0 0, but by document 01 it is 0 300; nothing is drawn" \
+refused 2 "record 7: the program printed 0 0, but by documents 01 and 02 it is 0 300; nothing is drawn" \
     picture d.sheet wrong.svg --lines wrong.lines
 sed 's/^end .*/end 7 1 2/' d.lines >wrong.lines
-refused 2 "end: the program printed 7 1 2, but by document 01 it is 7 1 1; nothing is drawn" \
+refused 2 "end: the program printed 7 1 2, but by documents 01 and 02 it is 7 1 1; nothing is drawn" \
     picture d.sheet wrong.svg --lines wrong.lines
 [ ! -e wrong.svg ] || fail "a picture of wrong lines was written"
 printf '0 0 0 0\n1 5 0 0\n2 1 0 0\nend 2 0 0\n' >wrong.lines

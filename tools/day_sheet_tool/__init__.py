@@ -1,1 +1,1 @@
-"""The modules of tools/sheet. Written from document 01, they share no code with the board."""
+"""The modules of tools/sheet. Written from documents 01 and 02, they share no code with the board."""

@@ -1,4 +1,4 @@
-"""A board from document 01, used to draw the state after each record."""
+"""A board from documents 01 and 02, used to draw the state after each record."""
 
 from .steps import STEPS
 
@@ -69,8 +69,9 @@ class Board:
         if desk.owed != 0:
             return 12, 0
         old = self.positions[position - 1]
-        self.positions[position - 1] = session
-        desk.owed = old
+        if session != old:
+            self.positions[position - 1] = session
+            desk.owed = old
         return 0, old
 
     def retire(self, desk):

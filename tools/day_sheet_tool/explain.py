@@ -2,7 +2,7 @@
 
 from .errors import plural
 from .references import References
-from .steps import REASONS, STEPS
+from .steps import REASONS, STEPS, is_repeat
 from .text import where_and_why
 
 
@@ -58,6 +58,8 @@ def doing_in_words(record):
 
 def result_in_words(record, session, references):
     name = STEPS[record.code].name
+    if is_repeat(record, session):
+        return f"it already holds {session}, nothing changes" if session else "it is already empty, nothing changes"
     if name == "take":
         return f"it shows {session}"
     if name == "drop":

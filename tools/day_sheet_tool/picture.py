@@ -10,7 +10,7 @@ from .legend import legend
 from .shapes import (
     CELL, COLUMN, HANDED_BACK, LEFT, MARGIN, MAX_CELLS, REFUSED, ROW, SCREEN, bars, boxed, listed,
 )
-from .steps import STEPS
+from .steps import STEPS, is_repeat
 from .svg import FAINT, INK, Drawing
 
 HEAD = 78  # a record and its reply
@@ -128,6 +128,8 @@ def asked(record):
 
 def replied(moment):
     name = STEPS[moment.record.code].name
+    if is_repeat(moment.record, moment.session):
+        return "no change"
     if name == "swap":
         return f"was {moment.session or 'none'}"
     if name == "retire":

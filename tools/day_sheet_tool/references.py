@@ -3,7 +3,7 @@ shown on no screen: this is a theorem about the board, and the rule by which a s
 
 from collections import Counter
 
-from .steps import STEPS
+from .steps import STEPS, is_repeat
 
 
 class References:
@@ -17,7 +17,7 @@ class References:
         desk, *rest = record.numbers
         listed = self.lists.setdefault(desk, Counter())
         name = STEPS[record.code].name
-        if name == "swap":
+        if name == "swap" and not is_repeat(record, session):
             self.positions[rest[0]] = rest[1]
             self.owed[desk] = session
         elif name == "retire":

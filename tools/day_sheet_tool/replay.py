@@ -42,4 +42,4 @@ def agree(line, reply, session):
 
 
 def differ(what, printed, expected):
-    raise UserError(f"{what}: the program printed {printed}, but by document 01 it is {expected}; nothing is drawn")
+    raise UserError(f"{what}: the program printed {printed}, but by documents 01 and 02 it is {expected}; nothing is drawn")

@@ -41,3 +41,8 @@ REASONS = {
     17: "no step has this code; the codes are 1 to 5",
     18: "a sheet has at most 65,536 bytes",
 }
+
+
+def is_repeat(record, session):
+    """Is the record, accepted with this session, a swap to what was already at the position? Then it changed nothing."""
+    return STEPS[record.code].name == "swap" and record.numbers[2] == session
