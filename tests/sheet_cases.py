@@ -20,7 +20,7 @@ STORED = ROOT / 'crates' / 'sheet_cases'
 
 MAX_BYTES = 65_536
 
-# A case: the bytes of a sheet, and the lines that document 01 gives for it.
+# A case: the bytes of a sheet, and the lines that documents 01 and 02 give for it.
 Case = collections.namedtuple('Case', 'name sheet lines')
 
 
@@ -46,7 +46,7 @@ def listed():
 
 def longest():
     """The cases of 65,536 bytes and of one more."""
-    # In a hall of 1, 1, 1, repeated: a swap to 65,535, a swap to 0, a retire, a collect. Every number has three bytes.
+    # In a hall of 1, 1, 1, over and over: a swap to 65,535, a swap to 0, a retire, a collect. Every number has three bytes.
     one, none = '81 80 00', '80 80 00'
     swap, retire, collect = f'83 80 00 {one} {one}', f'84 80 00 {one}', f'85 80 00 {one}'
     turn = bytes.fromhex(f'{swap} FF FF 03 {swap} {none} {retire} {collect}')
