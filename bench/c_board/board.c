@@ -1,7 +1,7 @@
 /*
- * The session board in C, written for speed and from document 01 alone: the
- * same questions in the same order, the same answers and bytes. It works on the
- * lent bytes in place, with SSE2, which every x86-64 has; words are low byte
+ * The session board in C, written for speed and from documents 01 and 02 alone:
+ * the same questions in the same order, the same answers and bytes. It works on
+ * the lent bytes in place, with SSE2, which every x86-64 has; words are low byte
  * first there, as in the table.
  *
  * CALL(name) is the name that a call gets: board_open and so on, if not said.
@@ -275,6 +275,8 @@ uint32_t CALL(swap)(uint16_t desk, uint16_t position, uint16_t session, uint8_t 
     if (get(record, OWED) != 0)
         return refused(BOARD_OWING);
     unsigned old = get(table, HEADER + position - 1u);
+    if (old == session) /* a repeat */
+        return old;
     set(table, HEADER + position - 1u, session);
     if (old != 0)
         set(record, OWED, old);

@@ -47,6 +47,7 @@ pub fn tasks(hall: &Hall, marks: bool) -> Option<Vec<Task>> {
     let take = Call::Take(desk, screen, position);
     let drop = Call::Drop(desk, screen);
     let swap = Call::Swap(desk, position, 7);
+    let repeat = Call::Swap(desk, position, SESSION);
     let collect = Call::Collect(desk);
     let left = collects_left(hall, marks);
 
@@ -57,6 +58,7 @@ pub fn tasks(hall: &Hall, marks: bool) -> Option<Vec<Task>> {
     add("drop", drop, after(&[take]), 0);
     add("swap", swap, busy.clone(), 0);
     add("swap onto an empty position", swap, with_word(hall.position(position), 0), 0);
+    add("swap that repeats", repeat, busy.clone(), 0);
     add("retire", Call::Retire(desk), after(&[swap]), 0);
     if left > 1 {
         add("collect that reads two screens", collect, busy.clone(), 0);

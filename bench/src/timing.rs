@@ -11,8 +11,8 @@ pub const PAGE: usize = 4096;
 pub const BATCH_BYTES: usize = 16 * 1024;
 const MAX_TABLES: usize = 256;
 
-/// How often a batch goes over its tables, if the call leaves them as they are or is an opening:
-/// such calls are short, and the clock's steps are not.
+/// How often a batch goes over its tables, if the call is refused or is an opening: such calls
+/// can be made again on the same table, and are short, while the clock's steps are not.
 pub const PASSES: usize = 16;
 
 pub const REPETITIONS: usize = 1001;

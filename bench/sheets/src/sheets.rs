@@ -13,7 +13,7 @@ pub struct Sheet {
 pub fn all() -> Vec<Sheet> {
     vec![
         Sheet { name: "retires and collects, hall 16 4 64", bytes: retires_and_collects() },
-        Sheet { name: "takes, drops and swaps, hall 16 4 64", bytes: takes_drops_swaps() },
+        Sheet { name: "takes, drops and repeats, hall 16 4 64", bytes: takes_drops_repeats() },
         Sheet { name: "collects alone, hall 1 1 1", bytes: collects_alone() },
         Sheet { name: "steps refused with 6 to 14, hall 16 4 64", bytes: refused() },
     ]
@@ -37,8 +37,8 @@ fn retires_and_collects() -> Vec<u8> {
     fill(sheet, (0..).flat_map(turn))
 }
 
-/// A position is swapped from none to none: that owes nothing.
-fn takes_drops_swaps() -> Vec<u8> {
+/// A position is swapped from none to none: that is a repeat, and owes nothing.
+fn takes_drops_repeats() -> Vec<u8> {
     let mut sheet = vec![16, 4, 64];
     sheet.extend([3, 1, 1, 0xAC, 0x02]);
     let turn = |turn: usize| {
@@ -55,8 +55,8 @@ fn collects_alone() -> Vec<u8> {
 /// Desk 1 has a full list and owes one more; position 2 is empty.
 fn refused() -> Vec<u8> {
     let mut sheet = vec![16, 4, 64, 3, 1, 1, 5];
-    (0..128).for_each(|_| sheet.extend([3, 1, 1, 6, 4, 1]));
-    sheet.extend([3, 1, 1, 7, 1, 1, 1, 1]);
+    (0..128).for_each(|turn| sheet.extend([3, 1, 1, 6 + turn % 2, 4, 1]));
+    sheet.extend([3, 1, 1, 8, 1, 1, 1, 1]);
     let records = [
         vec![1, 17, 1, 1],
         vec![1, 1, 5, 1],
