@@ -1,4 +1,4 @@
-//! The session board in plain Rust, written from document 01 alone.
+//! The session board in plain Rust, written from documents 01 and 02 alone.
 //!
 //! The board is compared with it, so the two share no code. The table is a
 //! slice of bytes, two to a word, low byte first; an odd last byte is not part
@@ -85,6 +85,10 @@ pub fn drop(desk: u16, screen: u16, table: &mut [u8]) -> Reply {
 }
 
 /// The position holds another session; the desk owes the old one.
+///
+/// Document 02, Job 1: "a swap to the session already there, or of 0 onto an
+/// empty position, replies with it, owes nothing and is no swap for linking. ..
+/// 12 is still asked first, also for a repeat." A repeat writes no word.
 pub fn swap(desk: u16, position: u16, session: u16, table: &mut [u8]) -> Reply {
     let hall = hall_with_desk(table, desk)?;
     ask_position(&hall, position)?;
@@ -92,6 +96,9 @@ pub fn swap(desk: u16, position: u16, session: u16, table: &mut [u8]) -> Reply {
     ask(word(table, owed) == 0, Refusal::Owing)?;
     let held = hall.position(position);
     let old = word(table, held);
+    if session == old {
+        return Ok(old);
+    }
     set_word(table, held, session);
     if old != 0 {
         set_word(table, owed, old);

@@ -130,6 +130,13 @@ fn a_refused_step_does_not_end_the_reading() {
     assert_eq!(lines_after_opening(&[4, 1, 5, 1]), "1 4 13 0\n2 5 0 0\nend 1 1 0\n");
 }
 
+/// 0 onto an empty position, then a session twice.
+#[test]
+fn a_repeat_is_an_accepted_step() {
+    let lines = lines_after_opening(&[3, 1, 1, 0, 3, 1, 1, 5, 3, 1, 1, 5, 4, 1]);
+    assert_eq!(lines, "1 3 0 0\n2 3 0 0\n3 3 0 5\n4 4 13 0\nend 3 1 0\n");
+}
+
 /// Only a session handed back counts in the third count.
 #[test]
 fn what_is_handed_back() {

@@ -62,6 +62,15 @@ impl Board {
         reply
     }
 
+    /// A swap to what the position holds already, accepted: the reply is that,
+    /// and every byte stays.
+    pub fn repeat(&mut self, desk: u16, position: u16) {
+        let before = self.table.clone();
+        let held = word(&before, self.hall.position(position));
+        assert_eq!(self.swap(desk, position, held), Ok(held));
+        assert_eq!(self.table, before);
+    }
+
     /// The sessions of `times` collects, one after the other.
     pub fn collects(&mut self, desk: u16, times: usize) -> Vec<u16> {
         (0..times).map(|_| self.collect(desk).expect("an accepted collect")).collect()
