@@ -52,6 +52,7 @@ reference_tests() {
 step "reference" 1 reference_tests
 step "building compare" 0 build compare
 step "compare" 1 "$CARGO_TARGET_DIR/release/compare"
+step "vectors" 1 "$CARGO_TARGET_DIR/release/vectors" "$root"/tests/vectors/*-calls.txt
 step "building host_test" 0 link host_test "$root/tests/host/host_test.c" "$root"/tests/c/*.c
 step "host_test" 1 "$CARGO_TARGET_DIR/host_test"
 step "building sheets" 0 build sheets

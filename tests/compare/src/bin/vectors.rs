@@ -1,0 +1,174 @@
+//! Runs the published calls (tests/vectors) on the archive and on the reference:
+//!
+//!     vectors FILE...
+//!
+//! Each line must get its answer and leave its bytes on both. Every line that
+//! does not is printed, with what was expected and what came.
+
+#[allow(dead_code)]
+#[path = "../call.rs"]
+mod call;
+
+use call::Call;
+use std::process::ExitCode;
+use std::str::FromStr;
+use std::{env, fs};
+
+fn main() -> ExitCode {
+    let files: Vec<String> = env::args().skip(1).collect();
+    if files.is_empty() {
+        eprintln!("usage: vectors FILE...");
+        return ExitCode::from(2);
+    }
+    let (mut calls, mut faults) = (0, Vec::new());
+    for file in &files {
+        match run_file(file, &mut faults) {
+            Ok(of_file) => calls += of_file,
+            Err(fault) => faults.push(format!("{file}: {fault}")),
+        }
+    }
+    faults.iter().for_each(|fault| println!("{fault}"));
+    if faults.is_empty() {
+        println!("vectors: {calls} calls agree, archive and reference");
+        ExitCode::SUCCESS
+    } else {
+        println!("vectors: {calls} calls, {} faults", faults.len());
+        ExitCode::FAILURE
+    }
+}
+
+/// How many calls a file has. None is an error.
+fn run_file(file: &str, faults: &mut Vec<String>) -> Result<usize, String> {
+    let text = fs::read_to_string(file).map_err(|error| error.to_string())?;
+    let mut calls = 0;
+    for (number, line) in (1..).zip(text.lines()) {
+        if line.is_empty() || line.starts_with('#') {
+            continue;
+        }
+        calls += 1;
+        let of_line = match line.parse::<Vector>() {
+            Ok(vector) => vector.faults(),
+            Err(fault) => vec![fault],
+        };
+        faults.extend(of_line.iter().map(|fault| format!("{file}:{number}: {fault}")));
+    }
+    match calls {
+        0 => Err("no calls".into()),
+        calls => Ok(calls),
+    }
+}
+
+/// A call, the tables it is lent, its answer, and the tables after it.
+struct Vector {
+    /// The call as the line has it.
+    text: String,
+    call: Call,
+    tables: Vec<Vec<u8>>,
+    answer: u32,
+    after: Vec<Vec<u8>>,
+}
+
+impl Vector {
+    /// Where the archive or the reference differs from the line.
+    fn faults(&self) -> Vec<String> {
+        let mut of_archive = self.tables.clone();
+        let archive = self.call.to_archive(&mut of_archive[0]);
+        let mut of_reference = self.tables.clone();
+        let reference = self.call.to_reference(&mut of_reference[0]);
+        let mut faults = self.differences("archive", archive, &of_archive);
+        faults.extend(self.differences("reference", reference, &of_reference));
+        faults
+    }
+
+    /// The answer, and in each table the first byte, that are not as expected.
+    fn differences(&self, board: &str, answer: u32, tables: &[Vec<u8>]) -> Vec<String> {
+        let call = &self.text;
+        let mut faults = Vec::new();
+        if answer != self.answer {
+            let (expected, got) = (reply(self.answer), reply(answer));
+            faults.push(format!("{call}: expected {expected}, {board} answered {got}"));
+        }
+        for (number, (expected, got)) in (1..).zip(self.after.iter().zip(tables)) {
+            let mut pairs = expected.iter().zip(got);
+            if let Some(at) = pairs.position(|(expected, got)| expected != got) {
+                faults.push(format!(
+                    "{call}: byte {at} of table {number}: expected {:02x}, {board} left {:02x}",
+                    expected[at], got[at]
+                ));
+            }
+        }
+        faults
+    }
+}
+
+fn reply(answer: u32) -> String {
+    format!("{} {}", answer >> 16, answer & 0xFFFF)
+}
+
+/// `board_swap 1 1 5 | 010001000100.00*34 | 0 0 | 0100010001000500.00*32`
+impl FromStr for Vector {
+    type Err = String;
+
+    fn from_str(line: &str) -> Result<Vector, String> {
+        let fields: Vec<&str> = line.split(" | ").collect();
+        let [text, tables, answer, after] = fields[..] else {
+            return Err(format!("{} fields, not 4", fields.len()));
+        };
+        let call = board_call(text)?;
+        let tables: Vec<Vec<u8>> = tables.split(' ').map(bytes).collect::<Result<_, _>>()?;
+        if tables.len() != 1 {
+            return Err(format!("{text}: {} tables, not 1", tables.len()));
+        }
+        let answer = numbers(answer)?;
+        let after = tables_after(&tables, after)?;
+        Ok(Vector { text: text.into(), call, tables, answer, after })
+    }
+}
+
+fn board_call(text: &str) -> Result<Call, String> {
+    let call = text.strip_prefix("board_").ok_or("not a call of the board".to_string());
+    call.and_then(str::parse).map_err(|error| format!("{text}: {error}"))
+}
+
+/// The answer of a reply number and a session.
+fn numbers(text: &str) -> Result<u32, String> {
+    let number = |text: &str| text.parse::<u16>().map_err(|error| format!("{text}: {error}"));
+    let (reply, session) = text.split_once(' ').ok_or(format!("{text}: not two numbers"))?;
+    Ok(u32::from(number(reply)?) << 16 | u32::from(number(session)?))
+}
+
+/// `=` is a table that has not changed. A call cannot change a length.
+fn tables_after(before: &[Vec<u8>], text: &str) -> Result<Vec<Vec<u8>>, String> {
+    let texts: Vec<&str> = text.split(' ').collect();
+    let read = |(before, &text): (&Vec<u8>, &&str)| match text {
+        "=" => Ok(before.clone()),
+        _ => bytes(text),
+    };
+    let after: Vec<Vec<u8>> = before.iter().zip(&texts).map(read).collect::<Result<_, _>>()?;
+    let same_lengths = before.iter().map(Vec::len).eq(after.iter().map(Vec::len));
+    if texts.len() == before.len() && same_lengths {
+        Ok(after)
+    } else {
+        Err("the tables after the call are not as many or as long as before".into())
+    }
+}
+
+/// Hex pieces joined by dots; a piece `HEX*n` stands n times; `-` is no bytes.
+fn bytes(text: &str) -> Result<Vec<u8>, String> {
+    let mut bytes = Vec::new();
+    for piece in text.split('.').filter(|_| text != "-") {
+        let (digits, times) = piece.split_once('*').unwrap_or((piece, "1"));
+        let times: usize = times.parse().map_err(|error| format!("{piece}: {error}"))?;
+        bytes.extend(from_hex(digits)?.repeat(times));
+    }
+    Ok(bytes)
+}
+
+fn from_hex(digits: &str) -> Result<Vec<u8>, String> {
+    let all_hex = digits.bytes().all(|digit| digit.is_ascii_hexdigit());
+    if digits.is_empty() || digits.len() % 2 != 0 || !all_hex {
+        return Err(format!("'{digits}' is not bytes in hex"));
+    }
+    let byte = |at| u8::from_str_radix(&digits[at..at + 2], 16).expect("two digits in hex");
+    Ok((0..digits.len()).step_by(2).map(byte).collect())
+}
