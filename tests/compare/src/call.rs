@@ -1,6 +1,6 @@
 //! One call of the board, made to the archive or to the reference.
 
-use reference::answer;
+use reference::{answer, word, Hall};
 use std::fmt;
 use std::str::FromStr;
 
@@ -39,7 +39,7 @@ impl Function {
         }
     }
 
-    /// The reply numbers that document 01 gives this function.
+    /// The reply numbers that documents 01 and 02 give this function.
     pub fn replies(self) -> &'static [usize] {
         match self {
             Open => &[0, 1, 2, 3, 4],
@@ -67,6 +67,12 @@ impl Call {
         call
     }
 
+    /// Is it a swap to what stands at its position, a session or 0?
+    pub fn repeats(self, table: &[u8]) -> bool {
+        let [_, position, session] = self.numbers;
+        self.function == Swap && held(table, position) == Some(session)
+    }
+
     pub fn to_reference(self, table: &mut [u8]) -> u32 {
         let [a, b, c] = self.numbers;
         answer(match self.function {
@@ -90,6 +96,15 @@ impl Call {
             Collect => archive::collect(a, table),
         }
     }
+}
+
+/// What stands at a position, if the table has it. The table may be unsound.
+pub fn held(table: &[u8], position: u16) -> Option<u16> {
+    let words = table.len() / 2;
+    let header = |at| if at < words { word(table, at) } else { 0 };
+    let hall = Hall::new(header(0), header(1), header(2)).ok()?;
+    let at = hall.position(position);
+    ((1..=hall.positions).contains(&position) && at < words).then(|| word(table, at))
 }
 
 /// `take 1 2 3`

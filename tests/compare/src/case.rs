@@ -29,14 +29,16 @@ pub struct Difference {
 
 impl Case {
     /// Makes every call on both boards until they differ in the answer or in
-    /// any byte of the table or its guards. `seen` gets each answer compared.
-    pub fn run(&self, mut seen: impl FnMut(Call, u32)) -> Option<Difference> {
+    /// any byte of the table or its guards. `seen` gets each answer compared,
+    /// and whether the call is a repeat.
+    pub fn run(&self, mut seen: impl FnMut(Call, bool, u32)) -> Option<Difference> {
         let mut of_reference = Guarded::new(&self.table, self.align);
         let mut of_archive = Guarded::new(&self.table, self.align);
         for (index, call) in self.calls.iter().enumerate() {
+            let repeats = call.repeats(of_reference.table());
             let reference = call.to_reference(of_reference.table());
             let archive = call.to_archive(of_archive.table());
-            seen(*call, reference);
+            seen(*call, repeats, reference);
             if reference != archive || of_reference.bytes() != of_archive.bytes() {
                 let byte = of_reference.first_difference(&of_archive);
                 return Some(Difference { call: index, reference, archive, byte });
@@ -46,7 +48,7 @@ impl Case {
     }
 
     pub fn differs(&self) -> bool {
-        self.run(|_, _| ()).is_some()
+        self.run(|_, _, _| ()).is_some()
     }
 }
 

@@ -75,7 +75,7 @@ fn compare_many(options: &Options) -> ExitCode {
     while tally.calls < options.calls && begun.elapsed() < Duration::from_secs(options.seconds) {
         crash::now_at(number);
         let case = make::case(options.seed, number);
-        if case.run(|call, answer| tally.count(call, answer)).is_some() {
+        if case.run(|call, repeats, answer| tally.count(call, repeats, answer)).is_some() {
             explain_case(options.seed, number, case);
             println!("compare: {} calls, 1 difference", tally.calls);
             return ExitCode::FAILURE;
@@ -90,8 +90,8 @@ fn compare_many(options: &Options) -> ExitCode {
 /// No case differed; but a reply that never occurred was never compared.
 fn judge(tally: &Tally) -> ExitCode {
     let missing = tally.missing();
-    for (function, reply) in &missing {
-        println!("{} never answered {reply}", function.name());
+    for (name, reply) in &missing {
+        println!("{name} never answered {reply}");
     }
     let calls = tally.calls;
     if missing.is_empty() {
@@ -115,7 +115,7 @@ fn explain_case(seed: u64, number: u64, case: Case) {
 
 fn compare_one(case: &Case) -> ExitCode {
     let mut tally = Tally::default();
-    let differs = case.run(|call, answer| tally.count(call, answer)).is_some();
+    let differs = case.run(|call, repeats, answer| tally.count(call, repeats, answer)).is_some();
     if differs {
         explain(&shrink(case.clone()));
         println!("compare: {} calls, 1 difference", tally.calls);
@@ -156,7 +156,7 @@ fn explain(case: &Case) {
     );
     println!("table:{}", hex(&case.table));
     let mut answers = Vec::new();
-    let difference = case.run(|_, answer| answers.push(answer));
+    let difference = case.run(|_, _, answer| answers.push(answer));
     for (call, &answer) in case.calls.iter().zip(&answers) {
         println!("  {call}: {}", reply(answer));
     }

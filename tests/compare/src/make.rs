@@ -1,7 +1,7 @@
 //! Cases: openings, histories, and tables that are sound, damaged, truncated or
 //! too long.
 
-use crate::call::{Call, Function, Function::*};
+use crate::call::{held, Call, Function, Function::*};
 use crate::case::Case;
 use crate::damage::damage;
 use crate::rng::Rng;
@@ -62,39 +62,50 @@ fn around(rng: &mut Rng, need: usize) -> usize {
 /// retire and collect, all of them take and drop, and there are few sessions.
 fn history(rng: &mut Rng) -> Case {
     let hall = any_hall(rng);
-    let sessions = Sessions::any(rng);
     let desks: Vec<u16> = (0..rng.within(1, 3)).map(|_| one_of(rng, hall.desks)).collect();
     let takes = rng.pick(&[1, 4, 10]);
     let drops = rng.pick(&[0, 1, 4]);
     let retires = rng.pick(&[2, 5, 10]);
     let collects = rng.pick(&[0, 1, 4, 12]);
+    let repeats = rng.pick(&[0, 1, 4]);
     let most = 20 + 10 * hall.all_screens();
     let steps = rng.within(1, most);
-
-    let mut calls = vec![Call::new(Open, &[hall.desks, hall.screens, hall.positions])];
-    while calls.len() < steps {
-        let desk = rng.pick(&desks);
-        let turn = rng.below(takes + drops + retires + collects + 1);
-        if turn < takes {
-            calls.push(step(rng, &hall, &sessions, Take));
-        } else if turn < takes + drops {
-            calls.push(step(rng, &hall, &sessions, Drop));
-        } else if turn < takes + drops + retires {
-            let position = one_of(rng, hall.positions);
-            calls.push(Call::new(Swap, &[desk, position, sessions.pick(rng)]));
-            calls.push(Call::new(Retire, &[desk]));
-        } else if turn < takes + drops + retires + collects {
-            calls.push(Call::new(Collect, &[desk]));
-        } else if rng.one_in(8) {
-            let burst = rng.within(1, hall.all_screens() + 2);
-            calls.extend(vec![Call::new(Collect, &[desk]); burst]);
-        } else {
-            calls.push(any_step(rng, &hall, &sessions));
-        }
-    }
     let length = 2 * hall.need() + rng.below(4);
     let table = any_bytes(rng, length);
-    case_of(rng, table, calls)
+
+    let mut calls = Calls::new(hall, Sessions::any(rng), table.clone());
+    calls.push(Open, &[hall.desks, hall.screens, hall.positions]);
+    while calls.made.len() < steps {
+        let desk = rng.pick(&desks);
+        match turn(rng, &[takes, drops, retires, collects, repeats, 1]) {
+            0 => calls.step(rng, Take),
+            1 => calls.step(rng, Drop),
+            2 => calls.replace_and_retire(rng, desk),
+            3 => calls.push(Collect, &[desk]),
+            4 => {
+                let position = one_of(rng, hall.positions);
+                calls.repeat(rng, desk, position);
+            }
+            _ if rng.one_in(8) => {
+                let burst = rng.within(1, hall.all_screens() + 2);
+                (0..burst).for_each(|_| calls.push(Collect, &[desk]));
+            }
+            _ => calls.any_step(rng),
+        }
+    }
+    case_of(rng, table, calls.made)
+}
+
+/// Which of the turns is next, each with its share.
+fn turn(rng: &mut Rng, shares: &[usize]) -> usize {
+    let mut left = rng.below(shares.iter().sum());
+    for (turn, &share) in shares.iter().enumerate() {
+        if left < share {
+            return turn;
+        }
+        left -= share;
+    }
+    unreachable!("less than the sum of the shares is left")
 }
 
 /// Steps on a sound table, which need not be reachable from an opening.
@@ -102,8 +113,7 @@ fn from_sound_table(rng: &mut Rng) -> Case {
     let hall = any_hall(rng);
     let sessions = Sessions::any(rng);
     let table = sound_table(rng, &hall, &sessions);
-    let calls = steps(rng, &hall, &sessions, 24);
-    case_of(rng, table, calls)
+    steps(rng, hall, sessions, table, 24)
 }
 
 /// Steps on a sound table with something broken in it.
@@ -112,8 +122,7 @@ fn from_damaged_table(rng: &mut Rng) -> Case {
     let sessions = Sessions::any(rng);
     let mut table = sound_table(rng, &hall, &sessions);
     damage(rng, &hall, &mut table);
-    let calls = steps(rng, &hall, &sessions, 6);
-    case_of(rng, table, calls)
+    steps(rng, hall, sessions, table, 6)
 }
 
 /// Steps on a sound table that is truncated, or followed by garbage.
@@ -133,8 +142,7 @@ fn from_cut_or_long_table(rng: &mut Rng) -> Case {
         };
         table.truncate(table.len() - cut);
     }
-    let calls = steps(rng, &hall, &sessions, 6);
-    case_of(rng, table, calls)
+    steps(rng, hall, sessions, table, 6)
 }
 
 fn from_any_bytes(rng: &mut Rng) -> Case {
@@ -149,30 +157,87 @@ fn from_any_bytes(rng: &mut Rng) -> Case {
         }
     }
     let sessions = Sessions::any(rng);
-    let calls = steps(rng, &hall, &sessions, 6);
-    case_of(rng, table, calls)
+    steps(rng, hall, sessions, table, 6)
 }
 
-fn steps(rng: &mut Rng, hall: &Hall, sessions: &Sessions, most: usize) -> Vec<Call> {
-    (0..rng.within(1, most)).map(|_| any_step(rng, hall, sessions)).collect()
+/// One to `most` steps on a table.
+fn steps(rng: &mut Rng, hall: Hall, sessions: Sessions, table: Vec<u8>, most: usize) -> Case {
+    let mut calls = Calls::new(hall, sessions, table.clone());
+    (0..rng.within(1, most)).for_each(|_| calls.any_step(rng));
+    case_of(rng, table, calls.made)
 }
 
-fn any_step(rng: &mut Rng, hall: &Hall, sessions: &Sessions) -> Call {
-    let function = rng.pick(&[Take, Drop, Swap, Retire, Collect, Collect]);
-    step(rng, hall, sessions, function)
+/// The calls of a case so far, and the table as the reference leaves it after
+/// them: what stands at a position can be swapped for itself, or for another.
+struct Calls {
+    hall: Hall,
+    sessions: Sessions,
+    table: Vec<u8>,
+    made: Vec<Call>,
 }
 
-fn step(rng: &mut Rng, hall: &Hall, sessions: &Sessions, function: Function) -> Call {
-    let desk = number(rng, hall.desks);
-    match function {
-        Open => Call::new(Open, &[hall.desks, hall.screens, hall.positions]),
-        Take => {
-            let screen = number(rng, hall.screens);
-            Call::new(Take, &[desk, screen, number(rng, hall.positions)])
+impl Calls {
+    fn new(hall: Hall, sessions: Sessions, table: Vec<u8>) -> Calls {
+        Calls { hall, sessions, table, made: Vec::new() }
+    }
+
+    fn push(&mut self, function: Function, numbers: &[u16]) {
+        let call = Call::new(function, numbers);
+        call.to_reference(&mut self.table);
+        self.made.push(call);
+    }
+
+    /// What stands at a position; 0 if the table does not have it.
+    fn held(&self, position: u16) -> u16 {
+        held(&self.table, position).unwrap_or(0)
+    }
+
+    fn any_step(&mut self, rng: &mut Rng) {
+        let function = rng.pick(&[Take, Drop, Swap, Retire, Collect, Collect]);
+        self.step(rng, function);
+    }
+
+    fn step(&mut self, rng: &mut Rng, function: Function) {
+        let Hall { desks, screens, positions } = self.hall;
+        let desk = number(rng, desks);
+        match function {
+            Open => self.push(Open, &[desks, screens, positions]),
+            Take => {
+                let screen = number(rng, screens);
+                self.push(Take, &[desk, screen, number(rng, positions)]);
+            }
+            Drop => self.push(Drop, &[desk, number(rng, screens)]),
+            Swap => {
+                let position = number(rng, positions);
+                let any = self.sessions.pick(rng);
+                let session = if rng.one_in(3) { self.held(position) } else { any };
+                self.push(Swap, &[desk, position, session]);
+            }
+            Retire | Collect => self.push(function, &[desk]),
         }
-        Drop => Call::new(Drop, &[desk, number(rng, hall.screens)]),
-        Swap => Call::new(Swap, &[desk, number(rng, hall.positions), sessions.pick(rng)]),
-        Retire | Collect => Call::new(function, &[desk]),
+    }
+
+    /// Puts another session at a position, or none, and retires what is owed.
+    /// Sometimes there is a repeat in between, while the desk owes.
+    fn replace_and_retire(&mut self, rng: &mut Rng, desk: u16) {
+        let position = one_of(rng, self.hall.positions);
+        let (held, any) = (self.held(position), self.sessions.pick(rng));
+        let session = match any {
+            0 if held == 0 => self.sessions.pick_some(rng),
+            any if any == held => 0,
+            any => any,
+        };
+        self.push(Swap, &[desk, position, session]);
+        if rng.one_in(8) {
+            self.repeat(rng, desk, position);
+        }
+        self.push(Retire, &[desk]);
+    }
+
+    /// A swap to what stands at the position, by this desk or by another.
+    fn repeat(&mut self, rng: &mut Rng, desk: u16, position: u16) {
+        let desk = if rng.one_in(2) { desk } else { one_of(rng, self.hall.desks) };
+        self.push(Swap, &[desk, position, self.held(position)]);
     }
 }
 

@@ -47,7 +47,7 @@ fn try_other(smallest: &mut Case, other: Case) -> bool {
 }
 
 fn cut_after_difference(case: &mut Case) {
-    if let Some(difference) = case.run(|_, _| ()) {
+    if let Some(difference) = case.run(|_, _, _| ()) {
         case.calls.truncate(difference.call + 1);
     }
 }

@@ -31,7 +31,7 @@ impl Sessions {
         }
     }
 
-    fn pick_some(&self, rng: &mut Rng) -> u16 {
+    pub fn pick_some(&self, rng: &mut Rng) -> u16 {
         rng.pick(&self.0)
     }
 }
