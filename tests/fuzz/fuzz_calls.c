@@ -145,9 +145,11 @@ static void keeps_the_headers_promises(const struct call *call, uint32_t answer)
         require(board_number(board_collect(0, passed, lent.bytes)) == BOARD_NO_DESK,
                 "an accepted call leaves a sound table");
     }
+    if (is_repeat(call, answer))
+        require(memcmp(before, lent.table, lent.bytes) == 0, "a repeat leaves every byte");
 }
 
-/* Repeats the call, with all bytes that it may not access on an inaccessible
+/* Makes the call again, with all bytes that it may not access on an inaccessible
  * page. */
 static void reaches_no_further(const struct call *call, uint32_t answer)
 {
@@ -172,6 +174,13 @@ static void agrees_with_the_reference(const struct call *call, uint32_t answer)
 /* The fuzzer keeps an input that raises one of these. */
 __attribute__((section("__libfuzzer_extra_counters")))
 static uint8_t this_input[FUNCTIONS][BOARD_NO_ROOM + 1];
+__attribute__((section("__libfuzzer_extra_counters")))
+static uint8_t repeats_of_0, repeats_of_a_session;
+
+static void count_up(uint8_t *counter)
+{
+    *counter += *counter < 255;
+}
 
 int LLVMFuzzerInitialize(int *count, char ***arguments)
 {
@@ -200,9 +209,10 @@ int LLVMFuzzerTestOneInput(const uint8_t *bytes, size_t length)
         keeps_the_headers_promises(call, answer);
         reaches_no_further(call, answer);
         agrees_with_the_reference(call, answer);
-        uint8_t *reached = &this_input[call->function][board_number(answer)];
-        *reached += *reached < 255;
-        count_answer(call->function, answer);
+        count_up(&this_input[call->function][board_number(answer)]);
+        if (is_repeat(call, answer))
+            count_up(board_session(answer) == 0 ? &repeats_of_0 : &repeats_of_a_session);
+        count_answer(call, answer);
     }
     return 0;
 }

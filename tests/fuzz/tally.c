@@ -17,12 +17,19 @@ bool can_answer(enum function function, uint16_t number)
     return number <= BOARD_NO_ROOM && (answers[function] >> number & 1);
 }
 
-static unsigned long tally[FUNCTIONS][BOARD_NO_ROOM + 1], with_session[FUNCTIONS];
-
-void count_answer(enum function function, uint32_t answer)
+bool is_repeat(const struct call *call, uint32_t answer)
 {
-    tally[function][board_number(answer)]++;
-    with_session[function] += board_session(answer) != 0;
+    return call->function == SWAP && board_number(answer) == BOARD_ACCEPTED &&
+           board_session(answer) == call->numbers[2];
+}
+
+static unsigned long tally[FUNCTIONS][BOARD_NO_ROOM + 1], with_session[FUNCTIONS], repeats[FUNCTIONS];
+
+void count_answer(const struct call *call, uint32_t answer)
+{
+    tally[call->function][board_number(answer)]++;
+    with_session[call->function] += board_session(answer) != 0;
+    repeats[call->function] += is_repeat(call, answer);
 }
 
 static void print_row(const char *name, int number, const unsigned long of[FUNCTIONS])
@@ -47,6 +54,7 @@ void print_tally(void)
         print_row("", number, row);
     }
     print_row("with session", -1, with_session);
+    print_row("repeats", -1, repeats);
     printf("fuzz_calls: %lu calls\n", calls);
     fflush(stdout);
 }

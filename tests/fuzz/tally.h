@@ -1,5 +1,5 @@
-/* Which reply numbers a call can give, how often it gave them, and a case as
- * text. */
+/* Which reply numbers a call can give, how often it gave them, which swaps were
+ * repeats, and a case as text. */
 #ifndef TALLY_H
 #define TALLY_H
 
@@ -10,7 +10,10 @@
 /* By the questions that the header gives for each call. */
 bool can_answer(enum function function, uint16_t number);
 
-void count_answer(enum function function, uint32_t answer);
+/* An accepted swap that replies what it sent: it stood at the position already. */
+bool is_repeat(const struct call *call, uint32_t answer);
+
+void count_answer(const struct call *call, uint32_t answer);
 void print_tally(void);
 
 /* In the format of the comparison, which can run it again and shrink it. */

@@ -70,17 +70,22 @@ fn codes() -> Vec<Vec<u8>> {
     sheets
 }
 
-/// Each step, accepted and refused, with all numbers in at least `least_groups` groups.
+/// Each step, accepted and refused, and repeats, with all numbers in at least
+/// `least_groups` groups.
 fn every_step(least_groups: usize) -> Vec<u8> {
-    let records: [&[u32]; 16] = [
+    let records: [&[u32]; 20] = [
         &[2, 2, 2],
+        &[3, 1, 2, 0],
         &[3, 1, 2, 300],
+        &[3, 2, 2, 300],
         &[1, 2, 1, 2],
         &[1, 2, 1, 2],
         &[1, 2, 2, 1],
         &[3, 1, 2, 65_535],
+        &[3, 1, 2, 65_535],
         &[3, 1, 1, 7],
         &[4, 1],
+        &[3, 1, 2, 65_535],
         &[4, 1],
         &[5, 1],
         &[5, 1],
@@ -104,7 +109,7 @@ fn long() -> Vec<Vec<u8>> {
         sheets.push(filled(&[16, 4, 64], &[5, 16], bytes));
         sheets.push(filled(
             &[16, 4, 64],
-            &[3, 7, 64, 9, 1, 16, 4, 64, 4, 7, 2, 16, 4, 5, 7],
+            &[3, 7, 64, 9, 1, 16, 4, 64, 4, 7, 3, 7, 64, 8, 4, 7, 2, 16, 4, 5, 7],
             bytes,
         ));
         sheets.push(filled(&[17, 1, 1], &[0], bytes));

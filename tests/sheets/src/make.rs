@@ -81,7 +81,7 @@ fn history(rng: &mut Rng) -> Numbers {
     let hall = any_hall(rng);
     let desks: Vec<u32> = (0..rng.within(1, 3)).map(|_| one_of(rng, hall.desks)).collect();
     let any = u32::from(rng.word()).max(1);
-    let sessions = rng.pick(&[[5, 5, 5], [5, 6, 7], [300, 7, any], [0x0105, 0x0501, 5]]);
+    let sessions = rng.pick(&[[5, 5, 0], [5, 6, 7], [300, 7, any], [0x0105, 0x0501, 5]]);
     let shares = [(); 3].map(|_| rng.pick(&[1, 4, 10]));
     let most = rng.pick(&[4, 12, 12, 40, 120]);
     let records = rng.within(1, most);
@@ -92,8 +92,17 @@ fn history(rng: &mut Rng) -> Numbers {
         let session = if rng.one_in(6) { 0 } else { rng.pick(&sessions) };
         let turn = rng.below(shares.iter().sum::<usize>() + 2);
         if turn < shares[0] {
-            numbers.push(vec![3, desk, one_of(rng, hall.positions), session]);
+            let position = one_of(rng, hall.positions);
+            let swap = |desk| vec![3, desk, position, session];
+            numbers.push(swap(desk));
+            // The same swap again is a repeat: while this desk owes, and later.
+            if rng.one_in(6) {
+                numbers.push(swap(rng.pick(&desks)));
+            }
             numbers.push(vec![4, desk]);
+            if rng.one_in(6) {
+                numbers.push(swap(rng.pick(&desks)));
+            }
         } else if turn < shares[0] + shares[1] {
             numbers.push(vec![5, desk]);
         } else if turn < shares[0] + shares[1] + shares[2] {
