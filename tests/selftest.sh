@@ -5,7 +5,7 @@
 #     tests/selftest.sh KIND [NAME...]      all of a kind, or those named
 #
 #     KIND       what must catch them     the wrong ones
-#     boards     compare                  wrong/boards: patches of the reference, which replaces the archive
+#     boards     compare, some vectors    wrong/boards: patches of the reference, which replaces the archive
 #     programs   sheets                   wrong/programs: patches of the reference, which replaces the program
 #     stores     stores and host_test     wrong/stores.c: right answers, but a store outside the call's footprint
 #     fuzz       fuzz_calls, fuzz_sheets  some of wrong/boards and wrong/programs, and wrong/accesses.c
@@ -72,6 +72,19 @@ compare() {
     timeout 120 "$work/compare/release/compare" "$@"
 }
 
+vectors() {
+    timeout 120 "$work/compare/release/vectors" "$tests"/vectors/*-calls.txt >"$work/out.vectors" 2>&1
+}
+
+# No published call is an accepted swap between sessions that share only their low byte.
+unseen_by_vectors=repeat-of-one-byte
+
+# caught_by_vectors NAME: the published calls must catch a board that is wrong about repeats.
+caught_by_vectors() {
+    grep -q '^Case: repeats ' "$tests/wrong/boards/$1.patch" && [ "$1" != "$unseen_by_vectors" ] || return 0
+    if vectors; then fail "$1: not caught by vectors"; fi
+}
+
 # The last match of the first pattern, or else of the second: after a crash only
 # the number of the case is known.
 last_match() {
@@ -86,6 +99,7 @@ boards_right() {
     build "$tests/fake_archive" right
     build_compare right
     compare >"$work/out" || fail "the right board differs: $(tail -n 1 "$work/out")"
+    vectors || fail "the right board differs: $(head -n 1 "$work/out.vectors")"
     echo "right board: $(tail -n 1 "$work/out")"
 }
 
@@ -99,6 +113,7 @@ boards_wrong() {
     if eval "compare $again" >"$work/out.again" 2>&1; then fail "$1: the replay does not differ"; fi
     grep -q '^Case: ' "$tests/wrong/boards/$1.patch" || fail "$1: the patch names no case"
     case_fails boards "$1"
+    caught_by_vectors "$1"
     echo "$1: caught, $(last_match 's/^smallest case so far: //p' 's/^crash.*/crash/p')"
 }
 
@@ -193,7 +208,7 @@ stores_wrong() {
 # Wrong boards that only the reference can tell.
 fuzz_boards="keeps-every-copy joins-in-mid-reading room-one-early position-before-screen newest-first"
 # Wrong boards that the header's promises rule out: the reference is patched too.
-fuzz_boards_and_reference="opening-clears-all opening-clears-odd-byte refused-swap-writes"
+fuzz_boards_and_reference="opening-clears-all opening-clears-odd-byte refused-swap-writes repeat-owes"
 fuzz_programs="reads-once two-groups stops-at-refusal counts-exchanged"
 
 fuzz_all() {
