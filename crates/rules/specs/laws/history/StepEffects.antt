@@ -9,7 +9,7 @@ use lib.ListN.{length, getD, set, length-set}
 use lib.Seq.{getD-set-same, getD-set-other, set-getD}
 use lib.Dec.{leb, ltb, eqb}
 use borrow.Author.Tests.{eqb-true, eqb-false, ltb-true, ltb-false, leb-true, not-true, le-leb}
-use Rattle.rules.specs.Hall.{Desk, Formed, Hall, State, allScreens, deskOf, emptyDesk, screenIndex, usedSlots, withDesk, withHeld, withShown}
+use Rattle.rules.specs.Hall.{Desk, Formed, Hall, State, allScreens, deskOf, emptyDesk, screenIndex, usedSlots, withDesk, withShown}
 use Rattle.rules.specs.History.{Action, Effect, _by_, actionOf, byDesk, collects, drops, handsBack, noAction, outOfRoom, retires, swaps, takes}
 use Rattle.rules.specs.Steps.{Call, Collect, Drop, Question, Retire, Step, Swap, Take, _sends_, ask, changePosition, collect, decide, firstNo, inRange, isRepeat, owe, performStep}
 use Rattle.rules.specs.Steps.{questions, retire, step}
