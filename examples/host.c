@@ -8,7 +8,7 @@
  * its retirement back once the screens that took it there have dropped it. This
  * host reuses no number before it was handed back, so a session that is handed
  * back is nowhere else in the table, and may be closed at once. A command that
- * arrives twice reuses none: the position holds its session already.
+ * arrives twice reuses no number: the position already holds its session.
  */
 #include "session_board.h"
 

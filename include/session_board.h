@@ -105,9 +105,9 @@ uint32_t board_drop(uint16_t desk, uint16_t screen,
                     uint8_t *table, size_t bytes);
 
 /* Puts the given session at the position, or none for 0; the answer has the old
- * one. Asks 5, 6, 8, 12. If this changes the position, the desk then owes the
- * old session unless it is 0. Writes the position and, if the old session is
- * not 0, what the desk owes.
+ * one. Asks 5, 6, 8, 12. If this changes the position, it writes the position
+ * and, unless the old session is 0, what the desk owes: the desk then owes the
+ * old session.
  *
  * A repeat is a swap to the session that is already at the position, or of 0
  * onto an empty position. It asks the same questions. Accepted, its answer has

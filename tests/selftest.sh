@@ -5,7 +5,8 @@
 #     tests/selftest.sh KIND [NAME...]      all of a kind, or those named
 #
 #     KIND       what must catch them     the wrong ones
-#     boards     compare, some vectors    wrong/boards: patches of the reference, which replaces the archive
+#     boards     compare, and vectors     wrong/boards: patches of the reference, which replaces the archive
+#                if wrong about repeats
 #     programs   sheets                   wrong/programs: patches of the reference, which replaces the program
 #     stores     stores and host_test     wrong/stores.c: right answers, but a store outside the call's footprint
 #     fuzz       fuzz_calls, fuzz_sheets  some of wrong/boards and wrong/programs, and wrong/accesses.c

@@ -10,7 +10,7 @@
 /* By the questions that the header gives for each call. */
 bool can_answer(enum function function, uint16_t number);
 
-/* An accepted swap that replies what it sent: it stood at the position already. */
+/* An accepted swap that replies what it was sent: the position held it already. */
 bool is_repeat(const struct call *call, uint32_t answer);
 
 void count_answer(const struct call *call, uint32_t answer);

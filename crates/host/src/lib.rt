@@ -35,7 +35,8 @@ pub extern "C" fn board_drop(desk: u16, screen: u16, table: &mut [u8]) -> u32
     answer(drop(table, desk, screen))
 }
 
-// Swap: the position holds the session, or nothing for 0, and the desk owes the one that it held before, if any.
+// Swap: the position holds the session, or nothing for 0. If this changes the position, the desk owes the one that it held before, if any;
+// a repeat writes nothing.
 #[no_mangle]
 pub extern "C" fn board_swap(desk: u16, position: u16, session: u16, table: &mut [u8]) -> u32
     ensures { λ r. ⌜ bytesResult r (now (table .exit)) ≡ stepBytes hallLimits (now (table .entry)) (desk sends Swap position session) ⌝ }

@@ -9,10 +9,10 @@ use lib.ListN.{getD, replicate}
 use lib.Dec.{eqb, ltb}
 use Rattle.rules.specs.Bytes.{Agrees, Call16, Calls16, IsBytes, Words16, bytesOfWords, openBytes, overwriteWords, pack, stepBytes, unpack, wordsOfBytes}
 use Rattle.rules.specs.Cases.{ok, refusedWith, wide}
-use Rattle.rules.specs.Demands.{Demand1, footprint, onBytesOf, openingFootprint, openingRefusals, refusals}
+use Rattle.rules.specs.Demands.{Demand1, SwapPromise, footprint, onBytesOf, openingFootprint, openingRefusals, refusals}
 use Rattle.rules.specs.Hall.{Desk, Formed, Hall, Limits, State, emptyDesk, hallLimits, hallOf, marked, unmarked}
 use Rattle.rules.specs.Lists.{occurrences, toNat}
-use Rattle.rules.specs.Locality.{OthersStay, SameView, StepsAlike, deskAt, namedWords, positionAt, screenAt, screensRead, writesPosition, writesScreen}
+use Rattle.rules.specs.Locality.{OthersStay, SameView, StepsAlike, deskAt, namedWords, positionAt, screenAt, screensRead, mayWritePosition, mayWriteScreen}
 use Rattle.rules.specs.Steps.{Answer, Call, Collect, Drop, Result, Retire, Step, Swap, Take, _sends_, accept, refuse, step}
 use Rattle.rules.specs.Table.{decodeDesk, encodeDesk, openTable, recordSound, sound, stepTable}
 use Rattle.rules.specs.laws.history.Checks.{each-below}
@@ -33,8 +33,8 @@ twoByTwo = (2 ∷ 2 ∷ 2 ∷ 5 ∷ 0 ∷ 0 ∷ 0 ∷ 0 ∷ 6 ∷ []) ++ (replic
 abbrev named : Step → List ℕ
 named step = below 60 (footprint twoByTwo (2 sends step))
 
--- take and drop, the one screen; swap, the position, and the owed word only where the position holds a session, and neither where it holds
--- what the swap sends, a session or 0; retire, the owed word, the
+-- take and drop, the one screen; swap, the position, and the owed word only where the position holds a session; a repeat of a session or of
+-- 0, none; retire, the owed word, the
 -- count of waiting and the first unused slot; collect, all of the record but the owed word
 pub words-named :
     map named (Take 1 2 ∷ Take 2 2 ∷ Drop 1 ∷ Drop 2 ∷ Swap 1 7 ∷ Swap 2 7 ∷ Swap 1 0 ∷ Swap 1 5 ∷ Swap 2 0 ∷ Retire ∷ [])
@@ -95,6 +95,46 @@ demand-1-refuses = (
   λ demand. omega (arith, ap (λ (after : List ℕ). getD after 1 0) (demand .refused 4 refl .2)),
   λ demand. omega (arith, demand .accepted refl 2 refl),
   λ demand. omega (arith, demand .sameLength),
+)
+
+-- ---- What a swap promises, in a hall of 1, 1, 1, given the session at the position and what the desk owes.
+abbrev holdsOwes : ℕ → ℕ → List ℕ
+holdsOwes session owed = 1 ∷ 1 ∷ 1 ∷ session ∷ 0 ∷ owed ∷ replicate 14 0
+
+abbrev Promises : ℕ → List ℕ → Result (List ℕ) → Type 0
+Promises = SwapPromise (hallOf 1 1 1) 1 1
+
+-- It admits a swap from 5 to 6, one onto an empty position, a repeat of 0, and a swap that is refused with 12 where the position holds what
+-- the desk owes.
+pub swap-promise-admits :
+    Promises 6 (holdsOwes 5 0) (accept 5 (holdsOwes 6 5)) × Promises 6 (holdsOwes 0 0) (accept 0 (holdsOwes 6 0))
+    × Promises 0 (holdsOwes 0 0) (accept 0 (holdsOwes 0 0)) × Promises 7 (holdsOwes 5 5) (refuse 12 (holdsOwes 5 5))
+swap-promise-admits = (
+  record { replies = λ n. refl; holds = λ n. refl; unchanged = λ same. absurd (omega (arith, same)); replaced = λ n owes same. omega (arith, same) },
+  record { replies = λ n. refl; holds = λ n. refl; unchanged = λ same. absurd (omega (arith, same)); replaced = λ n owes. absurd (owes refl) },
+  record { replies = λ n. refl; holds = λ n. refl; unchanged = λ same. refl; replaced = λ n owes. absurd (owes refl) },
+  record {
+    replies = λ n. absurd (omega (arith, n));
+    holds = λ n. absurd (omega (arith, n));
+    unchanged = λ same. refl;
+    replaced = λ n. absurd (omega (arith, n));
+  },
+)
+
+-- It refuses a swap that replies something else than what was there; one that leaves the position; a repeat that changes what the desk owes;
+-- and one that makes its desk owe what the position holds, as a repeat would do that owes.
+pub swap-promise-refuses :
+    (Promises 6 (holdsOwes 5 0) (accept 7 (holdsOwes 6 5)) → ⊥)
+    × (Promises 6 (holdsOwes 5 0) (accept 5 (holdsOwes 5 0)) → ⊥)
+    × (Promises 5 (holdsOwes 5 0) (accept 5 (holdsOwes 5 7)) → ⊥)
+    × (Promises 6 (holdsOwes 5 0) (accept 5 (holdsOwes 6 6)) → ⊥)
+    × (Promises 5 (holdsOwes 5 0) (accept 5 (holdsOwes 5 5)) → ⊥)
+swap-promise-refuses = (
+  λ promise. omega (arith, promise .replies refl),
+  λ promise. omega (arith, promise .holds refl),
+  λ promise. omega (arith, ap (λ (words : List ℕ). getD words 5 0) (promise .unchanged refl)),
+  λ promise. promise .replaced refl (λ none. omega (arith, none)) refl,
+  λ promise. promise .replaced refl (λ none. omega (arith, none)) refl,
 )
 
 -- ---- Widths.
@@ -248,8 +288,8 @@ abbrev writtenOf : (Step → ℕ → Bool) → List (List ℕ)
 writtenOf writes = map (λ (step : Step). map (λ (n : ℕ). toNat (writes step n)) (1 ∷ 2 ∷ 3 ∷ [])) steps
 
 pub written-by-steps :
-    (writtenOf writesScreen ≡ (0 ∷ 0 ∷ 1 ∷ []) ∷ (1 ∷ 0 ∷ 0 ∷ []) ∷ (0 ∷ 0 ∷ 0 ∷ []) ∷ (0 ∷ 0 ∷ 0 ∷ []) ∷ (0 ∷ 0 ∷ 0 ∷ []) ∷ [])
-    × (writtenOf writesPosition ≡ (0 ∷ 0 ∷ 0 ∷ []) ∷ (0 ∷ 0 ∷ 0 ∷ []) ∷ (0 ∷ 0 ∷ 1 ∷ []) ∷ (0 ∷ 0 ∷ 0 ∷ []) ∷ (0 ∷ 0 ∷ 0 ∷ []) ∷ [])
+    (writtenOf mayWriteScreen ≡ (0 ∷ 0 ∷ 1 ∷ []) ∷ (1 ∷ 0 ∷ 0 ∷ []) ∷ (0 ∷ 0 ∷ 0 ∷ []) ∷ (0 ∷ 0 ∷ 0 ∷ []) ∷ (0 ∷ 0 ∷ 0 ∷ []) ∷ [])
+    × (writtenOf mayWritePosition ≡ (0 ∷ 0 ∷ 0 ∷ []) ∷ (0 ∷ 0 ∷ 0 ∷ []) ∷ (0 ∷ 0 ∷ 1 ∷ []) ∷ (0 ∷ 0 ∷ 0 ∷ []) ∷ (0 ∷ 0 ∷ 0 ∷ []) ∷ [])
 written-by-steps = (refl, refl)
 
 -- In a hall of three desks with one screen each, desk 1 has 5 waiting. These two states differ in everything that a collect of desk 1 does

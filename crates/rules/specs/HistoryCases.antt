@@ -800,7 +800,8 @@ pub reused-put-fresh : PutFresh (hallOf 2 1 1) (historyOf (hallOf 2 1 1) 50 reus
 unfolding openTable stepTable sound recordSound encodeDesk decodeDesk
 reused-put-fresh = put-fresh-by-test (hallOf 2 1 1) (historyOf (hallOf 2 1 1) 50 reused) (tablesOf (hallOf 2 1 1) 50 reused) 5 12 refl
 
--- In the history with repeats, both repeats find 5 at the position; but they put nothing, and the swap at index 0 finds it unreferenced.
+-- In the history with repeats, those of 5, at indices 2 and 3, find it at the position; but they put nothing, and the swap at index 0 found
+-- it unreferenced.
 pub repeated-put-fresh : PutFresh (hallOf 2 1 1) (historyOf (hallOf 2 1 1) 50 repeated) (tablesOf (hallOf 2 1 1) 50 repeated) 5 9
 unfolding openTable stepTable sound recordSound encodeDesk decodeDesk
 repeated-put-fresh = put-fresh-by-test (hallOf 2 1 1) (historyOf (hallOf 2 1 1) 50 repeated) (tablesOf (hallOf 2 1 1) 50 repeated) 5 9 refl

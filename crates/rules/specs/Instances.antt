@@ -8,12 +8,12 @@ use mathlib.Core.List.{List}
 use lib.ListN.{getD, length, take}
 use Rattle.rules.specs.Cases.{wide}
 use Rattle.rules.specs.Closing.{ClosingRule, HandBackCloses, PutFresh, ShownNowhere, StandsNowhere, Unreferenced, putAt}
-use Rattle.rules.specs.Demands.{Demand1, Demand2, Demand3, Guarantee, HandedBackWithin, countsOfDesk, listOfDesk}
+use Rattle.rules.specs.Demands.{Demand1, Demand2, Demand3, Guarantee, HandedBackWithin, SwapPromise, countsOfDesk, listOfDesk}
 use Rattle.rules.specs.Hall.{State}
 use Rattle.rules.specs.History.{CollectBetween, CollectsBetweenRetires, DroppedBefore, Effect, Linked, NextDrop, NextRetire, NextSwap, Shows, Unshown, _by_, byDesk, collectsOf, drops}
 use Rattle.rules.specs.History.{effectAt, handBacks, handBacksOf, handsBack, isCollect, isRetireAttempt, outOfRoom, retirements, retirementsOf, retires, swaps, takes}
 use Rattle.rules.specs.Lists.{occurrences}
-use Rattle.rules.specs.Locality.{OthersStay, SameView, StepsAlike, deskAt, namedWords, positionAt, screenAt, screensRead, writesPosition, writesScreen}
+use Rattle.rules.specs.Locality.{OthersStay, SameView, StepsAlike, deskAt, namedWords, positionAt, screenAt, screensRead, mayWritePosition, mayWriteScreen}
 use Rattle.rules.specs.Steps.{Drop, Event, Result, Swap, _sends_}
 use Rattle.rules.specs.Table.{owedOffset, positionWord, recordOf, screenWord}
 
@@ -28,6 +28,21 @@ module _ (refusals : List ℕ) (mayChange : ℕ → Bool) (before : List ℕ) (r
   pub says-length : length (result .after) ≡ length before
   says-length = demand .sameLength
 
+-- ---- A swap of desk 2 at position 4 to session 9.
+module _ (before : List ℕ) (result : Result (List ℕ)) (promise : SwapPromise wide 2 4 9 before result) where
+  pub says-replies : result .answer .number ≡ 0 → result .answer .session ≡ getD before (positionWord 4) 0
+  says-replies = promise .replies
+
+  pub says-holds : result .answer .number ≡ 0 → getD (result .after) (positionWord 4) 0 ≡ 9
+  says-holds = promise .holds
+
+  pub says-unchanged : result .answer .session ≡ 9 → result .after ≡ before
+  says-unchanged = promise .unchanged
+
+  pub says-replaced : let owed = getD (recordOf wide (result .after) 2) owedOffset 0 in
+      result .answer .number ≡ 0 → (owed ≡ 0 → ⊥) → getD (result .after) (positionWord 4) 0 ≡ owed → ⊥
+  says-replaced = promise .replaced
+
 -- ---- Histories.
 module _ (effects : ℕ → Effect) where
   -- desk 2 retires at indices 5 and 8
@@ -37,7 +52,7 @@ module _ (effects : ℕ → Effect) where
   pub says-a-collect : (between : CollectBetween effects 2 5 8) → (5 < between .index) × (between .index < 8) × (isCollect (byDesk 2 (effects (between .index))) ≡ true)
   says-a-collect between = (between .after, between .before, between .here)
 
-  -- after index 4, at index 8, by desk 2: the next swap at position 6, the next retire, of session 9, and the next drop of screen 3
+  -- after index 4, at index 8, by desk 2: the next swap that changes position 6, the next retire, of session 9, and the next drop of screen 3
   pub says-next-swap : NextSwap effects 4 6 2 8 → (4 < 8) × (effects 8 ≡ swaps 6 by 2) × ((m other : ℕ) → 4 < m → m < 8 → effects m ≡ swaps 6 by other → ⊥)
   says-next-swap next = (next .later, next .here, next .first)
 
@@ -161,8 +176,8 @@ module _ (before after : State) where
   pub says-desks-stay : OthersStay wide (2 sends Drop 3) before after → deskAt wide after 1 ≡ deskAt wide before 1
   says-desks-stay stay = stay .desks 1 (λ same. omega arith)
 
-  pub says-screens-stay : OthersStay wide (2 sends Drop 3) before after → (c : ℕ) → writesScreen (Drop 3) c ≡ false → screenAt wide after 2 c ≡ screenAt wide before 2 c
+  pub says-screens-stay : OthersStay wide (2 sends Drop 3) before after → (c : ℕ) → mayWriteScreen (Drop 3) c ≡ false → screenAt wide after 2 c ≡ screenAt wide before 2 c
   says-screens-stay stay c kept = stay .screens 2 c (λ same. kept)
 
-  pub says-positions-stay : OthersStay wide (2 sends Swap 4 9) before after → (p : ℕ) → writesPosition (Swap 4 9) p ≡ false → positionAt wide after p ≡ positionAt wide before p
+  pub says-positions-stay : OthersStay wide (2 sends Swap 4 9) before after → (p : ℕ) → mayWritePosition (Swap 4 9) p ≡ false → positionAt wide after p ≡ positionAt wide before p
   says-positions-stay stay = stay .positions

@@ -65,23 +65,23 @@ pub record StepsAlike (hall : Hall) (call : Call) (left right : Result State) : 
 -- ---- What a call may change.
 
 -- May a step write screen c of its desk? May it write position p? (A swap that is a repeat does not.)
-abbrev pub writesScreen : Step → ℕ → Bool
-writesScreen (Take screen position) c = eqb screen c
-writesScreen (Drop screen) c = eqb screen c
-writesScreen (Swap position session) c = false
-writesScreen Retire c = false
-writesScreen Collect c = false
+abbrev pub mayWriteScreen : Step → ℕ → Bool
+mayWriteScreen (Take screen position) c = eqb screen c
+mayWriteScreen (Drop screen) c = eqb screen c
+mayWriteScreen (Swap position session) c = false
+mayWriteScreen Retire c = false
+mayWriteScreen Collect c = false
 
-abbrev pub writesPosition : Step → ℕ → Bool
-writesPosition (Take screen position) p = false
-writesPosition (Drop screen) p = false
-writesPosition (Swap position session) p = eqb position p
-writesPosition Retire p = false
-writesPosition Collect p = false
+abbrev pub mayWritePosition : Step → ℕ → Bool
+mayWritePosition (Take screen position) p = false
+mayWritePosition (Drop screen) p = false
+mayWritePosition (Swap position session) p = eqb position p
+mayWritePosition Retire p = false
+mayWritePosition Collect p = false
 
 -- A call leaves alone the records and the screens of the other desks, the screens of its own desk that its step may not write,
 -- and the positions that its step may not write.
 pub record OthersStay (hall : Hall) (call : Call) (before after : State) : Type 0 where
   pub desks : (d : ℕ) → (d ≡ call .desk → ⊥) → deskAt hall after d ≡ deskAt hall before d
-  pub screens : (d c : ℕ) → (d ≡ call .desk → writesScreen (call .step) c ≡ false) → screenAt hall after d c ≡ screenAt hall before d c
-  pub positions : (p : ℕ) → writesPosition (call .step) p ≡ false → positionAt hall after p ≡ positionAt hall before p
+  pub screens : (d c : ℕ) → (d ≡ call .desk → mayWriteScreen (call .step) c ≡ false) → screenAt hall after d c ≡ screenAt hall before d c
+  pub positions : (p : ℕ) → mayWritePosition (call .step) p ≡ false → positionAt hall after p ≡ positionAt hall before p

@@ -58,44 +58,42 @@ fn run_file(file: &str, faults: &mut Vec<String>) -> Result<usize, String> {
     }
 }
 
-/// A call, the tables it is lent, its answer, and the tables after it.
+/// A call, the table it is lent, its answer, and the table after it.
 struct Vector {
     /// The call as the line has it.
     text: String,
     call: Call,
-    tables: Vec<Vec<u8>>,
+    table: Vec<u8>,
     answer: u32,
-    after: Vec<Vec<u8>>,
+    after: Vec<u8>,
 }
 
 impl Vector {
     /// Where the archive or the reference differs from the line.
     fn faults(&self) -> Vec<String> {
-        let mut of_archive = self.tables.clone();
-        let archive = self.call.to_archive(&mut of_archive[0]);
-        let mut of_reference = self.tables.clone();
-        let reference = self.call.to_reference(&mut of_reference[0]);
+        let mut of_archive = self.table.clone();
+        let archive = self.call.to_archive(&mut of_archive);
+        let mut of_reference = self.table.clone();
+        let reference = self.call.to_reference(&mut of_reference);
         let mut faults = self.differences("archive", archive, &of_archive);
         faults.extend(self.differences("reference", reference, &of_reference));
         faults
     }
 
-    /// The answer, and in each table the first byte, that are not as expected.
-    fn differences(&self, board: &str, answer: u32, tables: &[Vec<u8>]) -> Vec<String> {
+    /// The answer, and the table's first byte, that are not as expected.
+    fn differences(&self, board: &str, answer: u32, table: &[u8]) -> Vec<String> {
         let call = &self.text;
         let mut faults = Vec::new();
         if answer != self.answer {
             let (expected, got) = (reply(self.answer), reply(answer));
             faults.push(format!("{call}: expected {expected}, {board} answered {got}"));
         }
-        for (number, (expected, got)) in (1..).zip(self.after.iter().zip(tables)) {
-            let mut pairs = expected.iter().zip(got);
-            if let Some(at) = pairs.position(|(expected, got)| expected != got) {
-                faults.push(format!(
-                    "{call}: byte {at} of table {number}: expected {:02x}, {board} left {:02x}",
-                    expected[at], got[at]
-                ));
-            }
+        let mut bytes = self.after.iter().zip(table);
+        if let Some(at) = bytes.position(|(expected, got)| expected != got) {
+            let (expected, got) = (self.after[at], table[at]);
+            faults.push(format!(
+                "{call}: byte {at}: expected {expected:02x}, {board} left {got:02x}"
+            ));
         }
         faults
     }
@@ -111,17 +109,18 @@ impl FromStr for Vector {
 
     fn from_str(line: &str) -> Result<Vector, String> {
         let fields: Vec<&str> = line.split(" | ").collect();
-        let [text, tables, answer, after] = fields[..] else {
+        let [text, table, answer, after] = fields[..] else {
             return Err(format!("{} fields, not 4", fields.len()));
         };
         let call = board_call(text)?;
-        let tables: Vec<Vec<u8>> = tables.split(' ').map(bytes).collect::<Result<_, _>>()?;
-        if tables.len() != 1 {
-            return Err(format!("{text}: {} tables, not 1", tables.len()));
-        }
+        let table = bytes(table)?;
         let answer = numbers(answer)?;
-        let after = tables_after(&tables, after)?;
-        Ok(Vector { text: text.into(), call, tables, answer, after })
+        // `=` is a table that has not changed. A call cannot change its length.
+        let after = if after == "=" { table.clone() } else { bytes(after)? };
+        if after.len() != table.len() {
+            return Err(format!("{text}: the table after the call has another length"));
+        }
+        Ok(Vector { text: text.into(), call, table, answer, after })
     }
 }
 
@@ -135,22 +134,6 @@ fn numbers(text: &str) -> Result<u32, String> {
     let number = |text: &str| text.parse::<u16>().map_err(|error| format!("{text}: {error}"));
     let (reply, session) = text.split_once(' ').ok_or(format!("{text}: not two numbers"))?;
     Ok(u32::from(number(reply)?) << 16 | u32::from(number(session)?))
-}
-
-/// `=` is a table that has not changed. A call cannot change a length.
-fn tables_after(before: &[Vec<u8>], text: &str) -> Result<Vec<Vec<u8>>, String> {
-    let texts: Vec<&str> = text.split(' ').collect();
-    let read = |(before, &text): (&Vec<u8>, &&str)| match text {
-        "=" => Ok(before.clone()),
-        _ => bytes(text),
-    };
-    let after: Vec<Vec<u8>> = before.iter().zip(&texts).map(read).collect::<Result<_, _>>()?;
-    let same_lengths = before.iter().map(Vec::len).eq(after.iter().map(Vec::len));
-    if texts.len() == before.len() && same_lengths {
-        Ok(after)
-    } else {
-        Err("the tables after the call are not as many or as long as before".into())
-    }
 }
 
 /// Hex pieces joined by dots; a piece `HEX*n` stands n times; `-` is no bytes.

@@ -1,4 +1,4 @@
--- What stands at a position stays until a swap there, which makes its desk owe it; what a desk owes stays until its retire.
+-- What stands at a position stays until a swap changes it, which makes its desk owe what stood there; what a desk owes stays until its retire.
 use Prim.Native.Nat.{ℕ, _-_, _≤_}
 use native.Mathlib.Omega.{arith}
 use native.Mathlib.Decide.{ℕ-discrete}

@@ -1,5 +1,5 @@
 -- The session of a take and of the retirement to which it is linked are the same: from its take on it stands at the position, and from the
--- swap on the desk owes it.
+-- swap that changes the position on, the desk of that swap owes it.
 use Prim.Native.Nat.{ℕ, zero, suc, _-_, _≤_, _<_}
 use native.Mathlib.Omega.{arith}
 use mathlib.Core.Path.{_≡_, refl, sym, _∙_}
@@ -24,7 +24,7 @@ owed-run H e v s he nz (c ∷ cs) st (suc r) formed owes retire no-retire =
     (λ w q same. no-retire 0 w (omega arith) (effect-is q same)) ∙ owes) retire
     (λ m w h. no-retire (suc m) w (omega arith))
 
--- v stands at the position: the desk that swaps it next retires v next.
+-- v stands at the position: the desk that changes it next retires v next.
 held-run : (H : Hall) (p v d s : ℕ) → 1 ≤ p → (v ≡ 0 → ⊥) → (cs : List Call) (st : State) (j r : ℕ) → Formed H st → getD (st .held) (p - 1) 0 ≡ v
     → effectAt (run (step H) st cs) j ≡ swaps p by d → ((m x : ℕ) → m < j → effectAt (run (step H) st cs) m ≡ swaps p by x → ⊥)
     → j < r → effectAt (run (step H) st cs) r ≡ retires s by d → ((m w : ℕ) → j < m → m < r → effectAt (run (step H) st cs) m ≡ retires w by d → ⊥) → v ≡ s

@@ -19,14 +19,15 @@ use Rattle.rules.specs.laws.history.StepEffects.{Dropped, StateChange, S
 pub data Link : Type 0 where
   -- it shows nothing
   unlinked : Link
-  -- its take was at this position, and no swap has come there
+  -- its take was at this position, and no swap has changed it
   beforeSwap : ℕ → Link
-  -- the swap has come, and this desk still owes the session
+  -- a swap has changed it, and the desk of that swap, this one, still owes the session
   beforeRetire : ℕ → Link
   -- its take is linked to the retirement at this index
   linkedTo : ℕ → Link
 
--- What a take makes of it (at this screen or another, and its position), a swap (its desk and position) and a retire (its desk and index).
+-- What a take makes of it (at this screen or another, and its position), a swap that changes a position (its desk and position) and a retire
+-- (its desk and index).
 abbrev pub onTake : Bool → ℕ → Link → Link
 onTake b p unlinked = cond b (beforeSwap p) unlinked
 onTake b p (beforeSwap q) = beforeSwap q
@@ -80,7 +81,7 @@ empty-unlinked f st v (linkedTo r) a z = absurd (a .0 z)
 
 -- One call.
 module _ (H : Hall) (st : State) (formed : Formed H st) (f : ℕ → Effect) (n : ℕ) where
-  -- while no swap comes at the position, and no retire of the desk
+  -- while no swap changes the position, and the desk does not retire
   before-swap-kept : (d : ℕ) (a : Action) (after : State) → StateChange H st d a after → (v p : ℕ) → (a ≡ swaps p → ⊥) → Agree f st v (beforeSwap p)
       → Agree f after v (beforeSwap p)
   before-swap-kept d a after k v p no-swap ag = (ag .0, ag .1, ag .2 ∙ sym (held-kept H st d a after k p (ag .1) no-swap))
@@ -90,7 +91,7 @@ module _ (H : Hall) (st : State) (formed : Formed H st) (f : ℕ → Effect) (n 
   before-retire-kept d a after k v e no-retire ag =
       (ag .0, ag .1, ag .2 ∙ sym (owed-kept H st formed d a after k e (ag .1) (λ z. ag .0 (ag .2 ∙ z)) no-retire))
 
-  -- an action that is no swap and no retire, of a screen that shows v before it and after it
+  -- an action that changes no position and is no retire, of a screen that shows v before it and after it
   agree-kept : (d : ℕ) (a : Action) (after : State) → StateChange H st d a after → isSwap a ≡ false → isRetirement a ≡ false → (v : ℕ) (l : Link)
       → Agree f st v l → Agree f after v l
   agree-kept d a after k no-swap no-retire v unlinked ag = ag
