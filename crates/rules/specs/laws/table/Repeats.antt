@@ -8,7 +8,7 @@ use lib.ListN.{length, getD, set, length-set}
 use lib.Seq.{getD-set-other, getD-set-same}
 use borrow.Author.Tests.{eq-eqb, eqb-false, eqb-true}
 use Rattle.rules.specs.Demands.{SwapPromise}
-use Rattle.rules.specs.Hall.{Hall, Limits}
+use Rattle.rules.specs.Hall.{Limits}
 use Rattle.rules.specs.Steps.{Swap, _sends_, accept, isRepeat, refuse}
 use Rattle.rules.specs.Table.{decode, hallIn, need, owedOffset, positionWord, recordOf, recordStart, sound, stepTable}
 use Rattle.rules.specs.laws.history.StepEffects.{SwapAsked, swap-asked}
