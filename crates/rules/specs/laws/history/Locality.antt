@@ -13,7 +13,7 @@ use Rattle.rules.specs.Steps.{Answer, Call, Collect, Collected, Drop, Re
 use Rattle.rules.specs.Steps.{isNone, isRepeat, isSession, owe, performStep, questions, readScreens, retire, retireQuestions, scanAt, settle, step}
 use Rattle.rules.specs.laws.history.ScreenIndex.{screen-in, screen-same}
 use Rattle.rules.specs.laws.history.StepEffects.{IsDesk, IsPosition, IsScreen, SwapAsked, desk-asked, drop-asked, in-range, range-holds, swap-asked, take-asked}
-use Rattle.rules.specs.laws.lists.Bools.{and-left, and-right, and-true}
+use Rattle.rules.specs.laws.lists.Bools.{and-left, and-right, and-true, cond-both}
 
 -- What is chosen by a test is the same where it is the same whenever the test holds; and back, where it holds.
 cond-cong : {A : Type 0} (b : Bool) (x y z : A) → (b ≡ true → x ≡ y) → cond b x z ≡ cond b y z
@@ -59,14 +59,8 @@ module _ (H : Hall) (st : State) where
   pub others-stay : (call : Call) → OthersStay H call st (step H st call .after)
   others-stay call = by-number (firstNo (questions H st call)) (call .desk) (call .step) refl
     where
-      swapped : (d p v : ℕ) (b : Bool) → SwapAsked H st d p
-          → OthersStay H (d sends Swap p v) st (cond b st (changePosition st d p v))
-      swapped d p v true asked = record { desks = λ x other. refl; screens = λ x y free. refl; positions = λ q free. refl }
-      swapped d p v false asked = record {
-        desks = other-desk-stays (set (st .held) (p - 1) v) d _ (asked .desk);
-        screens = λ x y free. refl;
-        positions = λ q free. other-position-stays p v (asked .position) q (λ same. eqb-false p q free (sym same));
-      }
+      unchanged : (d : ℕ) (s : Step) → OthersStay H (d sends s) st st
+      unchanged d s = record { desks = λ x other. refl; screens = λ x y free. refl; positions = λ q free. refl }
 
       by-number : (n d : ℕ) (s : Step) → firstNo (questions H st (d sends s)) ≡ n
           → let outcome = performStep H st d s in
@@ -85,12 +79,18 @@ module _ (H : Hall) (st : State) where
             screens = λ x y free. other-screen-stays d c 0 (asked .desk) (asked .screen) x y (λ own same. eqb-false c y (free own) (sym same));
             positions = λ q free. refl;
           }
-      by-number zero d (Swap p v) e = swapped d p v (isRepeat (getD (st .held) (p - 1) 0) v) (swap-asked H st d p v e)
+      by-number zero d (Swap p v) e =
+          let asked = swap-asked H st d p v e in
+          cond-both (OthersStay H (d sends Swap p v) st) (isRepeat (getD (st .held) (p - 1) 0) v) (unchanged d (Swap p v)) (record {
+            desks = other-desk-stays (set (st .held) (p - 1) v) d _ (asked .desk);
+            screens = λ x y free. refl;
+            positions = λ q free. other-position-stays p v (asked .position) q (λ same. eqb-false p q free (sym same));
+          })
       by-number zero d Retire e =
           record { desks = other-desk-stays (st .held) d _ (desk-asked H st (d sends Retire) e); screens = λ x y free. refl; positions = λ q free. refl }
       by-number zero d Collect e =
           record { desks = other-desk-stays (st .held) d _ (desk-asked H st (d sends Collect) e); screens = λ x y free. refl; positions = λ q free. refl }
-      by-number (suc n) d s e = record { desks = λ x other. refl; screens = λ x y free. refl; positions = λ q free. refl }
+      by-number (suc n) d s e = unchanged d s
 
 -- ---- What a call's answer and its own desk depend on.
 

@@ -23,7 +23,7 @@ use Rattle.rules.specs.laws.history.InitialState.{fresh-formed}
 use Rattle.rules.specs.laws.history.ScreenIndex.{screen-in}
 use Rattle.rules.specs.laws.history.StepEffects.{IsDesk, SwapAsked, desk-asked, drop-asked, formed-step, holds, in-range, retire-asked, swap-asked}
 use Rattle.rules.specs.laws.history.StepEffects.{take-asked}
-use Rattle.rules.specs.laws.lists.Bools.{and-left, and-right, and-true}
+use Rattle.rules.specs.laws.lists.Bools.{and-left, and-right, and-true, cond-both}
 use Rattle.rules.specs.laws.lists.ListSlices.{get-mid, put-mid, set-mid, take-mid}
 
 -- A hall that the table has room for.
@@ -98,12 +98,10 @@ module _ (H : Hall) (fits : Fits H) where
       desks-sound : (n d : ℕ) (s : Step) → firstNo (questions H st (d sends s)) ≡ n → All (Sound (allScreens H)) (afterwards n d s .desks)
       desks-sound zero d (Take c p) e = v .desks
       desks-sound zero d (Drop c) e = v .desks
-      desks-sound zero d (Swap p w) e = by-repeat (isRepeat (getD (st .held) (p - 1) 0) w)
-        where
-          by-repeat : (b : Bool)
-              → All (Sound (allScreens H)) (cond b st (changePosition st d p w) .desks)
-          by-repeat true = v .desks
-          by-repeat false = stored d _ (sound-owe (allScreens H) (getD (st .held) (p - 1) 0) (deskOf st d) (desk-sound d))
+      desks-sound zero d (Swap p w) e =
+          let old = getD (st .held) (p - 1) 0 in
+          cond-both (λ (after : State). All (Sound (allScreens H)) (after .desks)) (isRepeat old w) (v .desks)
+          (stored d _ (sound-owe (allScreens H) old (deskOf st d) (desk-sound d)))
       desks-sound zero d Retire e =
           let asked = retire-asked H st d e in
           stored d _ (retire-sound (allScreens H) (deskOf st d) (asked .owes) (asked .room) (desk-sound d))

@@ -21,6 +21,7 @@ use Rattle.rules.specs.laws.desk.Decoding.{small-drop, small-take}
 use Rattle.rules.specs.laws.desk.Marks.{testedCopies}
 use Rattle.rules.specs.laws.desk.Sound.{ScanFits, Sound, collect-sound, occurrences-list, retire-sound, sound-orderly}
 use Rattle.rules.specs.laws.history.StepEffects.{desk-asked, retire-asked}
+use Rattle.rules.specs.laws.lists.Bools.{cond-both}
 use Rattle.rules.specs.laws.lists.Lists.{indicator, indicator-other, indicator-same}
 use Rattle.rules.specs.laws.table.DecodeStepEncode.{encoded, valid}
 use Rattle.rules.specs.laws.table.EncodedStep.{Fits, Valid, all-get, empty-desk-sound, hall-opens, length-table, limits-fit, some-screens, valid-step}
@@ -284,13 +285,10 @@ after-words t c h w k q = by-step (c .desk) (c .step) (w .1) q
     by-step : (d : ℕ) (s : Step) → Step16 s → asked t (d sends s) ≡ 0 → Words16 (tableAfterStep t d s)
     by-step d (Take c p) w q = words-set t (screenWord (hallIn t) d c) (getD t (positionWord p) 0) (h (positionWord p)) h
     by-step d (Drop c) w q = words-set t (screenWord (hallIn t) d c) 0 (omega arith) h
-    by-step d (Swap p v) w q = by-repeat (isRepeat (getD t (positionWord p) 0) v)
-      where
-        by-repeat : (b : Bool) → Words16 (cond b t (set (set t (positionWord p) v) (recordStart (hallIn t) d) (getD t (positionWord p) 0)))
-        by-repeat true = h
-        by-repeat false =
-            words-set (set t (positionWord p) v) (recordStart (hallIn t) d) (getD t (positionWord p) 0) (h (positionWord p))
-            (words-set t (positionWord p) v (w .1) h)
+    by-step d (Swap p v) w q =
+        let old = getD t (positionWord p) 0 in
+        cond-both Words16 (isRepeat old v) h
+        (words-set (set t (positionWord p) v) (recordStart (hallIn t) d) old (h (positionWord p)) (words-set t (positionWord p) v (w .1) h))
     by-step d Retire w q =
         let asks = retire-asked (hallIn t) st d q in
         let D : Desk = deskOf st d in
