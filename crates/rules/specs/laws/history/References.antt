@@ -1,5 +1,5 @@
--- The references to a session in a state: at positions, owed, and on lists. A swap that changes its position puts one, a hand-back takes one, and no other call
--- makes or loses one; so a session put only where there was none has none once it is handed back.
+-- The references to a session in a state: at positions, owed, and on lists. A swap that changes its position puts one, a hand-back takes one,
+-- and no other call makes or loses one; so a session put only where there was none has none once it is handed back.
 use Prim.Native.Nat.{ℕ, zero, suc, _+_, _-_, _≤_, _<_}
 use native.Mathlib.Omega.{arith}
 use native.Mathlib.Decide.{ℕ-discrete}
