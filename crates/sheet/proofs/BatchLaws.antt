@@ -9,14 +9,14 @@ use mathlib.Core.List.{List, [], _∷_, _++_, append-nil}
 use lib.ListN.{length, take, drop, length-append}
 use lib.Seq.{take-at, drop-at}
 use Rattle.rules.specs.Hall.{hallLimits}
-use Rattle.rules.specs.Numbers.{Parsed, parsed, refusalOf, refused}
+use Rattle.rules.specs.Numbers.{Parsed, Refusal, parsed, refused}
 use Rattle.rules.specs.Steps.{Result}
 use Rattle.buffer.specs.Put.{Put, overwriteAt}
 use Rattle.buffer.specs.laws.Put.{put-none, put-on}
 use Rattle.reply.specs.Answer.{answerOf, answerWith, tableResult}
 use Rattle.reader.specs.Results.{carriedOf}
 use Rattle.sheet_rules.specs.Edition1.{hallEdition}
-use Rattle.sheet_rules.specs.Lines.{answerLine, endLine, line, linesFrom}
+use Rattle.sheet_rules.specs.Lines.{answerLine, endLine, line, linesFrom, refusalLine}
 use Rattle.sheet_rules.specs.Run.{callsIn, runRecord}
 use Rattle.sheet_rules.specs.Sheet.{Record, Records, complete, more, stop}
 use Rattle.sheet_rules.specs.SheetTheorems.{hall-edition-lawful}
@@ -135,8 +135,8 @@ module _ {sheet : List ℕ} {was : State} (unfinished : was .finished ≡ false)
         })
 
     -- The record ends the reading.
-    pub reading-stopped : {code number offset : ℕ} → was .offset < length sheet → nextRecord sheet was ≡ refused (refusalOf code number offset)
-        → Put out outAfter at (line (was .index) code number 0 ++ endLine (toTally (was .tally))) end → is ≡ finishedAt was
+    pub reading-stopped : {reason : Refusal} → was .offset < length sheet → nextRecord sheet was ≡ refused reason
+        → Put out outAfter at (refusalLine (was .index) reason ++ endLine (toTally (was .tally))) end → is ≡ finishedAt was
         → PartialBatch sheet was before out at is before outAfter end
     reading-stopped inside read = last-lines (stop _) (records-stop hall-edition-lawful (carriedOf (was .carried)) sheet (was .offset) _ inside read) refl refl
 

@@ -6,14 +6,14 @@ use mathlib.Core.Bool.{false}
 use mathlib.Core.List.{List, _++_, append-nil}
 use lib.ListN.{length, length-append}
 use Rattle.rules.specs.Hall.{Hall, hallLimits}
-use Rattle.rules.specs.Numbers.{parsed, refusalOf}
+use Rattle.rules.specs.Numbers.{Refusal, parsed, refusalOf}
 use Rattle.rules.specs.Steps.{Answer, Result, decide}
 use Rattle.rules.specs.Table.{openTable, openedTable}
 use Rattle.buffer.specs.Put.{Put}
 use Rattle.sheet.specs.laws.Length.{line-some}
 use Rattle.reply.specs.Answer.{answerOf, tableResult}
 use Rattle.sheet_rules.specs.Edition1.{hallEdition}
-use Rattle.sheet_rules.specs.Lines.{answerLine, endLine, line, linesFrom, linesOf, printed}
+use Rattle.sheet_rules.specs.Lines.{answerLine, endLine, line, linesFrom, linesOf, printed, refusalLine}
 use Rattle.sheet_rules.specs.Sheet.{lentTable, maxBytes, opened, openedIf, openingNumber, reading, unopened}
 use Rattle.sheet_rules.specs.SheetTheorems.{hall-edition-lawful}
 use Rattle.sheet_rules.specs.Tally.{zeros}
@@ -50,14 +50,14 @@ reads-by sheet {hall} {next} short read opening =
 
 module _ {sheet out outAfter : List ℕ} {end : ℕ} where
   -- The reading ended before a record: the header's line and the last line are all there is.
-  pub started-stopped : {number offset : ℕ} {after : List ℕ} {is : State} → reading hallEdition sheet ≡ unopened (refusalOf 0 number offset) → after ≡ lentTable
-      → Put out outAfter 0 (line 0 0 number 0 ++ endLine zeros) end → is ≡ finishedAt atHeader
+  pub started-stopped : {reason : Refusal} {after : List ℕ} {is : State} → reading hallEdition sheet ≡ unopened reason → after ≡ lentTable
+      → Put out outAfter 0 (refusalLine 0 reason ++ endLine zeros) end → is ≡ finishedAt atHeader
       → Started sheet out is after outAfter end
   unfolding printed
-  started-stopped {number} reads same put finished = rw finished (record {
+  started-stopped {reason} reads same put finished = rw finished (record {
     within = put-within put;
     output = append-nil _ ∙ put-first put ∙ sym (ap linesOf reads);
-    some = omega (arith, put .offset, length-append (line 0 0 number 0) (endLine zeros), line-some 0 0 number 0);
+    some = omega (arith, put .offset, length-append (refusalLine 0 reason) (endLine zeros), line-some 0 (reason .code) (reason .number) (reason .offset));
     run = sym (ap callsOf reads);
     table = same ∙ sym (ap startTable reads);
     rest = put-rest put;
@@ -67,7 +67,7 @@ module _ {sheet out outAfter : List ℕ} {end : ℕ} where
   -- The header was read, and the board replied to the opening.
   module _ (reply : Reply) {hall : Hall} {next : ℕ} {after : List ℕ} {number : ℕ} (short : length sheet ≤ maxBytes)
       (read : hallEdition .decodeHeader sheet 0 ≡ parsed hall next) (tells : tableResult reply after ≡ openTable hallLimits hall lentTable) (is-number : number ≡ answerOf reply .number) where
-    pub started-refused : {is : State} → (number ≡ 0 → ⊥) → Put out outAfter 0 (line 0 0 number 0 ++ endLine zeros) end → is ≡ finishedAt atHeader
+    pub started-refused : {is : State} → (number ≡ 0 → ⊥) → Put out outAfter 0 (refusalLine 0 (refusalOf 0 number 0) ++ endLine zeros) end → is ≡ finishedAt atHeader
         → Started sheet out is after outAfter end
     unfolding openTable openingNumber
     started-refused some =

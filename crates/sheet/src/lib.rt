@@ -27,7 +27,8 @@ ghost use lib.ListN.{length};
 ghost use Rattle.rules.specs.Bytes.{wordsOfBytes};
 ghost use Rattle.buffer.specs.Put.{Put};
 ghost use Rattle.reader.specs.Results.{recordOf};
-ghost use Rattle.sheet_rules.specs.Lines.{endLine, line};
+ghost use Rattle.rules.specs.Numbers.{refusalOf};
+ghost use Rattle.sheet_rules.specs.Lines.{endLine, refusalLine};
 ghost use Rattle.sheet_rules.specs.Sheet.{lentTable};
 ghost use Rattle.tally.specs.Counts.{toTally};
 ghost use Rattle.sheet.specs.Batch.{Batch, PartialBatch, Progress, Started, endRoom, finishedAt, recordRoom};
@@ -101,14 +102,28 @@ fn finish(out: &mut [u8], at: usize, state: State) -> Filled
     }
 }
 
-// Puts the line of what ends the reading, and the last line.
+// Puts the line of what ends the reading, and the last line. The offset is that of a refused number, or else 0.
 // Precondition: the buffer has room for the longest record's line and the longest last line.
-fn stop(out: &mut [u8], at: usize, state: State, code: u16, reason: u16) -> Filled
+fn stop(
+    out: &mut [u8],
+    at: usize,
+    state: State,
+    code: u16,
+    reason: u16,
+    offset: usize,
+) -> Filled
     requires { ⌜ at + recordRoom ≤ length (now out) ⌝ }
-    ensures bytes { λ r. ⌜ Put (now (out .entry)) (now (out .exit)) at (line (state .index) code reason 0 ++ endLine (toTally (state .tally))) (r .put) ⌝ }
+    ensures bytes { λ r. ⌜ Put (now (out .entry)) (now (out .exit)) at (refusalLine (state .index) (refusalOf code reason offset) ++ endLine (toTally (state .tally))) (r .put) ⌝ }
     ensures state { λ r. ⌜ r .state ≡ finishedAt state ⌝ }
 {
-    let next = put_line(out, at, state.index, code as u64, reason as u64, 0);
+    let next = put_line(
+        out,
+        at,
+        state.index,
+        code as u64,
+        reason as u64,
+        offset as u64,
+    );
     finish(out, next, state)
 }
 
@@ -126,8 +141,15 @@ fn put_record(sheet: &[u8], state: State, table: &mut [u8], out: &mut [u8], at: 
     }
     let carried = state.carried;
     match read_record(sheet, offset, Format::HALL, carried) {
-        ParsedRecord::Refused(code, fault, _) => stop(out, at, state, code, refusal_number(fault)),
-        ParsedRecord::NoCode(code) => stop(out, at, state, code, number(Reply::NoCode)),
+        ParsedRecord::Refused(code, fault, first) => stop(
+            out,
+            at,
+            state,
+            code,
+            refusal_number(fault),
+            first,
+        ),
+        ParsedRecord::NoCode(code) => stop(out, at, state, code, number(Reply::NoCode), 0),
         ParsedRecord::Whole(entry, next) => {
             let r = run_record(table, entry);
             let reply_number = number(r);
@@ -205,15 +227,22 @@ pub fn start(sheet: &[u8], table: &mut [u8], out: &mut [u8]) -> Filled
         finished: false,
     };
     if MAX_BYTES < sheet.len() {
-        return stop(out, 0, header_state, 0, TOO_LONG);
+        return stop(out, 0, header_state, 0, TOO_LONG, 0);
     }
     match read_header(sheet, 0) {
-        ParsedHeader::Refused(fault, _) => stop(out, 0, header_state, 0, refusal_number(fault)),
+        ParsedHeader::Refused(fault, first) => stop(
+            out,
+            0,
+            header_state,
+            0,
+            refusal_number(fault),
+            first,
+        ),
         ParsedHeader::Whole(header, next) => {
             let r = open(table, header.desks, header.screens, header.positions);
             let reply_number = number(r);
             if reply_number != 0 {
-                return stop(out, 0, header_state, 0, reply_number);
+                return stop(out, 0, header_state, 0, reply_number, 0);
             }
             let end = put_line(out, 0, 0, 0, 0, 0);
             Filled {

@@ -3,10 +3,11 @@ use Prim.Native.Nat.{ℕ, _+_, _≤_, _<_}
 use mathlib.Core.Path.{_≡_}
 use mathlib.Core.Bool.{true}
 use mathlib.Core.List.{List, _++_}
-use lib.ListN.{length, drop}
+use lib.ListN.{length, take, drop}
 use Rattle.rules.specs.Hall.{Hall}
-use Rattle.rules.specs.Numbers.{Parsed, maxNumber, parsed}
+use Rattle.rules.specs.Numbers.{Parsed, Refusal, maxNumber, parsed, refusalOf, refused}
 use Rattle.sheet_rules.specs.Edition1.{NumberReader, encodeNumber}
+use Rattle.sheet_rules.specs.Offsets.{refusesNumber}
 use Rattle.sheet_rules.specs.Sheet.{Carried, Edition, GoodRecord, Record, isCode, lastDesk, noDesk, openingNumber}
 
 -- A sheet contains these bytes, from one offset up to another.
@@ -50,8 +51,15 @@ pub record Lawful (edition : Edition) (maxSession : ℕ) : Type 0 where
       → GoodRecord maxSession entry
 
 -- What edition 1 requires of a reader of numbers: it reads back the shortest form, and what it reads has at least one byte and is at most
--- the limit.
+-- the limit. What it reads depends neither on the bytes after the number nor on a larger limit. What it refuses shows its own offset.
 pub record LawfulNumbers (readNumber : NumberReader) : Type 0 where
   pub read-back : (limit value : ℕ) → value ≤ limit → limit ≤ maxNumber → ReadsBack (readNumber limit) (encodeNumber value) value
   pub small : (limit : ℕ) (sheet : List ℕ) (at value next : ℕ) → readNumber limit sheet at ≡ parsed value next → value ≤ limit
   pub moves : (limit : ℕ) (sheet : List ℕ) (at value next : ℕ) → readNumber limit sheet at ≡ parsed value next → Moved sheet at next
+  pub bytes-after : (limit : ℕ) (sheet other : List ℕ) (at value next : ℕ) → readNumber limit sheet at ≡ parsed value next
+      → take next other ≡ take next sheet
+      → readNumber limit other at ≡ parsed value next
+  pub larger-limit : (limit larger : ℕ) (sheet : List ℕ) (at value next : ℕ) → readNumber limit sheet at ≡ parsed value next → limit ≤ larger
+      → readNumber larger sheet at ≡ parsed value next
+  pub own-offset : (limit : ℕ) (sheet : List ℕ) (at : ℕ) (reason : Refusal) → readNumber limit sheet at ≡ refused reason
+      → (reason ≡ refusalOf 0 (reason .number) at) × (refusesNumber (reason .number) ≡ true)

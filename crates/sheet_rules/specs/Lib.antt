@@ -1,5 +1,6 @@
 pub mod Sheet
 pub mod Edition1
+pub mod Offsets
 pub mod Lawful
 pub mod Run
 pub mod Tally

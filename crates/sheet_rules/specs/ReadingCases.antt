@@ -80,7 +80,7 @@ pub cut-opens : reading hallEdition (0x01 ∷ 0x01 ∷ 0x01 ∷ 0x04 ∷ 0x01 �
 unfolding reading decodeHeader decodeRecord decodeNumber openingNumber lentTable
 cut-opens = refl
 
-pub line-of-cut : endingLine 1 recordsCut ≡ text ("2 3 15 0" ∷ [])
+pub line-of-cut : endingLine 1 recordsCut ≡ text ("2 3 15 8" ∷ [])
 unfolding decimal line
 line-of-cut = refl
 

@@ -2,5 +2,6 @@ pub mod Parsing
 pub mod Numbers
 pub mod Edition1
 pub mod Sheet
+pub mod Offsets
 pub mod Tally
 pub mod Run

@@ -9,12 +9,12 @@ use Rattle.sheet.proofs.stop.Tie as tie
 put-line-requires : tie.Need-put-line-requires
 put-line-requires c κs =
     let start = c .before .before in
-    omega (arith, line-length (start .args .state .index) (start .args .code) (start .args .reason) 0, start .pre)
+    omega (arith, line-length (start .args .state .index) (start .args .code) (start .args .reason) (start .args .offset), start .pre)
 
 finish-requires : tie.Need-finish-requires
 finish-requires c κs =
     let start = c .before .before .before .before .before .before in
-    omega (arith, line-length (start .args .state .index) (start .args .code) (start .args .reason) 0, start .pre, c .before .before .before .put-line .ensures .offset, c .before .before .before .put-line .kept)
+    omega (arith, line-length (start .args .state .index) (start .args .code) (start .args .reason) (start .args .offset), start .pre, c .before .before .before .put-line .ensures .offset, c .before .before .before .put-line .kept)
 
 same-length : tie.Need-same-length
 same-length c = search needs

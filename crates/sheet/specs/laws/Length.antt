@@ -8,10 +8,10 @@ use lib.ListN.{length, length-append}
 use lib.Dec.{leb, ltb}
 use borrow.Author.Tests.{leb-true}
 use Rattle.rules.specs.Hall.{Hall, hallLimits}
-use Rattle.rules.specs.Numbers.{Parsed, parsed, refusalOf, refused}
+use Rattle.rules.specs.Numbers.{Parsed, Refusal, parsed, refusalOf, refused}
 use Rattle.rules.specs.Table.{openTable}
 use Rattle.lines.specs.laws.Longest.{end-length, line-length}
-use Rattle.sheet_rules.specs.Lines.{endLine, line, linesFrom, linesOf, printed}
+use Rattle.sheet_rules.specs.Lines.{endLine, line, linesFrom, linesOf, printed, refusalLine}
 use Rattle.sheet_rules.specs.Run.{runRecord}
 use Rattle.sheet_rules.specs.Sheet.{Carried, Edition, Record, afterHeader, bindRecords, carriedAfter, complete, decodeRecords, lentTable, maxBytes, more}
 use Rattle.sheet_rules.specs.Sheet.{noDesk, openedIf, openingNumber, reading, unopened}
@@ -41,7 +41,7 @@ lines-bounded edition (suc most) carried sheet at table index tally =
         ≤ 84 * suc (suc most) + 67
     by-record false found later = omega (arith, end-length tally)
     by-record true (refused reason) later =
-        omega (arith, line-and-rest index (reason .code) (reason .number) 0 67 (endLine tally) (end-length tally))
+        omega (arith, line-and-rest index (reason .code) (reason .number) (reason .offset) 67 (endLine tally) (end-length tally))
     by-record true (parsed entry next) later =
         let done = runRecord hallLimits table entry in
         let total : Tally = addStep tally (entry .code) (done .answer) in
@@ -57,8 +57,8 @@ pub output-bounded : (edition : Edition) (sheet : List ℕ) → length (printed 
 unfolding printed reading
 output-bounded edition sheet = by-length (leb (length sheet) maxBytes) (leb-true (length sheet) maxBytes)
   where
-    two-lines : (number code : ℕ) → length (line 0 code number 0 ++ endLine zeros) ≤ 84 * 65538 + 67
-    two-lines number code = omega (arith, line-and-rest 0 code number 0 67 (endLine zeros) (end-length zeros))
+    two-lines : (reason : Refusal) → length (refusalLine 0 reason ++ endLine zeros) ≤ 84 * 65538 + 67
+    two-lines reason = omega (arith, line-and-rest 0 (reason .code) (reason .number) (reason .offset) 67 (endLine zeros) (end-length zeros))
 
     by-number : (n : ℕ) (hall : Hall) (next : ℕ) → length sheet ≤ maxBytes
         → length (linesOf (openedIf n hall (decodeRecords edition (length sheet) noDesk sheet next))) ≤ 84 * 65538 + 67
@@ -70,13 +70,13 @@ output-bounded edition sheet = by-length (leb (length sheet) maxBytes) (leb-true
           line-and-rest 0 0 (done .answer .number) (done .answer .session) (84 * suc (length sheet) + 67) rest
               (lines-bounded edition (length sheet) noDesk sheet next (done .after) 1 zeros),
         )
-    by-number (suc n) hall next short = two-lines (suc n) 0
+    by-number (suc n) hall next short = two-lines (refusalOf 0 (suc n) 0)
 
     by-header : (found : Parsed Hall) → length sheet ≤ maxBytes → length (linesOf (afterHeader edition sheet found)) ≤ 84 * 65538 + 67
     by-header (parsed hall next) short = by-number (openingNumber hall) hall next short
-    by-header (refused reason) short = two-lines (reason .number) (reason .code)
+    by-header (refused reason) short = two-lines reason
 
     by-length : (short : Bool) → (short ≡ true → length sheet ≤ maxBytes)
         → length (linesOf (cond short (afterHeader edition sheet (edition .decodeHeader sheet 0)) (unopened (refusalOf 0 18 0)))) ≤ 84 * 65538 + 67
     by-length true enough = by-header (edition .decodeHeader sheet 0) (enough refl)
-    by-length false enough = two-lines 18 0
+    by-length false enough = two-lines (refusalOf 0 18 0)

@@ -1,15 +1,18 @@
--- The numbers of a sheet: what is read has at least one byte and is at most the limit, and the shortest form is read back.
+-- The numbers of a sheet: what is read has at least one byte and is at most the limit, and depends on nothing else; the shortest form is read
+-- back; what is refused shows its own offset.
 use Prim.Native.Nat.{ℕ, zero, suc, _+_, _*_, _/_, _%_, _≤_, _<_}
 use native.Mathlib.Omega.{arith}
-use mathlib.Core.Path.{_≡_, refl}
+use mathlib.Core.Path.{_≡_, refl, sym, ap, _∙_, subst}
 use mathlib.Core.Bool.{Bool, true, false, cond}
 use mathlib.Core.List.{List, [], _∷_, _++_}
-use lib.ListN.{length, drop, length-drop}
+use lib.ListN.{length, take, drop, length-drop, take-append-drop}
 use lib.Dec.{leb, ltb}
 use borrow.Author.Tests.{ltb-false, leb-true, le-ltb, le-leb}
-use Rattle.rules.specs.Numbers.{Groups, decodeGroups, decodeNumber, groupsIn, maxNumber, overlong, parsed, prepend, terminated, truncated, valueOf}
+use Rattle.rules.specs.Numbers.{Groups, Parsed, Refusal, decodeGroups, decodeNumber, groupsIn, maxNumber, overlong, parsed, prepend, refusalOf, refused, terminated}
+use Rattle.rules.specs.Numbers.{truncated, valueOf, withinLimit}
 use Rattle.sheet_rules.specs.Edition1.{encodeNumber, shortest}
 use Rattle.sheet_rules.specs.Lawful.{LawfulNumbers, Moved, ReadsBack}
+use Rattle.sheet_rules.specs.Offsets.{refusesNumber}
 use Rattle.sheet_rules.specs.laws.Parsing.{asked-parsed, refused-not-parsed}
 
 -- Groups that are terminated take a byte or more, and no more than there are.
@@ -51,6 +54,99 @@ number-parsed limit sheet at value next e = of-groups (groupsIn 3 (drop at sheet
         }
     of-groups truncated taken q = absurd (refused-not-parsed q)
     of-groups overlong taken q = absurd (refused-not-parsed q)
+
+-- ---- What is read depends on its own bytes alone.
+
+-- terminated groups are found again, whatever follows their bytes
+abbrev FoundAgain : ℕ → List ℕ → List ℕ → List ℕ → Type 0
+FoundAgain most bytes rest groups = groupsIn most (take (length groups) bytes ++ rest) ≡ terminated groups
+
+groups-kept : (most : ℕ) (bytes rest groups : List ℕ) → groupsIn most bytes ≡ terminated groups → FoundAgain most bytes rest groups
+groups-kept zero bytes rest groups e = absurd (let z : _≡_ {A = ℕ} 0 1 = cc in omega arith)
+groups-kept (suc most) [] rest groups e = absurd (let z : _≡_ {A = ℕ} 0 1 = cc in omega arith)
+groups-kept (suc most) (byte ∷ bytes) rest groups e = by-byte (ltb byte 128) refl (groupsIn most bytes) (groups-kept most bytes rest) e
+  where
+    by-byte : (last : Bool) → ltb byte 128 ≡ last → (found : Groups) → ((more : List ℕ) → found ≡ terminated more → FoundAgain most bytes rest more)
+        → cond last (terminated (byte ∷ [])) (prepend (byte % 128) found) ≡ terminated groups
+        → FoundAgain (suc most) (byte ∷ bytes) rest groups
+    by-byte true is found later q =
+        let one : byte ∷ [] ≡ groups = cc in
+        subst (FoundAgain (suc most) (byte ∷ bytes) rest) one (simp is)
+    by-byte false is (terminated more) later q =
+        let all : (byte % 128) ∷ more ≡ groups = cc in
+        subst (FoundAgain (suc most) (byte ∷ bytes) rest) all (simp (is, later more refl))
+    by-byte false is truncated later q = absurd (let z : _≡_ {A = ℕ} 0 1 = cc in omega arith)
+    by-byte false is overlong later q = absurd (let z : _≡_ {A = ℕ} 0 1 = cc in omega arith)
+
+-- two lists that begin alike do so after an offset too
+alike-after : (at count next : ℕ) (first second : List ℕ) → next ≡ at + count → take next first ≡ take next second
+    → take count (drop at first) ≡ take count (drop at second)
+alike-after zero count next first second e alike =
+    let same : next ≡ count = omega (arith, e) in
+    subst (λ (n : ℕ). take n first ≡ take n second) same alike
+alike-after (suc at) count zero first second e alike = absurd (omega (arith, e))
+alike-after (suc at) count (suc next) [] [] e alike = refl
+alike-after (suc at) count (suc next) [] (x ∷ second) e alike = absurd (let z : _≡_ {A = ℕ} 0 1 = cc in omega arith)
+alike-after (suc at) count (suc next) (x ∷ first) [] e alike = absurd (let z : _≡_ {A = ℕ} 0 1 = cc in omega arith)
+alike-after (suc at) count (suc next) (x ∷ first) (y ∷ second) e alike =
+    let rest : take next first ≡ take next second = cc in
+    alike-after at count next first second (omega (arith, e)) rest
+
+number-kept : (limit : ℕ) (sheet other : List ℕ) (at value next : ℕ) → decodeNumber limit sheet at ≡ parsed value next
+    → take next other ≡ take next sheet
+    → decodeNumber limit other at ≡ parsed value next
+unfolding decodeNumber
+number-kept limit sheet other at value next e kept = of-groups (groupsIn 3 (drop at sheet)) refl e
+  where
+    of-groups : (found : Groups) → groupsIn 3 (drop at sheet) ≡ found → decodeGroups limit at found ≡ parsed value next
+        → decodeGroups limit at (groupsIn 3 (drop at other)) ≡ parsed value next
+    of-groups (terminated groups) are q =
+        let asked = asked-parsed (leb (valueOf groups) limit) _ _ value next q in
+        let offset : next ≡ at + length groups = cc (asked .1) in
+        let alike = alike-after at (length groups) next other sheet offset kept in
+        let again : drop at other ≡ take (length groups) (drop at sheet) ++ drop (length groups) (drop at other) =
+            sym (take-append-drop (length groups) (drop at other))
+            ∙ ap (λ (front : List ℕ). front ++ drop (length groups) (drop at other)) alike in
+        ap (λ (bytes : List ℕ). decodeGroups limit at (groupsIn 3 bytes)) again
+        ∙ ap (decodeGroups limit at) (groups-kept 3 (drop at sheet) (drop (length groups) (drop at other)) groups are)
+        ∙ q
+    of-groups truncated are q = absurd (refused-not-parsed q)
+    of-groups overlong are q = absurd (refused-not-parsed q)
+
+number-wider : (limit larger : ℕ) (sheet : List ℕ) (at value next : ℕ) → decodeNumber limit sheet at ≡ parsed value next → limit ≤ larger
+    → decodeNumber larger sheet at ≡ parsed value next
+unfolding decodeNumber
+number-wider limit larger sheet at value next e wider = of-groups (groupsIn 3 (drop at sheet)) e
+  where
+    of-groups : (found : Groups) → decodeGroups limit at found ≡ parsed value next → decodeGroups larger at found ≡ parsed value next
+    of-groups (terminated groups) q =
+        let asked = asked-parsed (leb (valueOf groups) limit) _ _ value next q in
+        simp (le-leb (valueOf groups) larger (omega (arith, leb-true (valueOf groups) limit (asked .0), wider))) (asked .1)
+    of-groups truncated q = absurd (refused-not-parsed q)
+    of-groups overlong q = absurd (refused-not-parsed q)
+
+-- ---- What is refused shows its own offset.
+number-refused : (limit : ℕ) (sheet : List ℕ) (at : ℕ) (reason : Refusal) → decodeNumber limit sheet at ≡ refused reason
+    → (reason ≡ refusalOf 0 (reason .number) at) × (refusesNumber (reason .number) ≡ true)
+unfolding decodeNumber
+number-refused limit sheet at reason e = of-groups (groupsIn 3 (drop at sheet)) e
+  where
+    with-number : (number : ℕ) → refusesNumber number ≡ true → _≡_ {A = Parsed ℕ} (refused (refusalOf 0 number at)) (refused reason)
+        → (reason ≡ refusalOf 0 (reason .number) at) × (refusesNumber (reason .number) ≡ true)
+    with-number number is q =
+        let same : refusalOf 0 number at ≡ reason = cc in
+        subst (λ (r : Refusal). (r ≡ refusalOf 0 (r .number) at) × (refusesNumber (r .number) ≡ true)) same (refl, is)
+
+    of-value : (small : Bool) (value next : ℕ) → cond small (parsed value next) (refused (refusalOf 0 16 at)) ≡ refused reason
+        → (reason ≡ refusalOf 0 (reason .number) at) × (refusesNumber (reason .number) ≡ true)
+    of-value true value next q = absurd (refused-not-parsed (sym q))
+    of-value false value next q = with-number 16 refl q
+
+    of-groups : (found : Groups) → decodeGroups limit at found ≡ refused reason
+        → (reason ≡ refusalOf 0 (reason .number) at) × (refusesNumber (reason .number) ≡ true)
+    of-groups (terminated groups) q = of-value (leb (valueOf groups) limit) (valueOf groups) (at + length groups) q
+    of-groups truncated q = with-number 15 refl q
+    of-groups overlong q = with-number 16 refl q
 
 -- ---- A written number is read back.
 
@@ -95,4 +191,7 @@ numbers-lawful = record {
   read-back = number-read-back;
   small = λ limit sheet at value next e. number-parsed limit sheet at value next e .small;
   moves = λ limit sheet at value next e. number-parsed limit sheet at value next e .moved;
+  bytes-after = number-kept;
+  larger-limit = number-wider;
+  own-offset = number-refused;
 }
