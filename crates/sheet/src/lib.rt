@@ -104,14 +104,7 @@ fn finish(out: &mut [u8], at: usize, state: State) -> Filled
 
 // Puts the line of what ends the reading, and the last line. The offset is that of a refused number, or else 0.
 // Precondition: the buffer has room for the longest record's line and the longest last line.
-fn stop(
-    out: &mut [u8],
-    at: usize,
-    state: State,
-    code: u16,
-    reason: u16,
-    offset: usize,
-) -> Filled
+fn stop(out: &mut [u8], at: usize, state: State, code: u16, reason: u16, offset: usize) -> Filled
     requires { ⌜ at + recordRoom ≤ length (now out) ⌝ }
     ensures bytes { λ r. ⌜ Put (now (out .entry)) (now (out .exit)) at (refusalLine (state .index) (refusalOf code reason offset) ++ endLine (toTally (state .tally))) (r .put) ⌝ }
     ensures state { λ r. ⌜ r .state ≡ finishedAt state ⌝ }
@@ -141,14 +134,10 @@ fn put_record(sheet: &[u8], state: State, table: &mut [u8], out: &mut [u8], at: 
     }
     let carried = state.carried;
     match read_record(sheet, offset, Format::HALL, carried) {
-        ParsedRecord::Refused(code, fault, first) => stop(
-            out,
-            at,
-            state,
-            code,
-            refusal_number(fault),
-            first,
-        ),
+        ParsedRecord::Refused(code, fault, first) => {
+            let reason = refusal_number(fault);
+            stop(out, at, state, code, reason, first)
+        }
         ParsedRecord::NoCode(code) => stop(out, at, state, code, number(Reply::NoCode), 0),
         ParsedRecord::Whole(entry, next) => {
             let r = run_record(table, entry);
@@ -230,14 +219,10 @@ pub fn start(sheet: &[u8], table: &mut [u8], out: &mut [u8]) -> Filled
         return stop(out, 0, header_state, 0, TOO_LONG, 0);
     }
     match read_header(sheet, 0) {
-        ParsedHeader::Refused(fault, first) => stop(
-            out,
-            0,
-            header_state,
-            0,
-            refusal_number(fault),
-            first,
-        ),
+        ParsedHeader::Refused(fault, first) => {
+            let reason = refusal_number(fault);
+            stop(out, 0, header_state, 0, reason, first)
+        }
         ParsedHeader::Whole(header, next) => {
             let r = open(table, header.desks, header.screens, header.positions);
             let reply_number = number(r);

@@ -8,6 +8,7 @@ pub mod Lines
 pub mod SheetTheorems
 pub mod SheetCases
 pub mod ReadingCases
+pub mod OffsetCases
 pub mod RunCases
 pub mod SheetInstances
 pub mod SheetExamples

@@ -116,7 +116,7 @@ unfolding encodeSheet encodeHeader encodeRecord encodeNumber
 small-bytes = refl
 
 -- ---- `maxSession` limits sessions alone: if it is 999, position 1,000 and session 999 are read, and session 1,000 is refused.
-abbrev limitedTo999 : Format
+abbrev pub limitedTo999 : Format
 limitedTo999 = record { readNumber = decodeNumber; maxSession = 999 }
 
 pub sessions-to-999 :

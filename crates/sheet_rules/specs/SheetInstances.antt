@@ -4,11 +4,14 @@ use native.Mathlib.Omega.{arith}
 use mathlib.Core.Path.{_≡_, refl, sym}
 use mathlib.Core.Bool.{true, true≢false}
 use mathlib.Core.List.{List, [], _∷_, _++_}
-use lib.ListN.{length, drop}
+use mathlib.Core.Logic.{_⊎_}
+use lib.ListN.{length, take, drop}
 use Rattle.rules.specs.Hall.{hallOf}
-use Rattle.rules.specs.Numbers.{Parsed, parsed}
-use Rattle.sheet_rules.specs.Edition1.{NumberReader, encodeNumber}
+use Rattle.rules.specs.Numbers.{Parsed, Refusal, parsed, refusal, refusalOf, refused}
+use Rattle.sheet_rules.specs.Edition1.{Format, NumberReader, encodeNumber}
 use Rattle.sheet_rules.specs.Lawful.{CarriedHolds, Lawful, LawfulNumbers, Moved, ReadsBack, Stands}
+use Rattle.sheet_rules.specs.Lines.{endLine, line}
+use Rattle.sheet_rules.specs.Offsets.{Filled, Located, Numbered, NumbersFill, OfNumbers, PrintsRefusal, ShowsByte, refusesNumber}
 use Rattle.sheet_rules.specs.Sheet.{Accepted, EachGood, Edition, GoodMeaning, GoodRecord, Meaning, Record, isCode, lastDesk, noDesk, opened, openingNumber}
 use Rattle.sheet_rules.specs.Sheet.{reading, recordFor, whole}
 
@@ -103,3 +106,45 @@ module _ (readNumber : NumberReader) (lawful : LawfulNumbers readNumber) (sheet 
 
   pub says-number-moves : readNumber 999 sheet 5 ≡ parsed 7 8 → Moved sheet 5 8
   says-number-moves = lawful .moves 999 sheet 5 7 8
+
+  -- another sheet with the same first eight bytes
+  pub says-number-bytes-after : (other : List ℕ) → readNumber 999 sheet 5 ≡ parsed 7 8 → take 8 other ≡ take 8 sheet → readNumber 999 other 5 ≡ parsed 7 8
+  says-number-bytes-after other = lawful .bytes-after 999 sheet other 5 7 8
+
+  pub says-number-larger-limit : readNumber 999 sheet 5 ≡ parsed 7 8 → 999 ≤ 1000 → readNumber 1000 sheet 5 ≡ parsed 7 8
+  says-number-larger-limit = lawful .larger-limit 999 1000 sheet 5 7 8
+
+  pub says-number-own-offset : (reason : Refusal) → readNumber 999 sheet 5 ≡ refused reason
+      → (reason ≡ refusalOf 0 (reason .number) 5) × (refusesNumber (reason .number) ≡ true)
+  says-number-own-offset = lawful .own-offset 999 sheet 5
+
+-- ---- The byte that a refusal shows, in a sheet that is read from offset 5 on: 8, with code 3.
+module _ (format : Format) (sheet : List ℕ) where
+  pub says-filled : (filled : Filled format sheet 5 8) → NumbersFill (format .readNumber) sheet (filled .count) 5 8
+  says-filled filled = filled .numbers
+
+  pub says-shows-byte : (byte : ShowsByte format sheet 5 (refusalOf 3 15 8))
+      → Filled format sheet 5 8
+      × ((byte .limit ≡ 65535) ⊎ (byte .limit ≡ format .maxSession))
+      × (format .readNumber (byte .limit) sheet 8 ≡ refusal 0 15 8)
+  says-shows-byte byte = (byte .before, byte .limited, byte .refuses)
+
+  pub says-located : Located format sheet 5 (refusalOf 3 15 8) → ShowsByte format sheet 5 (refusalOf 3 15 8)
+  says-located located = located .shows refl
+
+  -- 17 shows no offset.
+  pub says-located-none : Located format sheet 5 (refusalOf 3 17 8) → _≡_ {A = ℕ} 8 0
+  says-located-none located = located .none refl
+
+  pub says-of-numbers :
+      (OfNumbers {A = ℕ} format sheet 5 (parsed 7 8) → Filled format sheet 5 8)
+      × (OfNumbers {A = ℕ} format sheet 5 (refusal 3 15 8) → Located format sheet 5 (refusalOf 3 15 8))
+  says-of-numbers = (λ filled. filled, λ located. located)
+
+  pub says-numbered : (edition : Edition) → Numbered format edition
+      → OfNumbers format sheet 5 (edition .decodeHeader sheet 5) × OfNumbers format sheet 5 (edition .decodeRecord (lastDesk 3) sheet 5)
+  says-numbered edition numbered = (numbered .header-numbers sheet 5, numbered .record-numbers (lastDesk 3) sheet 5)
+
+pub says-prints-refusal : (text : List ℕ) (prints : PrintsRefusal text (refusalOf 3 15 8))
+    → text ≡ prints .lines ++ (line (prints .index) 3 15 8 ++ endLine (prints .tally))
+says-prints-refusal text prints = prints .printed

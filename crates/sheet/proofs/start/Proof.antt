@@ -82,10 +82,14 @@ same-length-4 c = search needs
 
 returns-3 : tie.Need-returns-3
 returns-3 c =
-    let start = c .before .before .before .before .before .before .before .before .before .before .before .before .before in
+    let numbered = c .before .before .before .before in
+    let matched = numbered .before .before in
+    let after-read = matched .before .before in
+    let start = after-read .before .before .before .before .before in
     let last = c .before .before .stop2 .ensures in
-    let read = sym (c .before .before .before .before .before .before .before .before .read-header .ensures) ∙ ap headerResult (c .before .before .before .before .before .before .fault .given .1) ∙ ap (λ (n : ℕ). refused (refusalOf 0 n (c .before .before .before .before .before .before .fault .given .0 .1 .0))) (sym (c .before .before .before .refusal-number .ensures)) in
-    started-stopped (short-enough hallEdition (start .args .sheet .now) (c .before .before .before .before .before .before .before .before .before .if1 .left) read) (start .pre .0) (last .0) (last .1)
+    let fault = matched .fault .given in
+    let read = sym (after-read .read-header .ensures) ∙ ap headerResult (fault .1) ∙ ap (λ (n : ℕ). refused (refusalOf 0 n (fault .0 .1 .0))) (sym (numbered .refusal-number .ensures)) in
+    started-stopped (short-enough hallEdition (start .args .sheet .now) (after-read .before .if1 .left) read) (start .pre .0) (last .0) (last .1)
 
 same-length-5 : tie.Need-same-length-5
 same-length-5 c = search needs

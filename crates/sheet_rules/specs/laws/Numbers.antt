@@ -105,8 +105,8 @@ number-kept limit sheet other at value next e kept = of-groups (groupsIn 3 (drop
         let offset : next ≡ at + length groups = cc (asked .1) in
         let alike = alike-after at (length groups) next other sheet offset kept in
         let again : drop at other ≡ take (length groups) (drop at sheet) ++ drop (length groups) (drop at other) =
-            sym (take-append-drop (length groups) (drop at other))
-            ∙ ap (λ (front : List ℕ). front ++ drop (length groups) (drop at other)) alike in
+        sym (take-append-drop (length groups) (drop at other))
+        ∙ ap (λ (front : List ℕ). front ++ drop (length groups) (drop at other)) alike in
         ap (λ (bytes : List ℕ). decodeGroups limit at (groupsIn 3 bytes)) again
         ∙ ap (decodeGroups limit at) (groups-kept 3 (drop at sheet) (drop (length groups) (drop at other)) groups are)
         ∙ q

@@ -1,29 +1,29 @@
 -- Laws of the byte that a refusal shows: parsers hand it on, and a sheet has at most one.
-use Prim.Native.Nat.{ℕ, zero, suc, _+_, _≤_}
+use Prim.Native.Nat.{ℕ, zero, suc, _+_, _≤_, _<_}
 use native.Mathlib.Omega.{arith}
 use mathlib.Core.Path.{_≡_, refl, sym, ap, _∙_, subst}
 use mathlib.Core.Bool.{Bool, true, false, cond}
-use mathlib.Core.List.{List, [], _++_, append-assoc}
+use mathlib.Core.List.{List, [], _∷_, _++_, append-assoc}
 use mathlib.Core.Logic.{_⊎_, inl, inr, ⊎-elim}
 use mathlib.Core.Option.{Option, none, some}
-use lib.ListN.{length, take}
-use lib.Seq.{take-take}
+use lib.ListN.{length, take, length-append}
+use lib.Seq.{drop-append-seam, take-take}
 use lib.Dec.{leb, ltb}
 use borrow.Author.Tests.{leb-false, leb-true}
 use Rattle.rules.specs.Hall.{Hall, hallLimits}
 use Rattle.rules.specs.Numbers.{Parsed, Refusal, bind, maxNumber, parsed, refusal, refusalOf, refused}
 use Rattle.rules.specs.Table.{openTable}
 use Rattle.sheet_rules.specs.Edition1.{Format, NumberReader, decodeField, decodeFields, decodeHeader, decodeRecord, decodeRest, edition1, withCode}
-use Rattle.sheet_rules.specs.Lawful.{LawfulNumbers}
+use Rattle.sheet_rules.specs.Lawful.{Lawful, LawfulNumbers, Stands}
 use Rattle.sheet_rules.specs.Lines.{answerLine, endLine, line, linesFrom, linesOf, printed}
 use Rattle.sheet_rules.specs.Offsets.{Filled, Located, Numbered, NumbersFill, OfNumbers, PrintsRefusal, ShowsByte, ending, endingIn, refusesNumber}
 use Rattle.sheet_rules.specs.Run.{runRecord}
-use Rattle.sheet_rules.specs.Sheet.{Carried, Edition, Reading, Record, Records, afterHeader, bindRecords, carriedAfter, complete, decodeRecords, deskField}
-use Rattle.sheet_rules.specs.Sheet.{follows, isCode, lentTable, maxBytes, more, noDesk, opened, openedIf, openingNumber, positionField, reading}
+use Rattle.sheet_rules.specs.Sheet.{Carried, EachGood, Edition, GoodMeaning, Meaning, Reading, Record, Records, afterHeader, bindRecords, carriedAfter}
+use Rattle.sheet_rules.specs.Sheet.{complete, decodeRecords, deskField, encodeRecords, encodeSheet, follows, isCode, lentTable, maxBytes, more, noDesk, opened, openedIf, openingNumber, positionField, reading}
 use Rattle.sheet_rules.specs.Sheet.{screenField, sessionField, stop, unopened}
 use Rattle.sheet_rules.specs.Tally.{Tally, addStep, zeros}
-use Rattle.sheet_rules.specs.laws.Parsing.{refused-not-parsed}
-use Rattle.sheet_rules.specs.laws.Sheet.{opening-never-four, too-long}
+use Rattle.sheet_rules.specs.laws.Parsing.{refused-not-parsed, stands-split}
+use Rattle.sheet_rules.specs.laws.Sheet.{opening-never-four, records-more, records-stop, short-enough, too-long}
 
 -- ---- Numbers that fill bytes.
 module _ (readNumber : NumberReader) (sheet : List ℕ) where
@@ -69,7 +69,7 @@ module _ (readNumber : NumberReader) (sheet : List ℕ) where
     fill-kept other (suc count) at next fill kept =
         let near : fill .1 ≤ next = fill-forward count (fill .1) next (fill .3) in
         let first : take (fill .1) other ≡ take (fill .1) sheet =
-            sym (take-take (fill .1) next other near) ∙ ap (take (fill .1)) kept ∙ take-take (fill .1) next sheet near in
+        sym (take-take (fill .1) next other near) ∙ ap (take (fill .1)) kept ∙ take-take (fill .1) next sheet near in
         (fill .0, fill .1, numbers .bytes-after maxNumber sheet other at (fill .0) (fill .1) (fill .2) first, fill-kept other count (fill .1) next (fill .3) kept)
 
 -- ---- Parsers.
@@ -142,15 +142,15 @@ module _ {format : Format} (numbers : LawfulNumbers (format .readNumber)) (fits 
           let here : at ≡ reason .offset = sym (ap (λ (r : Refusal). r .offset) (own .0)) in
           record {
             shows = λ is.
-              record {
-                before = record { count = 0; numbers = here };
-                limit = limit;
-                limited = limited;
-                refuses =
-                    ap (format .readNumber limit sheet) (sym here)
-                    ∙ e
-                    ∙ ap refused (own .0 ∙ ap (refusalOf 0 (reason .number)) here);
-              };
+                record {
+                  before = record { count = 0; numbers = here };
+                  limit = limit;
+                  limited = limited;
+                  refuses =
+                      ap (format .readNumber limit sheet) (sym here)
+                      ∙ e
+                      ∙ ap refused (own .0 ∙ ap (refusalOf 0 (reason .number)) here);
+                };
             none = λ other. absurd (clash (sym (own .1) ∙ other));
           }
 
@@ -248,6 +248,54 @@ module _ {format : Format} {edition : Edition} (numbered : Numbered format editi
   pub ending-located : (reason : Refusal) → ending (reading edition sheet) ≡ some reason → Located format sheet 0 reason
   ending-located reason e = subst (λ (end : Option Refusal). EndLocated end 0) e reading-located
 
+-- ---- A sheet that was written, and bytes after it in which a record is refused: that refusal ends the reading.
+module _ {edition : Edition} {maxSession : ℕ} (lawful : Lawful edition maxSession) {reason : Refusal} where
+  records-then-refused : (entries : List Record) (carried : Carried) (sheet : List ℕ) (at next : ℕ) → EachGood maxSession entries
+      → Stands (encodeRecords edition carried entries) sheet at next
+      → next < length sheet
+      → ((last : Carried) → edition .decodeRecord last sheet next ≡ refused reason)
+      → endingIn (decodeRecords edition (length sheet) carried sheet at) ≡ some reason
+  records-then-refused [] carried sheet at next good stands inside refuses =
+      let here : at ≡ next = omega (arith, stands .end) in
+      ap endingIn (records-stop lawful carried sheet at reason (omega (arith, here, inside)) (ap (edition .decodeRecord carried sheet) here ∙ refuses carried))
+  records-then-refused (entry ∷ entries) carried sheet at next good stands inside refuses =
+      let bytes : List ℕ = edition .encodeRecord carried entry in
+      let middle : ℕ = at + length bytes in
+      let split = stands-split bytes (encodeRecords edition (carriedAfter entry) entries) sheet at next stands in
+      let read : edition .decodeRecord carried sheet at ≡ parsed entry middle = lawful .record-read-back carried entry (good .0) sheet at middle (split .0) in
+      let moved = lawful .record-moves carried sheet at entry middle read in
+      ap endingIn (records-more lawful carried sheet at entry middle (omega (arith, moved .past, moved .inside)) read)
+      ∙ records-then-refused entries (carriedAfter entry) sheet middle next (good .1) (split .1) inside refuses
+
+  pub written-then-refused : (meaning : Meaning) (rest : List ℕ) → GoodMeaning maxSession meaning → 1 ≤ length rest
+      → length (encodeSheet edition meaning ++ rest) ≤ maxBytes
+      → ((last : Carried) → edition .decodeRecord last (encodeSheet edition meaning ++ rest) (length (encodeSheet edition meaning)) ≡ refused reason)
+      → ending (reading edition (encodeSheet edition meaning ++ rest)) ≡ some reason
+  unfolding encodeSheet
+  written-then-refused meaning rest good some-rest short refuses =
+      ap ending (short-enough edition sheet short (lawful .header-read-back (meaning .header) (good .opens) sheet 0 (0 + length header) (split .0)))
+      ∙ simp (good .opens)
+      (records-then-refused (meaning .records) noDesk sheet (0 + length header) (length bytes) (good .records) (split .1)
+      (omega (arith, length-append bytes rest, some-rest)) refuses)
+    where
+      header : List ℕ
+      header = edition .encodeHeader (meaning .header)
+
+      records : List ℕ
+      records = encodeRecords edition noDesk (meaning .records)
+
+      bytes : List ℕ
+      bytes = header ++ records
+
+      sheet : List ℕ
+      sheet = bytes ++ rest
+
+      stands : Stands bytes sheet 0 (length bytes)
+      stands = record { content = ap (λ (after : List ℕ). bytes ++ after) (sym (drop-append-seam bytes rest)); end = omega arith }
+
+      split : Stands header sheet 0 (0 + length header) × Stands records sheet (0 + length header) (length bytes)
+      split = stands-split header records sheet 0 (length bytes) stands
+
 -- ---- The byte that is shown.
 module _ {format : Format} (numbers : LawfulNumbers (format .readNumber)) where
   -- It is at most the end of the sheet, and a sheet that is longer than 65,536 bytes shows none.
@@ -295,7 +343,7 @@ module _ {format : Format} (numbers : LawfulNumbers (format .readNumber)) where
         number : first .number ≡ second .number
         number =
             let same : refusal {A = ℕ} 0 (first .number) (first .offset) ≡ refusal 0 (second .number) (second .offset) =
-                sym (refused-there one) ∙ ap (format .readNumber maxNumber sheet) offset ∙ refused-there other in
+            sym (refused-there one) ∙ ap (format .readNumber maxNumber sheet) offset ∙ refused-there other in
             let reasons : refusalOf 0 (first .number) (first .offset) ≡ refusalOf 0 (second .number) (second .offset) = cc in
             ap (λ (reason : Refusal). reason .number) reasons
 

@@ -1,0 +1,139 @@
+-- Computed cases of the byte that a refusal shows: what the statements about it admit and refuse. Document 02, "Show the byte".
+use Prim.Native.Nat.{ℕ, zero, suc, _≤_}
+use native.Mathlib.Omega.{arith}
+use mathlib.Core.Path.{_≡_, refl, sym, ap, _∙_, subst}
+use mathlib.Core.List.{List, [], _∷_, _++_, map}
+use mathlib.Core.Logic.{inl, inr, ⊎-elim}
+use mathlib.Core.Option.{none, some}
+use lib.ListN.{replicate}
+use Rattle.rules.specs.Lists.{toNat}
+use Rattle.rules.specs.Numbers.{Parsed, Refusal, decodeNumber, maxNumber, parsed, refusal, refusalOf, refused}
+use Rattle.sheet_rules.specs.Edition1.{decodeHeader, decodeRecord, hallEdition, hallFormat}
+use Rattle.sheet_rules.specs.Offsets.{NumbersFill, ShowsByte, ending, refusesNumber}
+use Rattle.sheet_rules.specs.ReadingCases.{limitedTo999}
+use Rattle.sheet_rules.specs.Sheet.{lentTable, noDesk, openingNumber, reading}
+use Rattle.sheet_rules.specs.SheetCases.{sheetD}
+
+-- ---- What ends a reading.
+
+-- Nothing ends the reading of case D. The others end in the third record, in the first, and before it: a truncated header and a refused opening.
+pub endings :
+    map (λ (sheet : List ℕ). ending (reading hallEdition sheet))
+    (sheetD
+    ∷ (0x01 ∷ 0x01 ∷ 0x01 ∷ 0x04 ∷ 0x01 ∷ 0x04 ∷ 0x01 ∷ 0x06 ∷ [])
+    ∷ (0x01 ∷ 0x01 ∷ 0x01 ∷ 0x05 ∷ 0x80 ∷ 0x80 ∷ [])
+    ∷ (0x01 ∷ 0x80 ∷ [])
+    ∷ (0x11 ∷ 0x01 ∷ 0x01 ∷ [])
+    ∷ [])
+    ≡ none ∷ some (refusalOf 6 17 0) ∷ some (refusalOf 5 15 4) ∷ some (refusalOf 0 15 1) ∷ some (refusalOf 0 1 0) ∷ []
+unfolding reading decodeHeader decodeRecord decodeNumber openingNumber lentTable
+endings = refl
+
+-- "When a number gives 15 or 16"
+pub numbers-with-offset :
+    map (λ (number : ℕ). toNat (refusesNumber number)) (0 ∷ 1 ∷ 3 ∷ 14 ∷ 15 ∷ 16 ∷ 17 ∷ 18 ∷ []) ≡ 0 ∷ 0 ∷ 0 ∷ 0 ∷ 1 ∷ 1 ∷ 0 ∷ 0 ∷ []
+numbers-with-offset = refl
+
+-- "offsets reach 65,536": the desk of a record whose code is the last byte of a sheet of 65,536 bytes.
+pub offset-65536 : hallEdition .decodeRecord noDesk (replicate 65535 0x01 ++ (0x05 ∷ [])) 65535 ≡ refusal 5 15 65536
+unfolding decodeRecord decodeNumber
+offset-65536 = refl
+
+-- ---- Numbers that fill bytes: `81 00` and `01` fill three, each alone its own, and none fills none.
+abbrev twoNumbers : List ℕ
+twoNumbers = 0x81 ∷ 0x00 ∷ 0x01 ∷ 0x80 ∷ []
+
+pub numbers-fill :
+    NumbersFill decodeNumber twoNumbers 2 0 3
+    × NumbersFill decodeNumber twoNumbers 1 0 2
+    × NumbersFill decodeNumber twoNumbers 1 2 3
+    × NumbersFill decodeNumber twoNumbers 0 3 3
+unfolding decodeNumber
+numbers-fill = ((1, 2, refl, (1, 3, refl, refl)), (1, 2, refl, refl), (1, 3, refl, refl), refl)
+
+number-refused : {reason : Refusal} {value next : ℕ} → _≡_ {A = Parsed ℕ} (refused reason) (parsed value next) → ⊥
+number-refused e = let z : _≡_ {A = ℕ} 0 1 = cc in omega arith
+
+-- One number does not fill three bytes, nor one byte; two start at `81`, not at `00`; the byte `80` is no number, and none fills no byte.
+pub numbers-do-not-fill :
+    (NumbersFill decodeNumber twoNumbers 1 0 3 → ⊥)
+    × (NumbersFill decodeNumber twoNumbers 1 0 1 → ⊥)
+    × (NumbersFill decodeNumber twoNumbers 1 3 4 → ⊥)
+    × (NumbersFill decodeNumber twoNumbers 0 3 4 → ⊥)
+unfolding decodeNumber
+numbers-do-not-fill = (
+  λ fill. (let z : _≡_ {A = ℕ} 2 3 = cc (fill .2, fill .3) in omega arith),
+  λ fill. (let z : _≡_ {A = ℕ} 2 1 = cc (fill .2, fill .3) in omega arith),
+  λ fill. number-refused (fill .2),
+  λ same. omega (arith, same),
+)
+
+-- ---- The byte of a refused number: P is 1, and c starts at offset 1 and does not end.
+abbrev pub openScreens : List ℕ
+openScreens = 0x01 ∷ 0x80 ∷ 0x80 ∷ []
+
+pub shows-byte : ShowsByte hallFormat openScreens 0 (refusalOf 0 15 1)
+unfolding decodeNumber
+shows-byte = record { before = record { count = 1; numbers = (1, 1, refl, refl) }; limit = 65535; limited = inl refl; refuses = refl }
+
+-- numbers fill its first byte at most
+fill-from-1 : (count next : ℕ) → NumbersFill decodeNumber openScreens count 1 next → next ≤ 1
+unfolding decodeNumber
+fill-from-1 zero next same = omega (arith, same)
+fill-from-1 (suc count) next fill = absurd (number-refused (fill .2))
+
+fill-at-most-1 : (count next : ℕ) → NumbersFill decodeNumber openScreens count 0 next → next ≤ 1
+unfolding decodeNumber
+fill-at-most-1 zero next same = omega (arith, same)
+fill-at-most-1 (suc count) next fill =
+    let middle : fill .1 ≡ 1 = cc (fill .2) in
+    fill-from-1 count next (subst (λ (n : ℕ). NumbersFill decodeNumber openScreens count n next) middle (fill .3))
+
+-- Not the last byte of that number, where a number is refused with 15 too; nor the end of the sheet, where one is missing; nor the byte of P; and
+-- not with 16.
+pub not-the-byte :
+    (ShowsByte hallFormat openScreens 0 (refusalOf 0 15 2) → ⊥)
+    × (ShowsByte hallFormat openScreens 0 (refusalOf 0 15 3) → ⊥)
+    × (ShowsByte hallFormat openScreens 0 (refusalOf 0 15 0) → ⊥)
+    × (ShowsByte hallFormat openScreens 0 (refusalOf 0 16 1) → ⊥)
+unfolding decodeNumber
+not-the-byte = (
+  λ byte. (let z = fill-at-most-1 (byte .before .count) 2 (byte .before .numbers) in omega (arith, z)),
+  λ byte. (let z = fill-at-most-1 (byte .before .count) 3 (byte .before .numbers) in omega (arith, z)),
+  λ byte. (
+      let limit : byte .limit ≡ 65535 = ⊎-elim (λ same. same) (λ same. same) (byte .limited) in
+      number-refused (sym (byte .refuses) ∙ ap (λ (n : ℕ). decodeNumber n openScreens 0) limit)
+      ),
+  λ byte. (
+      let same : refusalOf 0 15 1 ≡ refusalOf 0 16 1 = cc (byte .refuses) in
+      let z : _≡_ {A = ℕ} 15 16 = ap (λ (reason : Refusal). reason .number) same in
+      omega arith
+      ),
+)
+
+-- The limit is 65,535 or that of a session: 65,536 is refused in both formats, 1,000 where sessions are at most 999, and 1 in neither.
+pub limits-of-numbers :
+    ShowsByte hallFormat (0x80 ∷ 0x80 ∷ 0x04 ∷ []) 0 (refusalOf 0 16 0)
+    × ShowsByte limitedTo999 (0x80 ∷ 0x80 ∷ 0x04 ∷ []) 0 (refusalOf 0 16 0)
+    × ShowsByte limitedTo999 (0xE8 ∷ 0x07 ∷ []) 0 (refusalOf 0 16 0)
+unfolding decodeNumber
+limits-of-numbers = (
+  record { before = record { count = 0; numbers = refl }; limit = 65535; limited = inr refl; refuses = refl },
+  record { before = record { count = 0; numbers = refl }; limit = 65535; limited = inl refl; refuses = refl },
+  record { before = record { count = 0; numbers = refl }; limit = 999; limited = inr refl; refuses = refl },
+)
+
+pub no-other-limits :
+    (ShowsByte hallFormat (0xE8 ∷ 0x07 ∷ []) 0 (refusalOf 0 16 0) → ⊥)
+    × (ShowsByte limitedTo999 (0x01 ∷ []) 0 (refusalOf 0 16 0) → ⊥)
+unfolding decodeNumber
+no-other-limits = (
+  λ byte. (
+      let limit : byte .limit ≡ 65535 = ⊎-elim (λ same. same) (λ same. same) (byte .limited) in
+      number-refused (sym (byte .refuses) ∙ ap (λ (n : ℕ). decodeNumber n (0xE8 ∷ 0x07 ∷ []) 0) limit)
+      ),
+  λ byte.
+      ⊎-elim (λ limit. number-refused (sym (byte .refuses) ∙ ap (λ (n : ℕ). decodeNumber n (0x01 ∷ []) 0) limit))
+      (λ limit. number-refused (sym (byte .refuses) ∙ ap (λ (n : ℕ). decodeNumber n (0x01 ∷ []) 0) limit))
+      (byte .limited),
+)
