@@ -7,7 +7,7 @@ use mathlib.Core.Logic.{inl, inr, ⊎-elim}
 use mathlib.Core.Option.{none, some}
 use lib.ListN.{replicate}
 use Rattle.rules.specs.Lists.{toNat}
-use Rattle.rules.specs.Numbers.{Parsed, Refusal, decodeNumber, maxNumber, parsed, refusal, refusalOf, refused}
+use Rattle.rules.specs.Numbers.{Parsed, Refusal, decodeNumber, parsed, refusal, refusalOf, refused}
 use Rattle.sheet_rules.specs.Edition1.{decodeHeader, decodeRecord, hallEdition, hallFormat}
 use Rattle.sheet_rules.specs.Offsets.{NumbersFill, ShowsByte, ending, refusesNumber}
 use Rattle.sheet_rules.specs.ReadingCases.{limitedTo999}
@@ -49,7 +49,12 @@ pub numbers-fill :
     × NumbersFill decodeNumber twoNumbers 1 2 3
     × NumbersFill decodeNumber twoNumbers 0 3 3
 unfolding decodeNumber
-numbers-fill = ((1, 2, refl, (1, 3, refl, refl)), (1, 2, refl, refl), (1, 3, refl, refl), refl)
+numbers-fill = (
+  record { value = 1; next = 2; read = refl; rest = record { value = 1; next = 3; read = refl; rest = refl } },
+  record { value = 1; next = 2; read = refl; rest = refl },
+  record { value = 1; next = 3; read = refl; rest = refl },
+  refl,
+)
 
 number-refused : {reason : Refusal} {value next : ℕ} → _≡_ {A = Parsed ℕ} (refused reason) (parsed value next) → ⊥
 number-refused e = let z : _≡_ {A = ℕ} 0 1 = cc in omega arith
@@ -62,9 +67,9 @@ pub numbers-do-not-fill :
     × (NumbersFill decodeNumber twoNumbers 0 3 4 → ⊥)
 unfolding decodeNumber
 numbers-do-not-fill = (
-  λ fill. (let z : _≡_ {A = ℕ} 2 3 = cc (fill .2, fill .3) in omega arith),
-  λ fill. (let z : _≡_ {A = ℕ} 2 1 = cc (fill .2, fill .3) in omega arith),
-  λ fill. number-refused (fill .2),
+  λ fill. (let z : _≡_ {A = ℕ} 2 3 = cc (fill .read, fill .rest) in omega arith),
+  λ fill. (let z : _≡_ {A = ℕ} 2 1 = cc (fill .read, fill .rest) in omega arith),
+  λ fill. number-refused (fill .read),
   λ same. omega (arith, same),
 )
 
@@ -72,30 +77,30 @@ numbers-do-not-fill = (
 abbrev pub openScreens : List ℕ
 openScreens = 0x01 ∷ 0x80 ∷ 0x80 ∷ []
 
-pub shows-byte : ShowsByte hallFormat openScreens 0 (refusalOf 0 15 1)
+pub shows-byte : ShowsByte hallFormat openScreens 0 15 1
 unfolding decodeNumber
-shows-byte = record { before = record { count = 1; numbers = (1, 1, refl, refl) }; limit = 65535; limited = inl refl; refuses = refl }
+shows-byte = record { before = record { count = 1; numbers = record { value = 1; next = 1; read = refl; rest = refl } }; limit = 65535; limited = inl refl; refuses = refl }
 
 -- numbers fill its first byte at most
 fill-from-1 : (count next : ℕ) → NumbersFill decodeNumber openScreens count 1 next → next ≤ 1
 unfolding decodeNumber
 fill-from-1 zero next same = omega (arith, same)
-fill-from-1 (suc count) next fill = absurd (number-refused (fill .2))
+fill-from-1 (suc count) next fill = absurd (number-refused (fill .read))
 
 fill-at-most-1 : (count next : ℕ) → NumbersFill decodeNumber openScreens count 0 next → next ≤ 1
 unfolding decodeNumber
 fill-at-most-1 zero next same = omega (arith, same)
 fill-at-most-1 (suc count) next fill =
-    let middle : fill .1 ≡ 1 = cc (fill .2) in
-    fill-from-1 count next (subst (λ (n : ℕ). NumbersFill decodeNumber openScreens count n next) middle (fill .3))
+    let next-is : fill .next ≡ 1 = cc (fill .read) in
+    fill-from-1 count next (subst (λ (n : ℕ). NumbersFill decodeNumber openScreens count n next) next-is (fill .rest))
 
 -- Not the last byte of that number, where a number is refused with 15 too; nor the end of the sheet, where one is missing; nor the byte of P; and
 -- not with 16.
 pub not-the-byte :
-    (ShowsByte hallFormat openScreens 0 (refusalOf 0 15 2) → ⊥)
-    × (ShowsByte hallFormat openScreens 0 (refusalOf 0 15 3) → ⊥)
-    × (ShowsByte hallFormat openScreens 0 (refusalOf 0 15 0) → ⊥)
-    × (ShowsByte hallFormat openScreens 0 (refusalOf 0 16 1) → ⊥)
+    (ShowsByte hallFormat openScreens 0 15 2 → ⊥)
+    × (ShowsByte hallFormat openScreens 0 15 3 → ⊥)
+    × (ShowsByte hallFormat openScreens 0 15 0 → ⊥)
+    × (ShowsByte hallFormat openScreens 0 16 1 → ⊥)
 unfolding decodeNumber
 not-the-byte = (
   λ byte. (let z = fill-at-most-1 (byte .before .count) 2 (byte .before .numbers) in omega (arith, z)),
@@ -113,9 +118,9 @@ not-the-byte = (
 
 -- The limit is 65,535 or that of a session: 65,536 is refused in both formats, 1,000 where sessions are at most 999, and 1 in neither.
 pub limits-of-numbers :
-    ShowsByte hallFormat (0x80 ∷ 0x80 ∷ 0x04 ∷ []) 0 (refusalOf 0 16 0)
-    × ShowsByte limitedTo999 (0x80 ∷ 0x80 ∷ 0x04 ∷ []) 0 (refusalOf 0 16 0)
-    × ShowsByte limitedTo999 (0xE8 ∷ 0x07 ∷ []) 0 (refusalOf 0 16 0)
+    ShowsByte hallFormat (0x80 ∷ 0x80 ∷ 0x04 ∷ []) 0 16 0
+    × ShowsByte limitedTo999 (0x80 ∷ 0x80 ∷ 0x04 ∷ []) 0 16 0
+    × ShowsByte limitedTo999 (0xE8 ∷ 0x07 ∷ []) 0 16 0
 unfolding decodeNumber
 limits-of-numbers = (
   record { before = record { count = 0; numbers = refl }; limit = 65535; limited = inr refl; refuses = refl },
@@ -124,8 +129,8 @@ limits-of-numbers = (
 )
 
 pub no-other-limits :
-    (ShowsByte hallFormat (0xE8 ∷ 0x07 ∷ []) 0 (refusalOf 0 16 0) → ⊥)
-    × (ShowsByte limitedTo999 (0x01 ∷ []) 0 (refusalOf 0 16 0) → ⊥)
+    (ShowsByte hallFormat (0xE8 ∷ 0x07 ∷ []) 0 16 0 → ⊥)
+    × (ShowsByte limitedTo999 (0x01 ∷ []) 0 16 0 → ⊥)
 unfolding decodeNumber
 no-other-limits = (
   λ byte. (

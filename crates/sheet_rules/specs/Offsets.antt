@@ -36,28 +36,34 @@ pub record PrintsRefusal (text : List ℕ) (reason : Refusal) : Type 0 where
 
 -- ---- Where the refused number is.
 
+-- A number is read at an offset, and the rest holds of the offset after it.
+pub record NumberThen (readNumber : NumberReader) (sheet : List ℕ) (at : ℕ) (Rest : ℕ → Type 0) : Type 0 where
+  pub value : ℕ
+  pub next : ℕ
+  pub read : readNumber maxNumber sheet at ≡ parsed value next
+  pub rest : Rest next
+
 -- So many numbers are read one after another, and they fill the bytes from one offset up to another.
 abbrev pub NumbersFill : NumberReader → List ℕ → ℕ → ℕ → ℕ → Type 0
-NumbersFill readNumber sheet zero at next = at ≡ next
-NumbersFill readNumber sheet (suc count) at next =
-    (value : ℕ) × (middle : ℕ) × (readNumber maxNumber sheet at ≡ parsed value middle) × NumbersFill readNumber sheet count middle next
+NumbersFill readNumber sheet zero at end = at ≡ end
+NumbersFill readNumber sheet (suc count) at end = NumberThen readNumber sheet at (λ next. NumbersFill readNumber sheet count next end)
 
-pub record Filled (format : Format) (sheet : List ℕ) (at next : ℕ) : Type 0 where
+pub record Filled (format : Format) (sheet : List ℕ) (at end : ℕ) : Type 0 where
   pub count : ℕ
-  pub numbers : NumbersFill (format .readNumber) sheet count at next
+  pub numbers : NumbersFill (format .readNumber) sheet count at end
 
 -- "the offset of that number's first byte": numbers fill the bytes before it, and the number that starts there is refused with just this reply
 -- number. The limit is that of a session or of any other number.
-pub record ShowsByte (format : Format) (sheet : List ℕ) (at : ℕ) (reason : Refusal) : Type 0 where
-  pub before : Filled format sheet at (reason .offset)
+pub record ShowsByte (format : Format) (sheet : List ℕ) (at number offset : ℕ) : Type 0 where
+  pub before : Filled format sheet at offset
   pub limit : ℕ
   pub limited : (limit ≡ maxNumber) ⊎ (limit ≡ format .maxSession)
-  pub refuses : format .readNumber limit sheet (reason .offset) ≡ refusal 0 (reason .number) (reason .offset)
+  pub refuses : format .readNumber limit sheet offset ≡ refusal 0 number offset
 
 -- A refusal in a sheet that is read from an offset on: 15 and 16 show the byte of a number, and no other refusal shows an offset.
 pub record Located (format : Format) (sheet : List ℕ) (at : ℕ) (reason : Refusal) : Type 0 where
-  pub shows : refusesNumber (reason .number) ≡ true → ShowsByte format sheet at reason
-  pub none : refusesNumber (reason .number) ≡ false → reason .offset ≡ 0
+  pub shows : refusesNumber (reason .number) ≡ true → ShowsByte format sheet at (reason .number) (reason .offset)
+  pub no-offset : refusesNumber (reason .number) ≡ false → reason .offset ≡ 0
 
 -- ---- Parsers that read numbers and nothing else.
 

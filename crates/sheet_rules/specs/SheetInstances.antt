@@ -11,7 +11,7 @@ use Rattle.rules.specs.Numbers.{Parsed, Refusal, parsed, refusal, refusalOf, re
 use Rattle.sheet_rules.specs.Edition1.{Format, NumberReader, encodeNumber}
 use Rattle.sheet_rules.specs.Lawful.{CarriedHolds, Lawful, LawfulNumbers, Moved, ReadsBack, Stands}
 use Rattle.sheet_rules.specs.Lines.{endLine, line}
-use Rattle.sheet_rules.specs.Offsets.{Filled, Located, Numbered, NumbersFill, OfNumbers, PrintsRefusal, ShowsByte, refusesNumber}
+use Rattle.sheet_rules.specs.Offsets.{Filled, Located, NumberThen, Numbered, NumbersFill, OfNumbers, PrintsRefusal, ShowsByte, refusesNumber}
 use Rattle.sheet_rules.specs.Sheet.{Accepted, EachGood, Edition, GoodMeaning, GoodRecord, Meaning, Record, isCode, lastDesk, noDesk, opened, openingNumber}
 use Rattle.sheet_rules.specs.Sheet.{reading, recordFor, whole}
 
@@ -120,21 +120,25 @@ module _ (readNumber : NumberReader) (lawful : LawfulNumbers readNumber) (sheet 
 
 -- ---- The byte that a refusal shows, in a sheet that is read from offset 5 on: 8, with code 3.
 module _ (format : Format) (sheet : List ℕ) where
+  pub says-number-then : (Rest : ℕ → Type 0) (then : NumberThen (format .readNumber) sheet 5 Rest)
+      → (format .readNumber 65535 sheet 5 ≡ parsed (then .value) (then .next)) × Rest (then .next)
+  says-number-then Rest then = (then .read, then .rest)
+
   pub says-filled : (filled : Filled format sheet 5 8) → NumbersFill (format .readNumber) sheet (filled .count) 5 8
   says-filled filled = filled .numbers
 
-  pub says-shows-byte : (byte : ShowsByte format sheet 5 (refusalOf 3 15 8))
+  pub says-shows-byte : (byte : ShowsByte format sheet 5 15 8)
       → Filled format sheet 5 8
       × ((byte .limit ≡ 65535) ⊎ (byte .limit ≡ format .maxSession))
       × (format .readNumber (byte .limit) sheet 8 ≡ refusal 0 15 8)
   says-shows-byte byte = (byte .before, byte .limited, byte .refuses)
 
-  pub says-located : Located format sheet 5 (refusalOf 3 15 8) → ShowsByte format sheet 5 (refusalOf 3 15 8)
+  pub says-located : Located format sheet 5 (refusalOf 3 15 8) → ShowsByte format sheet 5 15 8
   says-located located = located .shows refl
 
   -- 17 shows no offset.
   pub says-located-none : Located format sheet 5 (refusalOf 3 17 8) → _≡_ {A = ℕ} 8 0
-  says-located-none located = located .none refl
+  says-located-none located = located .no-offset refl
 
   pub says-of-numbers :
       (OfNumbers {A = ℕ} format sheet 5 (parsed 7 8) → Filled format sheet 5 8)

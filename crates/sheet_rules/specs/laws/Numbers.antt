@@ -9,7 +9,7 @@ use lib.ListN.{length, take, drop, length-drop, take-append-drop}
 use lib.Dec.{leb, ltb}
 use borrow.Author.Tests.{ltb-false, leb-true, le-ltb, le-leb}
 use Rattle.rules.specs.Numbers.{Groups, Parsed, Refusal, decodeGroups, decodeNumber, groupsIn, maxNumber, overlong, parsed, prepend, refusalOf, refused, terminated}
-use Rattle.rules.specs.Numbers.{truncated, valueOf, withinLimit}
+use Rattle.rules.specs.Numbers.{truncated, valueOf}
 use Rattle.sheet_rules.specs.Edition1.{encodeNumber, shortest}
 use Rattle.sheet_rules.specs.Lawful.{LawfulNumbers, Moved, ReadsBack}
 use Rattle.sheet_rules.specs.Offsets.{refusesNumber}

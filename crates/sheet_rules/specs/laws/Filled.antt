@@ -1,0 +1,178 @@
+-- Numbers that fill bytes, and parsers that read numbers and nothing else: they hand on where a refused number starts.
+use Prim.Native.Nat.{ℕ, zero, suc, _+_, _≤_}
+use native.Mathlib.Omega.{arith}
+use mathlib.Core.Path.{_≡_, refl, sym, ap, _∙_, subst}
+use mathlib.Core.Bool.{Bool, true, false, cond, true≢false}
+use mathlib.Core.List.{List}
+use mathlib.Core.Logic.{_⊎_, inl, inr, ⊎-elim}
+use lib.ListN.{length, take}
+use lib.Seq.{take-take}
+use Rattle.rules.specs.Numbers.{Parsed, Refusal, bind, maxNumber, parsed, refusalOf, refused}
+use Rattle.sheet_rules.specs.Edition1.{Format, NumberReader, decodeField, decodeFields, decodeHeader, decodeRecord, decodeRest, edition1, withCode}
+use Rattle.sheet_rules.specs.Lawful.{LawfulNumbers}
+use Rattle.sheet_rules.specs.Offsets.{Filled, Located, Numbered, NumbersFill, OfNumbers, refusesNumber}
+use Rattle.sheet_rules.specs.Sheet.{deskField, follows, isCode, positionField, screenField, sessionField}
+use Rattle.sheet_rules.specs.laws.Parsing.{refused-not-parsed}
+
+-- ---- Numbers that fill bytes.
+module _ (readNumber : NumberReader) (sheet : List ℕ) where
+  fill-append : (count others at middle end : ℕ) → NumbersFill readNumber sheet count at middle → NumbersFill readNumber sheet others middle end
+      → NumbersFill readNumber sheet (count + others) at end
+  fill-append zero others at middle end same later =
+      let all : others ≡ zero + others = omega arith in
+      subst (λ (n : ℕ). NumbersFill readNumber sheet n at end) all (subst (λ (n : ℕ). NumbersFill readNumber sheet others n end) (sym same) later)
+  fill-append (suc count) others at middle end fill later =
+      let all : suc (count + others) ≡ suc count + others = omega arith in
+      subst (λ (n : ℕ). NumbersFill readNumber sheet n at end) all
+      (record { value = fill .value; next = fill .next; read = fill .read; rest = fill-append count others (fill .next) middle end (fill .rest) later })
+
+  module _ (numbers : LawfulNumbers readNumber) where
+    fill-forward : (count at end : ℕ) → NumbersFill readNumber sheet count at end → at ≤ end
+    fill-forward zero at end same = omega (arith, same)
+    fill-forward (suc count) at end fill =
+        let moved = numbers .moves maxNumber sheet at (fill .value) (fill .next) (fill .read) in
+        omega (arith, moved .past, fill-forward count (fill .next) end (fill .rest))
+
+    pub fill-inside : (count at end : ℕ) → at ≤ length sheet → NumbersFill readNumber sheet count at end → end ≤ length sheet
+    fill-inside zero at end inside same = omega (arith, same, inside)
+    fill-inside (suc count) at end inside fill =
+        let moved = numbers .moves maxNumber sheet at (fill .value) (fill .next) (fill .read) in
+        fill-inside count (fill .next) end (moved .inside) (fill .rest)
+
+    -- A refused number with numbers before it is past all numbers that are read.
+    pub refused-past : (count others at end offset : ℕ) (reason : Refusal) → NumbersFill readNumber sheet count at end
+        → NumbersFill readNumber sheet others at offset
+        → readNumber maxNumber sheet offset ≡ refused reason
+        → end ≤ offset
+    refused-past zero others at end offset reason same before refuses = omega (arith, same, fill-forward others at offset before)
+    refused-past (suc count) zero at end offset reason fill same refuses =
+        absurd (refused-not-parsed (sym refuses ∙ ap (readNumber maxNumber sheet) (sym same) ∙ fill .read))
+    refused-past (suc count) (suc others) at end offset reason fill before refuses =
+        let same : parsed (before .value) (before .next) ≡ parsed (fill .value) (fill .next) = sym (before .read) ∙ fill .read in
+        let next : before .next ≡ fill .next = cc in
+        refused-past count others (fill .next) end offset reason (fill .rest)
+        (subst (λ (n : ℕ). NumbersFill readNumber sheet others n offset) next (before .rest)) refuses
+
+    -- Numbers fill the same bytes in every sheet that begins with them.
+    pub fill-kept : (other : List ℕ) (count at end : ℕ) → NumbersFill readNumber sheet count at end → take end other ≡ take end sheet
+        → NumbersFill readNumber other count at end
+    fill-kept other zero at end same kept = same
+    fill-kept other (suc count) at end fill kept =
+        let before : fill .next ≤ end = fill-forward count (fill .next) end (fill .rest) in
+        let kept-first : take (fill .next) other ≡ take (fill .next) sheet = sym (take-take (fill .next) end other before) ∙ ap (take (fill .next)) kept ∙ take-take (fill .next) end sheet before in
+        record {
+          value = fill .value;
+          next = fill .next;
+          read = numbers .bytes-after maxNumber sheet other at (fill .value) (fill .next) (fill .read) kept-first;
+          rest = fill-kept other count (fill .next) end (fill .rest) kept;
+        }
+
+-- ---- Parsers.
+module _ (format : Format) (sheet : List ℕ) where
+  filled-none : (at : ℕ) → Filled format sheet at at
+  filled-none at = record { count = 0; numbers = refl }
+
+  pub filled-one : {at value next : ℕ} → format .readNumber maxNumber sheet at ≡ parsed value next → Filled format sheet at next
+  filled-one {at} {value} {next} read = record { count = 1; numbers = record { value = value; next = next; read = read; rest = refl } }
+
+  pub filled-append : {at middle end : ℕ} → Filled format sheet at middle → Filled format sheet middle end → Filled format sheet at end
+  filled-append {at} {middle} {end} first second = record {
+    count = first .count + second .count;
+    numbers = fill-append (format .readNumber) sheet (first .count) (second .count) at middle end (first .numbers) (second .numbers);
+  }
+
+  -- A refusal after numbers that fill bytes.
+  pub located-after : {at middle : ℕ} {reason : Refusal} → Filled format sheet at middle → Located format sheet middle reason → Located format sheet at reason
+  located-after filled located = record {
+    shows =
+        λ is.
+        let byte = located .shows is in
+        record { before = filled-append filled (byte .before); limit = byte .limit; limited = byte .limited; refuses = byte .refuses };
+    no-offset = located .no-offset;
+  }
+
+  after-numbers : {A : Type 0} {at middle : ℕ} → Filled format sheet at middle → (found : Parsed A) → OfNumbers format sheet middle found
+      → OfNumbers format sheet at found
+  after-numbers filled (parsed value next) later = filled-append filled later
+  after-numbers filled (refused reason) later = located-after filled later
+
+  -- The law by which fields, records and headers hand an offset on: a parser of numbers, and then another.
+  bind-numbers : {A B : Type 0} (at : ℕ) (first : Parsed A) (rest : A → ℕ → Parsed B) → OfNumbers format sheet at first
+      → ((value : A) (next : ℕ) → OfNumbers format sheet next (rest value next))
+      → OfNumbers format sheet at (bind first rest)
+  bind-numbers at (parsed value next) rest filled later = after-numbers filled (rest value next) (later value next)
+  bind-numbers at (refused reason) rest located later = located
+
+  -- The code that a line shows does not change the offset.
+  coded-numbers : {A : Type 0} (at code : ℕ) (found : Parsed A) → OfNumbers format sheet at found → OfNumbers format sheet at (withCode code found)
+  coded-numbers at code (parsed value next) filled = filled
+  coded-numbers at code (refused reason) located = record { shows = located .shows; no-offset = located .no-offset }
+
+  -- A refusal of no number shows no offset.
+  pub no-number : (at code number : ℕ) → refusesNumber number ≡ false → Located format sheet at (refusalOf code number 0)
+  no-number at code number other = record { shows = λ is. absurd (true≢false (sym is ∙ other)); no-offset = λ is. refl }
+
+-- ---- Edition 1.
+module _ {format : Format} (numbers : LawfulNumbers (format .readNumber)) (fits : format .maxSession ≤ maxNumber) where
+  number-numbers : (limit : ℕ) → (limit ≡ maxNumber) ⊎ (limit ≡ format .maxSession) → (sheet : List ℕ) (at : ℕ)
+      → OfNumbers format sheet at (format .readNumber limit sheet at)
+  number-numbers limit limited sheet at = by-result (format .readNumber limit sheet at) refl
+    where
+      small : limit ≤ maxNumber
+      small = ⊎-elim (λ same. omega (arith, same)) (λ same. omega (arith, same, fits)) limited
+
+      by-result : (found : Parsed ℕ) → format .readNumber limit sheet at ≡ found → OfNumbers format sheet at found
+      by-result (parsed value next) e = filled-one format sheet (numbers .larger-limit limit maxNumber sheet at value next e small)
+      by-result (refused reason) e =
+          let own = numbers .own-offset limit sheet at reason e in
+          let here : at ≡ reason .offset = sym (ap (λ (r : Refusal). r .offset) (own .0)) in
+          let refuses = ap (format .readNumber limit sheet) (sym here) ∙ e ∙ ap refused (own .0 ∙ ap (refusalOf 0 (reason .number)) here) in
+          record {
+            shows = λ is. record { before = record { count = 0; numbers = here }; limit = limit; limited = limited; refuses = refuses };
+            no-offset = λ other. absurd (true≢false (sym (own .1) ∙ other));
+          }
+
+  any-number : (sheet : List ℕ) (at : ℕ) → OfNumbers format sheet at (format .readNumber maxNumber sheet at)
+  any-number = number-numbers maxNumber (inl refl)
+
+  field-numbers : (present : Bool) (limit : ℕ) → (limit ≡ maxNumber) ⊎ (limit ≡ format .maxSession) → (sheet : List ℕ) (at : ℕ)
+      → OfNumbers format sheet at (decodeField (format .readNumber) present limit sheet at)
+  field-numbers true limit limited sheet at = number-numbers limit limited sheet at
+  field-numbers false limit limited sheet at = filled-none format sheet at
+
+  rest-numbers : (code desk : ℕ) (sheet : List ℕ) (at : ℕ) → OfNumbers format sheet at (decodeRest format code desk sheet at)
+  rest-numbers code desk sheet at =
+      bind-numbers format sheet at (decodeField (format .readNumber) (follows code screenField) maxNumber sheet at) _
+      (field-numbers (follows code screenField) maxNumber (inl refl) sheet at) λ screen afterScreen.
+      bind-numbers format sheet afterScreen (decodeField (format .readNumber) (follows code positionField) maxNumber sheet afterScreen) _
+      (field-numbers (follows code positionField) maxNumber (inl refl) sheet afterScreen) λ position afterPosition.
+      bind-numbers format sheet afterPosition (decodeField (format .readNumber) (follows code sessionField) (format .maxSession) sheet afterPosition) _
+      (field-numbers (follows code sessionField) (format .maxSession) (inr refl) sheet afterPosition) λ session afterSession.
+      filled-none format sheet afterSession
+
+  fields-numbers : (code : ℕ) (sheet : List ℕ) (at : ℕ) → OfNumbers format sheet at (decodeFields format code sheet at)
+  fields-numbers code sheet at =
+      bind-numbers format sheet at (decodeField (format .readNumber) (follows code deskField) maxNumber sheet at) _
+      (field-numbers (follows code deskField) maxNumber (inl refl) sheet at) λ desk afterDesk.
+      rest-numbers code desk sheet afterDesk
+
+  record-numbers : (sheet : List ℕ) (at : ℕ) → OfNumbers format sheet at (decodeRecord format sheet at)
+  unfolding decodeRecord
+  record-numbers sheet at =
+      bind-numbers format sheet at (format .readNumber maxNumber sheet at) _ (any-number sheet at) λ code afterCode. by-code code afterCode (isCode code)
+    where
+      by-code : (code afterCode : ℕ) (is : Bool)
+          → OfNumbers format sheet afterCode (cond is (withCode code (decodeFields format code sheet afterCode)) (refused (refusalOf code 17 0)))
+      by-code code afterCode true = coded-numbers format sheet afterCode code (decodeFields format code sheet afterCode) (fields-numbers code sheet afterCode)
+      by-code code afterCode false = no-number format sheet afterCode code 17 refl
+
+  header-numbers : (sheet : List ℕ) (at : ℕ) → OfNumbers format sheet at (decodeHeader (format .readNumber) sheet at)
+  unfolding decodeHeader
+  header-numbers sheet at =
+      bind-numbers format sheet at (format .readNumber maxNumber sheet at) _ (any-number sheet at) λ desks afterDesks.
+      bind-numbers format sheet afterDesks (format .readNumber maxNumber sheet afterDesks) _ (any-number sheet afterDesks) λ screens afterScreens.
+      bind-numbers format sheet afterScreens (format .readNumber maxNumber sheet afterScreens) _ (any-number sheet afterScreens) λ positions afterPositions.
+      filled-none format sheet afterPositions
+
+  pub edition1-numbered : Numbered format (edition1 format)
+  edition1-numbered = record { header-numbers = header-numbers; record-numbers = λ carried. record-numbers }
