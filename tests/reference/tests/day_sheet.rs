@@ -1,7 +1,8 @@
-//! The day sheet: whole case D, case L, the empty sheet, and each way in which
-//! a reading can end.
+//! The day sheet of documents 01 and 02: whole case D, case L, the empty sheet,
+//! each way in which a reading can end, and the offset that its line prints.
 
-use reference::sheet::{printed, Fault, Reader, MAX_BYTES};
+use reference::sheet::Fault::{BadNumber, SheetShort};
+use reference::sheet::{printed, Reader, MAX_BYTES};
 
 const CASE_D: [u8; 27] = [
     0x01, 0x01, 0x01, 0x03, 0x01, 0x01, 0xAC, 0x02, 0x01, 0x01, 0x01, 0x01, 0x03, 0x01, 0x01, 0x07,
@@ -22,6 +23,11 @@ fn lines_after_opening(rest: &[u8]) -> String {
     lines.strip_prefix("0 0 0 0\n").expect("an accepted opening").to_string()
 }
 
+/// The line that ends the reading: the last but one.
+fn stopping_line(sheet: &[u8]) -> String {
+    lines(sheet).lines().rev().nth(1).expect("two lines").to_string()
+}
+
 #[test]
 fn case_d_whole() {
     let expected = "0 0 0 0\n1 3 0 0\n2 1 0 300\n3 3 0 300\n4 4 0 300\n5 5 0 0\n6 2 0 300\n\
@@ -37,19 +43,19 @@ fn the_empty_sheet() {
 #[test]
 fn case_l() {
     assert_eq!(Reader::new(&[0xFF, 0xFF, 0x03]).number(), Ok(65_535));
-    assert_eq!(Reader::new(&[0x80, 0x80, 0x04]).number(), Err(Fault::BadNumber));
+    assert_eq!(Reader::new(&[0x80, 0x80, 0x04]).number(), Err(BadNumber { offset: 0 }));
     assert_eq!(Reader::new(&[0x81, 0x00]).number(), Ok(1));
-    assert_eq!(Reader::new(&[0x80]).number(), Err(Fault::SheetShort));
+    assert_eq!(Reader::new(&[0x80]).number(), Err(SheetShort { offset: 0 }));
 }
 
 /// A sheet that stops before a third byte is 15, also where it could only
 /// have become too large.
 #[test]
 fn numbers_that_stop() {
-    assert_eq!(Reader::new(&[]).number(), Err(Fault::SheetShort));
-    assert_eq!(Reader::new(&[0xFF, 0xFF]).number(), Err(Fault::SheetShort));
-    assert_eq!(Reader::new(&[0xFF, 0xFF, 0x83]).number(), Err(Fault::BadNumber));
-    assert_eq!(Reader::new(&[0x80, 0x80, 0x80, 0x00]).number(), Err(Fault::BadNumber));
+    assert_eq!(Reader::new(&[]).number(), Err(SheetShort { offset: 0 }));
+    assert_eq!(Reader::new(&[0xFF, 0xFF]).number(), Err(SheetShort { offset: 0 }));
+    assert_eq!(Reader::new(&[0xFF, 0xFF, 0x83]).number(), Err(BadNumber { offset: 0 }));
+    assert_eq!(Reader::new(&[0x80, 0x80, 0x80, 0x00]).number(), Err(BadNumber { offset: 0 }));
 }
 
 #[test]
@@ -76,18 +82,18 @@ fn a_refused_opening_ends_the_reading() {
 
 #[test]
 fn all_header_numbers_are_read_before_the_opening_asks() {
-    assert_eq!(lines(&[0, 0]), "0 0 15 0\nend 0 0 0\n");
-    assert_eq!(lines(&[0, 0x80, 0x80, 0x04, 1]), "0 0 16 0\nend 0 0 0\n");
+    assert_eq!(lines(&[0, 0]), "0 0 15 2\nend 0 0 0\n");
+    assert_eq!(lines(&[0, 0x80, 0x80, 0x04, 1]), "0 0 16 1\nend 0 0 0\n");
 }
 
 #[test]
 fn a_code_cut_short() {
-    assert_eq!(lines_after_opening(&[5, 1, 0x85]), "1 5 0 0\n2 0 15 0\nend 1 0 0\n");
+    assert_eq!(lines_after_opening(&[5, 1, 0x85]), "1 5 0 0\n2 0 15 5\nend 1 0 0\n");
 }
 
 #[test]
 fn a_code_too_large_to_read() {
-    assert_eq!(lines_after_opening(&[0x80, 0x80, 0x04]), "1 0 16 0\nend 0 0 0\n");
+    assert_eq!(lines_after_opening(&[0x80, 0x80, 0x04]), "1 0 16 3\nend 0 0 0\n");
 }
 
 #[test]
@@ -103,10 +109,11 @@ fn fields_that_end_the_reading() {
     let records: [&[u8]; 5] = [&[1, 1, 1, 1], &[2, 1, 1], &[3, 1, 1, 7], &[4, 1], &[5, 1]];
     for record in records {
         for cut in 1..record.len() {
+            let offset = SMALLEST.len() + cut;
             let (cut, code) = (&record[..cut], record[0]);
-            assert_eq!(lines_after_opening(cut), format!("1 {code} 15 0\nend 0 0 0\n"));
+            assert_eq!(lines_after_opening(cut), format!("1 {code} 15 {offset}\nend 0 0 0\n"));
             let bad = [cut, &[0xFF, 0xFF, 0x04, 1]].concat();
-            assert_eq!(lines_after_opening(&bad), format!("1 {code} 16 0\nend 0 0 0\n"));
+            assert_eq!(lines_after_opening(&bad), format!("1 {code} 16 {offset}\nend 0 0 0\n"));
         }
     }
 }
@@ -114,7 +121,7 @@ fn fields_that_end_the_reading() {
 /// The desk is checked only once the whole record is read.
 #[test]
 fn all_fields_are_read_before_the_step_asks() {
-    assert_eq!(lines_after_opening(&[1, 9, 9]), "1 1 15 0\nend 0 0 0\n");
+    assert_eq!(lines_after_opening(&[1, 9, 9]), "1 1 15 6\nend 0 0 0\n");
     assert_eq!(lines_after_opening(&[1, 9, 9, 9]), "1 1 6 0\nend 0 1 0\n");
 }
 
@@ -156,7 +163,7 @@ fn long_sheet(bytes: usize) -> Vec<u8> {
 fn the_longest_sheet_is_read() {
     let lines = lines(&long_sheet(MAX_BYTES));
     assert_eq!(MAX_BYTES, 65_536);
-    assert!(lines.ends_with("32766 5 6 0\n32767 5 15 0\nend 0 32766 0\n"));
+    assert!(lines.ends_with("32766 5 6 0\n32767 5 15 65536\nend 0 32766 0\n"));
 }
 
 #[test]
@@ -173,4 +180,103 @@ fn a_long_day() {
     let lines = lines(&sheet);
     assert_eq!(lines.lines().count(), 1 + 32_766 + 1);
     assert!(lines.ends_with("32766 5 0 0\nend 32766 0 0\n"));
+}
+
+/// Bytes that are missing, that do not end, and that are too many or too large,
+/// each with the reply number.
+const BAD_NUMBERS: [(&[u8], u32); 6] = [
+    (&[], 15),
+    (&[0x80], 15),
+    (&[0xFF, 0xFF], 15),
+    (&[0x80, 0x80, 0x04], 16),
+    (&[0xFF, 0xFF, 0x7F, 1, 1], 16),
+    (&[0x80, 0x80, 0x80, 0x00], 16),
+];
+
+/// Each bad number after these bytes prints the same offset, in the line that
+/// begins like this.
+fn assert_offset(before: &[u8], line: &str, offset: usize) {
+    for (bad, number) in BAD_NUMBERS {
+        let expected = format!("{line} {number} {offset}");
+        assert_eq!(stopping_line(&[before, bad].concat()), expected, "{before:?}, {bad:?}");
+    }
+}
+
+#[test]
+fn the_offset_in_the_header() {
+    assert_offset(&[], "0 0", 0);
+    assert_offset(&[1], "0 0", 1);
+    assert_offset(&[1, 1], "0 0", 2);
+}
+
+/// A sheet that ends before a code is complete.
+#[test]
+fn the_offset_of_a_code() {
+    assert_eq!(lines_after_opening(&[0x80]), "1 0 15 3\nend 0 0 0\n");
+    assert_eq!(lines_after_opening(&[0x81, 0x80]), "1 0 15 3\nend 0 0 0\n");
+    assert_eq!(lines_after_opening(&[0xFF, 0xFF, 0x04]), "1 0 16 3\nend 0 0 0\n");
+    assert_eq!(lines_after_opening(&[0x81, 0x80, 0x80, 0]), "1 0 16 3\nend 0 0 0\n");
+}
+
+#[test]
+fn the_offset_of_each_field() {
+    let fields: [(u8, &[&str]); 5] = [
+        (1, &["desk", "screen", "position"]),
+        (2, &["desk", "screen"]),
+        (3, &["desk", "position", "session"]),
+        (4, &["desk"]),
+        (5, &["desk"]),
+    ];
+    for (code, names) in fields {
+        for before in 0..names.len() {
+            let sheet = [&SMALLEST, &[code][..], &vec![1; before]].concat();
+            assert_offset(&sheet, &format!("1 {code}"), 4 + before);
+        }
+    }
+}
+
+/// It counts from the start of the sheet, not of the record.
+#[test]
+fn the_offset_in_a_later_record() {
+    let first = [1, 1, 1, 3, 1, 1, 7];
+    assert_offset(&[&first[..], &[5]].concat(), "2 5", 8);
+    assert_offset(&[&first[..], &[3, 1, 1]].concat(), "2 3", 10);
+    assert_offset(&[&first[..], &[5, 1, 1, 1]].concat(), "3 1", 11);
+}
+
+/// All bytes before it count, also those of zero groups.
+#[test]
+fn the_offset_after_zero_groups() {
+    assert_offset(&[0x81, 0x00], "0 0", 2);
+    assert_offset(&[0x81, 0x00, 0x81, 0x80, 0x00], "0 0", 5);
+    assert_offset(&[0x81, 0x00, 0x81, 0x80, 0x00, 1, 5], "1 5", 7);
+    assert_offset(&[1, 1, 1, 0x85, 0x80, 0x00], "1 5", 6);
+    assert_offset(&[1, 1, 1, 1, 0x81, 0x00, 1], "1 1", 7);
+}
+
+#[test]
+fn other_numbers_print_no_offset() {
+    assert_eq!(lines(&[0, 1, 1]), "0 0 1 0\nend 0 0 0\n");
+    assert_eq!(lines(&[1, 0, 1]), "0 0 2 0\nend 0 0 0\n");
+    assert_eq!(lines(&[1, 1, 0]), "0 0 3 0\nend 0 0 0\n");
+    assert_eq!(lines_after_opening(&[5, 1, 9]), "1 5 0 0\n2 9 17 0\nend 1 0 0\n");
+    assert_eq!(lines(&[1; 65_537]), "0 0 18 0\nend 0 0 0\n");
+}
+
+/// A long sheet with an even number of bytes ends where a desk should begin.
+#[test]
+fn offsets_of_more_than_a_byte() {
+    assert_eq!(stopping_line(&long_sheet(256)), "127 5 15 256");
+    assert_eq!(stopping_line(&long_sheet(32_768)), "16383 5 15 32768");
+}
+
+/// 65,536 is where the longest sheet ends; it is more than 16 bits can hold.
+#[test]
+fn the_largest_offsets() {
+    let ends_with = |end: &[u8]| [&long_sheet(MAX_BYTES - end.len()), end].concat();
+    assert_eq!(stopping_line(&ends_with(&[5])), "32767 5 15 65536");
+    assert_eq!(stopping_line(&ends_with(&[3, 1, 1])), "32766 3 15 65536");
+    assert_eq!(stopping_line(&ends_with(&[0x85])), "32767 0 15 65535");
+    assert_eq!(stopping_line(&ends_with(&[4, 0x80, 0x80])), "32766 4 15 65534");
+    assert_eq!(stopping_line(&ends_with(&[0x80, 0x80, 0x04])), "32766 0 16 65533");
 }

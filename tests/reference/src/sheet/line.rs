@@ -1,13 +1,51 @@
 //! The printed lines: numbers in decimal, one space between.
 
+use super::super::{Refusal, Reply};
+use super::number::Fault;
 use super::tally::Tally;
 
+/// What a line says of its record: reply number and session. Where a number
+/// cannot be read, its offset stands in place of the session; that can be
+/// 65,536, which is more than a session can be.
+#[derive(Clone, Copy)]
+pub struct Columns {
+    number: u32,
+    session: u32,
+}
+
+impl From<Reply> for Columns {
+    fn from(reply: Reply) -> Columns {
+        match reply {
+            Ok(session) => Columns { number: 0, session: u32::from(session) },
+            Err(refusal) => refusal.into(),
+        }
+    }
+}
+
+impl From<Refusal> for Columns {
+    fn from(refusal: Refusal) -> Columns {
+        Columns { number: refusal as u32, session: 0 }
+    }
+}
+
+impl From<Fault> for Columns {
+    fn from(fault: Fault) -> Columns {
+        let (number, offset) = match fault {
+            Fault::SheetShort { offset } => (15, offset),
+            Fault::BadNumber { offset } => (16, offset),
+            Fault::BadCode => (17, 0),
+            Fault::SheetLong => (18, 0),
+        };
+        Columns { number, session: offset as u32 }
+    }
+}
+
 /// Record number, step code, reply number, session.
-pub fn print_line(text: &mut Vec<u8>, record: u32, code: u16, answer: u32) {
+pub fn print_line(text: &mut Vec<u8>, record: u32, code: u16, columns: Columns) {
     print(text, record, b' ');
     print(text, u32::from(code), b' ');
-    print(text, answer >> 16, b' ');
-    print(text, answer & 0xFFFF, b'\n');
+    print(text, columns.number, b' ');
+    print(text, columns.session, b'\n');
 }
 
 /// The last line, always.

@@ -1,5 +1,9 @@
-//! The day sheet, from document 01 alone: a hall, then one record per step,
-//! each run as soon as it is read; and the printed lines.
+//! The day sheet, from documents 01 and 02 alone: a hall, then one record per
+//! step, each run as soon as it is read; and the printed lines.
+//!
+//! Document 02, Job 2: "When a number gives 15 or 16, the number reader's reply
+//! must carry the offset of that number's first byte, and the session column
+//! prints it".
 
 mod line;
 mod number;
@@ -9,9 +13,9 @@ mod tally;
 pub use self::number::{Fault, Reader};
 pub use self::tally::Tally;
 
-use self::line::{print_end, print_line};
+use self::line::{print_end, print_line, Columns};
 use self::record::{read_fields, step};
-use super::{answer, open};
+use super::open;
 
 /// The longest sheet that is read.
 pub const MAX_BYTES: usize = 65_536;
@@ -23,22 +27,23 @@ const TABLE_BYTES: usize = 2 * 2387;
 /// All lines of a sheet, the last one included.
 pub fn printed(sheet: &[u8]) -> Vec<u8> {
     let mut run = Run::new();
-    if let Err(Stop { code, number }) = run.whole(sheet) {
-        run.line(code, number << 16);
+    if let Err(Stop { code, columns }) = run.whole(sheet) {
+        run.line(code, columns);
     }
     print_end(&mut run.text, &run.tally);
     run.text
 }
 
-/// What ends a reading before the end of the sheet: its number, and the code of
-/// the current record, 0 if it was not read.
+/// The line that ends a reading before the end of the sheet. The code is that
+/// of the current record, 0 if it was not read.
 struct Stop {
     code: u16,
-    number: u32,
+    columns: Columns,
 }
 
-fn stop_at(code: u16) -> impl Fn(Fault) -> Stop {
-    move |fault| Stop { code, number: fault as u32 }
+/// The stop for a fault of the sheet, or for a refusal of the board.
+fn stop_at<Reason: Into<Columns>>(code: u16) -> impl Fn(Reason) -> Stop {
+    move |reason| Stop { code, columns: reason.into() }
 }
 
 /// The state of reading a sheet.
@@ -73,8 +78,8 @@ impl Run {
         let mut number = || reader.number().map_err(stop_at(0));
         let (desks, screens, positions) = (number()?, number()?, number()?);
         let reply = open(desks, screens, positions, &mut self.table);
-        reply.map_err(|refusal| Stop { code: 0, number: refusal as u32 })?;
-        self.line(0, answer(reply));
+        reply.map_err(stop_at(0))?;
+        self.line(0, reply.into());
         Ok(())
     }
 
@@ -85,11 +90,11 @@ impl Run {
         let fields = read_fields(code, reader).map_err(stop_at(code))?;
         let reply = step(code, fields, &mut self.table);
         self.tally.count(code, reply);
-        self.line(code, answer(reply));
+        self.line(code, reply.into());
         Ok(())
     }
 
-    fn line(&mut self, code: u16, answer: u32) {
-        print_line(&mut self.text, self.record, code, answer);
+    fn line(&mut self, code: u16, columns: Columns) {
+        print_line(&mut self.text, self.record, code, columns);
     }
 }
