@@ -20,6 +20,8 @@ pub fn sheets() -> Vec<Vec<u8>> {
     for sheet in [CASE_D.to_vec(), every_step(1), every_step(2), every_step(3)] {
         sheets.extend((0..=sheet.len()).map(|cut| sheet[..cut].to_vec()));
     }
+    sheets.extend(too_large());
+    sheets.extend(deep());
     sheets.extend(long());
     sheets
 }
@@ -70,9 +72,8 @@ fn codes() -> Vec<Vec<u8>> {
     sheets
 }
 
-/// Each step, accepted and refused, and repeats, with all numbers in at least
-/// `least_groups` groups.
-fn every_step(least_groups: usize) -> Vec<u8> {
+/// The numbers of a sheet with each step, accepted and refused, and repeats.
+fn numbers_of_every_step() -> Vec<u32> {
     let records: [&[u32]; 20] = [
         &[2, 2, 2],
         &[3, 1, 2, 0],
@@ -95,9 +96,55 @@ fn every_step(least_groups: usize) -> Vec<u8> {
         &[5, 1],
         &[5, 3],
     ];
+    records.concat()
+}
+
+/// Each step, with all numbers in at least `least_groups` groups.
+fn every_step(least_groups: usize) -> Vec<u8> {
     let mut sheet = Vec::new();
-    records.concat().into_iter().for_each(|number| put(&mut sheet, number, least_groups));
+    numbers_of_every_step().into_iter().for_each(|number| put(&mut sheet, number, least_groups));
     sheet
+}
+
+/// Each step, with one number that is too large: each of them in turn.
+fn too_large() -> Vec<Vec<u8>> {
+    let numbers = numbers_of_every_step();
+    let mut sheets = Vec::new();
+    for bad in 0..numbers.len() {
+        for least_groups in 1..=3 {
+            let mut sheet = Vec::new();
+            for (at, &number) in numbers.iter().enumerate() {
+                let number = if at == bad { 65_536 + number } else { number };
+                put(&mut sheet, number, least_groups);
+            }
+            sheets.push(sheet);
+        }
+    }
+    sheets
+}
+
+/// Sheets whose last number is bad, at an offset that needs 9 or 16 bits, and
+/// at the end of the longest sheet, where it needs 17.
+fn deep() -> Vec<Vec<u8>> {
+    let mut ends: Vec<Vec<u8>> = vec![vec![0x80], vec![0x80, 0x80], vec![0x80, 0x80, 0x04]];
+    for record in [&[1, 1, 1, 1][..], &[2, 1, 1], &[3, 1, 1, 7], &[4, 1], &[5, 1]] {
+        ends.extend((1..record.len()).map(|cut| record[..cut].to_vec()));
+        ends.push([&record[..1], &[0x80]].concat());
+        ends.push([&record[..1], &[0xFF, 0xFF, 0x04]].concat());
+    }
+    let mut sheets = Vec::new();
+    for bytes in [260, 32_772, MAX_BYTES - 1, MAX_BYTES] {
+        sheets.extend(ends.iter().map(|end| ending_with(end, bytes)));
+    }
+    sheets
+}
+
+/// A hall, whole records and this end, in so many bytes: collects, which have
+/// two bytes, and before them a drop, which has three, if that is needed.
+fn ending_with(end: &[u8], bytes: usize) -> Vec<u8> {
+    let before = bytes - end.len();
+    let beginning: &[u8] = if before % 2 == 0 { &[1, 1, 1, 2, 1, 1] } else { &[1, 1, 1] };
+    [&filled(beginning, &[5, 1], before), end].concat()
 }
 
 /// Around the longest sheet, and well past it.

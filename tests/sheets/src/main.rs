@@ -115,12 +115,11 @@ fn compare_many(pair: &Pair, all: &Sheets, count: u64) -> ExitCode {
     }
 }
 
-/// No sheet differed; but a reply that never occurred was never compared.
+/// No sheet differed; but a reply or an offset that never occurred was never
+/// compared.
 fn judge(tally: &Tally) -> ExitCode {
     let missing = tally.missing();
-    for (name, reply) in &missing {
-        println!("{name}: never {reply}");
-    }
+    missing.iter().for_each(|missing| println!("{missing}"));
     let sheets = tally.sheets;
     if missing.is_empty() {
         println!("sheets: {sheets} sheets, 0 differences");

@@ -1,4 +1,5 @@
-//! What was compared: the lines, by reply number and by what they answer.
+//! What was compared: the lines, by reply number and by what they answer, and
+//! the offsets that they print.
 
 use std::fmt;
 
@@ -17,12 +18,23 @@ const COLUMNS: [(&str, &[usize]); 8] = [
     ("bad code", &[17]),
 ];
 
+const HEADER: usize = 0;
 const NO_CODE: usize = 6;
 const BAD_CODE: usize = 7;
 
+/// The reply numbers that print an offset.
+const WITH_OFFSET: [usize; 2] = [15, 16];
+
+/// The offsets, by how wide they are: from each of these up to the next. Only
+/// one reaches the last: a field that should start where the longest sheet ends.
+const WIDTHS: [usize; 5] = [0, 1, 256, 32_768, 65_536];
+
+type Counts<const KINDS: usize> = [[u64; KINDS]; COLUMNS.len()];
+
 #[derive(Default)]
 pub struct Tally {
-    lines: [[u64; NUMBERS]; COLUMNS.len()],
+    lines: Counts<NUMBERS>,
+    offsets: [Counts<{ WIDTHS.len() }>; WITH_OFFSET.len()],
     pub sheets: u64,
 }
 
@@ -34,30 +46,48 @@ impl Tally {
         for line in printed.split(|&byte| byte == b'\n') {
             let words: Option<Vec<usize>> =
                 line.split(|&byte| byte == b' ').map(plain_number).collect();
-            if let Some([record, code, number @ ..NUMBERS, _]) = words.as_deref() {
-                self.lines[column(*record, *code, *number)][*number] += 1;
+            if let Some([record, code, number @ ..NUMBERS, session]) = words.as_deref() {
+                self.count_line(column(*record, *code, *number), *number, *session);
             }
+        }
+    }
+
+    fn count_line(&mut self, column: usize, number: usize, session: usize) {
+        self.lines[column][number] += 1;
+        if let Some(at) = WITH_OFFSET.iter().position(|&with| with == number) {
+            self.offsets[at][column][width_of(session)] += 1;
         }
     }
 
     pub fn add(&mut self, other: &Tally) {
         self.sheets += other.sheets;
-        for (of_column, of_other) in self.lines.iter_mut().zip(&other.lines) {
-            for (lines, of_other) in of_column.iter_mut().zip(of_other) {
-                *lines += of_other;
-            }
+        add(&mut self.lines, &other.lines);
+        for (offsets, of_other) in self.offsets.iter_mut().zip(&other.offsets) {
+            add(offsets, of_other);
         }
     }
 
-    /// The replies that a sheet can get, but that never occurred.
-    pub fn missing(&self) -> Vec<(&'static str, usize)> {
+    /// The replies and offsets that a sheet can get, but that never occurred.
+    pub fn missing(&self) -> Vec<String> {
         let mut missing = Vec::new();
-        for ((name, numbers), lines) in COLUMNS.iter().zip(&self.lines) {
-            let never = numbers.iter().filter(|&&number| lines[number] == 0);
-            missing.extend(never.map(|&number| (*name, number)));
+        for (column, (name, numbers)) in COLUMNS.iter().enumerate() {
+            let never = numbers.iter().filter(|&&number| self.lines[column][number] == 0);
+            missing.extend(never.map(|number| format!("{name}: never {number}")));
+            for (number, offsets) in WITH_OFFSET.iter().zip(&self.offsets) {
+                let widths = required_widths(column, *number).iter();
+                let never = widths.filter(|&&from| offsets[column][width_of(from)] == 0);
+                missing.extend(
+                    never.map(|from| format!("{name}: never {number} at an offset from {from}")),
+                );
+            }
         }
         missing
     }
+}
+
+fn add<const KINDS: usize>(counts: &mut Counts<KINDS>, others: &Counts<KINDS>) {
+    let counts = counts.iter_mut().flatten();
+    counts.zip(others.iter().flatten()).for_each(|(count, other)| *count += other);
 }
 
 fn plain_number(word: &[u8]) -> Option<usize> {
@@ -67,25 +97,55 @@ fn plain_number(word: &[u8]) -> Option<usize> {
 fn column(record: usize, code: usize, number: usize) -> usize {
     match (record, code) {
         _ if number == 17 => BAD_CODE,
-        (0, _) => 0,
+        (0, _) => HEADER,
         (_, 1..=5) => code,
         _ => NO_CODE,
     }
 }
 
+fn width_of(offset: usize) -> usize {
+    WIDTHS.partition_point(|&from| from <= offset) - 1
+}
+
+/// The widths of offset that must occur. A code that is missing is no fault, and
+/// a number that is too large has bytes: neither starts where a sheet ends.
+fn required_widths(column: usize, number: usize) -> &'static [usize] {
+    match (column, number) {
+        (BAD_CODE, _) => &[],
+        (HEADER, _) => &[0, 1],
+        (NO_CODE, _) | (_, 16) => &[1, 256, 32_768],
+        _ => &[1, 256, 32_768, 65_536],
+    }
+}
+
 impl fmt::Display for Tally {
     fn fmt(&self, out: &mut fmt::Formatter) -> fmt::Result {
-        write!(out, "{:<6}", "reply")?;
-        COLUMNS.iter().try_for_each(|(name, _)| write!(out, "{name:>9}"))?;
-        for number in 0..NUMBERS {
-            write!(out, "\n{number:<6}")?;
-            for lines in &self.lines {
-                match lines[number] {
-                    0 => write!(out, "{:>9}", "-")?,
-                    lines => write!(out, "{lines:>9}")?,
-                }
-            }
+        table(out, "reply", &(0..NUMBERS).collect::<Vec<_>>(), &self.lines)?;
+        for (number, offsets) in WITH_OFFSET.iter().zip(&self.offsets) {
+            writeln!(out)?;
+            table(out, &format!("{number} at"), &WIDTHS, offsets)?;
         }
         Ok(())
     }
+}
+
+/// A row for each kind, under the names of the columns.
+fn table<const KINDS: usize>(
+    out: &mut fmt::Formatter,
+    head: &str,
+    kinds: &[usize],
+    counts: &Counts<KINDS>,
+) -> fmt::Result {
+    write!(out, "{head:<6}")?;
+    COLUMNS.iter().try_for_each(|(name, _)| write!(out, "{name:>9}"))?;
+    for (row, kind) in kinds.iter().enumerate() {
+        write!(out, "\n{kind:<6}")?;
+        for of_column in counts {
+            match of_column[row] {
+                0 => write!(out, "{:>9}", "-")?,
+                lines => write!(out, "{lines:>9}")?,
+            }
+        }
+    }
+    Ok(())
 }
