@@ -44,7 +44,8 @@ patched() {
         mkdir "$work/tests/$crate"
         (cd "$tests/$crate" && tar -cf - --exclude=target .) | tar -xmf - -C "$work/tests/$crate"
     done
-    patch --quiet -d "$work/tests/reference" -p1 <"$tests/wrong/$1/$2.patch" || fail "$2: the patch does not apply"
+    patch --quiet --fuzz=0 -d "$work/tests/reference" -p1 <"$tests/wrong/$1/$2.patch" ||
+        fail "$2: the patch does not apply"
 }
 
 # case_fails KIND NAME: the patched reference fails the test that the patch names.
