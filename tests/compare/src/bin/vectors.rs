@@ -8,11 +8,14 @@
 #[allow(dead_code)]
 #[path = "../call.rs"]
 mod call;
+#[path = "../vector_bytes.rs"]
+mod vector_bytes;
 
 use call::Call;
 use std::process::ExitCode;
 use std::str::FromStr;
 use std::{env, fs};
+use vector_bytes::bytes;
 
 fn main() -> ExitCode {
     let files: Vec<String> = env::args().skip(1).collect();
@@ -134,24 +137,4 @@ fn numbers(text: &str) -> Result<u32, String> {
     let number = |text: &str| text.parse::<u16>().map_err(|error| format!("{text}: {error}"));
     let (reply, session) = text.split_once(' ').ok_or(format!("{text}: not two numbers"))?;
     Ok(u32::from(number(reply)?) << 16 | u32::from(number(session)?))
-}
-
-/// Hex pieces joined by dots; a piece `HEX*n` stands n times; `-` is no bytes.
-fn bytes(text: &str) -> Result<Vec<u8>, String> {
-    let mut bytes = Vec::new();
-    for piece in text.split('.').filter(|_| text != "-") {
-        let (digits, times) = piece.split_once('*').unwrap_or((piece, "1"));
-        let times: usize = times.parse().map_err(|error| format!("{piece}: {error}"))?;
-        bytes.extend(from_hex(digits)?.repeat(times));
-    }
-    Ok(bytes)
-}
-
-fn from_hex(digits: &str) -> Result<Vec<u8>, String> {
-    let all_hex = digits.bytes().all(|digit| digit.is_ascii_hexdigit());
-    if digits.is_empty() || digits.len() % 2 != 0 || !all_hex {
-        return Err(format!("'{digits}' is not bytes in hex"));
-    }
-    let byte = |at| u8::from_str_radix(&digits[at..at + 2], 16).expect("two digits in hex");
-    Ok((0..digits.len()).step_by(2).map(byte).collect())
 }
