@@ -8,6 +8,7 @@ mod bytes;
 mod damage;
 mod explain;
 mod fixed;
+mod folder;
 mod make;
 mod many;
 mod pair;
@@ -19,13 +20,14 @@ mod tally;
 
 use bytes::from_hex;
 use explain::explain_smallest;
+use folder::with_folder;
 use many::{input_mode, run_all, Sheets};
 use pair::Pair;
 use program::{InputMode, INPUT_MODES};
 use std::path::{Path, PathBuf};
 use std::process::ExitCode;
 use std::time::Instant;
-use std::{env, fs, process};
+use std::{env, fs};
 use tally::Tally;
 
 struct Options {
@@ -48,21 +50,7 @@ fn main() -> ExitCode {
             return ExitCode::from(2);
         }
     };
-    let folder = folder();
-    let result = compare(&options, &folder);
-    let _ = fs::remove_dir_all(&folder);
-    result
-}
-
-/// For the sheets and the lines. In memory if possible: there are many small
-/// files.
-fn folder() -> PathBuf {
-    let name = format!("sheets-{}", process::id());
-    let in_memory = Path::new("/dev/shm").join(&name);
-    match fs::create_dir(&in_memory) {
-        Ok(()) => in_memory,
-        Err(_) => env::temp_dir().join(name),
-    }
+    with_folder(|folder| compare(&options, folder))
 }
 
 fn options(mut arguments: impl Iterator<Item = String>) -> Result<Options, String> {
