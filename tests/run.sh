@@ -57,6 +57,8 @@ step "building host_test" 0 link host_test "$root/tests/host/host_test.c" "$root
 step "host_test" 1 "$CARGO_TARGET_DIR/host_test"
 step "building sheets" 0 build sheets
 step "building the sheet program in Rust" 0 build reference
+step "sheet_vectors" 1 "$CARGO_TARGET_DIR/release/sheet_vectors" --day_sheet "$program" \
+    "$CARGO_TARGET_DIR/release/day_sheet_reference" "$root"/tests/vectors/*-sheets.txt
 step "sheets" 1 "$CARGO_TARGET_DIR/release/sheets" "$program" \
     "$CARGO_TARGET_DIR/release/day_sheet_reference"
 step "sheet_cases" 1 "$root/tests/sheet_cases.py" --check --reference \
