@@ -7,7 +7,7 @@
 #     KIND       what must catch them     the wrong ones
 #     boards     compare, and vectors     wrong/boards: patches of the reference, which replaces the archive
 #                if wrong about repeats
-#     programs   sheets                   wrong/programs: patches of the reference, which replaces the program
+#     programs   sheets, sheet_vectors    wrong/programs: patches of the reference, which replaces the program
 #     stores     stores and host_test     wrong/stores.c: right answers, but a store outside the call's footprint
 #     fuzz       fuzz_calls, fuzz_sheets  some of wrong/boards and wrong/programs, and wrong/accesses.c
 #
@@ -128,6 +128,28 @@ sheets() {
     timeout 300 "$work/sheets/release/sheets" "$program" "$work/right/release/day_sheet_reference" "$@"
 }
 
+# sheet_vectors PROGRAM: PROGRAM on the published sheets
+sheet_vectors() {
+    timeout 120 "$work/sheets/release/sheet_vectors" --day_sheet "$1" "$work/right/release/day_sheet_reference" \
+        "$tests"/vectors/*-sheets.txt >"$work/out.vectors" 2>&1
+}
+
+# The published sheets come from a file, all at once.
+unseen_by_sheet_vectors=reads-once
+
+# caught_by_sheet_vectors NAME PROGRAM
+caught_by_sheet_vectors() {
+    [ "$1" != "$unseen_by_sheet_vectors" ] || return 0
+    if sheet_vectors "$2"; then fail "$1: not caught by sheet_vectors"; fi
+    grep -q "^sheet vectors: .* faults$" "$work/out.vectors" || fail "$1: $(tail -n 1 "$work/out.vectors")"
+}
+
+# How sheet_vectors reads its files, and which output it refuses.
+sheet_vectors_tests() {
+    CARGO_TARGET_DIR=$work/sheets cargo test --quiet --offline --release --manifest-path "$tests/sheets/Cargo.toml" \
+        --bin sheet_vectors >"$work/out.tests" 2>&1 || fail "sheet_vectors: $(cat "$work/out.tests")"
+}
+
 programs_all() {
     patches programs
 }
@@ -138,8 +160,11 @@ programs_start() {
 }
 
 programs_right() {
+    sheet_vectors_tests
     sheets "$work/right/release/day_sheet_reference" >"$work/out" ||
         fail "the right program differs: $(tail -n 1 "$work/out")"
+    sheet_vectors "$work/right/release/day_sheet_reference" ||
+        fail "the right program differs: $(head -n 1 "$work/out.vectors")"
     echo "right program: $(tail -n 1 "$work/out")"
 }
 
@@ -152,6 +177,7 @@ programs_wrong() {
     bytes=$(sed -n "s/^replay: .*--hex '\(.*\)'$/\1/p" "$work/out")
     if sheets "$program" --hex "$bytes" >"$work/out.again" 2>&1; then fail "$1: the replay does not differ"; fi
     case_fails programs "$1" # two patches name none: no test of the reference reads as they do
+    caught_by_sheet_vectors "$1" "$program"
     echo "$1: caught, $(sed -n 's/^smallest sheet found: //p' "$work/out")"
 }
 
