@@ -18,7 +18,7 @@ def explained(sheet, lines, end):
 def meaning(sheet, line, references):
     if sheet.fault and line.record == sheet.fault.record:
         ends = where_and_why(sheet.fault)
-        return ends if line.reply == sheet.fault.number else f"reply {line.reply}, though {ends}"
+        return ends if line.reply == sheet.fault.reply else f"reply {line.reply}, though {ends}"
     if line.record == 0:
         return opening_in_words(sheet.hall, line.reply)
     record = sheet.records[line.record - 1]

@@ -143,7 +143,7 @@ def reading_ends(drawing, fault, x, top):
     drawing.words(middle, top + 13, str(fault.record), "bold", "middle")
     drawing.words(middle, top + 33, "the reading", "", "middle")
     drawing.words(middle, top + 46, "ends here", "", "middle")
-    boxed(drawing, x, top + 59, f"number {fault.number}", **REFUSED)
+    boxed(drawing, x, top + 59, f"number {fault.reply}", **REFUSED)
 
 
 def positions(drawing, moments, shown, y):

@@ -2,68 +2,87 @@
 
 from collections import namedtuple
 
-from .steps import MAX_BYTES, MAX_NUMBER, STEPS, Record
+from .steps import HALL_FIELDS, MAX_BYTES, MAX_NUMBER, STEPS, Record
 
-# The contents of a sheet, up to the end of its reading. The hall is None if it could not be read; fault is None
-# if the whole sheet could be read.
-Sheet = namedtuple("Sheet", "hall records fault")
+# The contents of a sheet, up to the end of its reading. The hall is None if it could not be read; numbers[N] has the
+# numbers of record N (0 is the header), also the one that ends the reading; fault is None if the whole sheet could be
+# read.
+Sheet = namedtuple("Sheet", "hall records numbers fault")
 
-# Why a reading ends: the reply number, the offset of the number that caused it, the record being read (0 is the
-# header) and its code (0 if it was not read).
-Fault = namedtuple("Fault", "number byte record code")
+# A number of a sheet: its field ("code" for a step code), the offset of its first byte, the offset after its last
+# byte, and its value, which is None for a number that does not end.
+Number = namedtuple("Number", "field start end value")
+
+# Why a reading ends: the reply number, the record being read (0 is the header), its code (0 if it was not read) and
+# the number of the sheet that caused it (None for 18).
+Fault = namedtuple("Fault", "reply record code number")
 
 MAX_GROUPS = 3
 
 
-class BadNumber(Exception):
-    """A number could not be read: 15 or 16."""
+class Refused(Exception):
+    """The number just read ends the reading: 15, 16 or 17."""
 
 
 class Reader:
     def __init__(self, data):
         self.data = data
         self.at = 0
-        self.began = 0  # where the current number starts
+        self.numbers = []
 
     def at_end(self):
         return self.at == len(self.data)
 
-    def number(self):
-        """Groups of seven bits, lowest first; the top bit says that another follows."""
-        self.began = self.at
+    def start_record(self):
+        self.numbers.append([])
+
+    def number(self, field):
+        """The value of the record's next number. The number is recorded with its offsets, also if it is refused."""
+        start = self.at
+        value = self.value()
+        self.numbers[-1].append(Number(field, start, self.at, value))
+        if value is None and self.at - start < MAX_GROUPS:
+            raise Refused(15)
+        if value is None or value > MAX_NUMBER:
+            raise Refused(16)
+        return value
+
+    def value(self):
+        """Groups of seven bits, lowest first; the top bit says that another follows. None if the number does not end."""
         value = 0
         for group in range(MAX_GROUPS):
             if self.at_end():
-                raise BadNumber(15)
+                return None
             byte = self.data[self.at]
             self.at += 1
             value |= (byte & 0x7F) << (7 * group)
             if byte < 0x80:
-                if value > MAX_NUMBER:
-                    raise BadNumber(16)
                 return value
-        raise BadNumber(16)
+        return None
 
 
 def read(data):
     """The sheet of these bytes."""
     if len(data) > MAX_BYTES:
-        return Sheet(None, [], Fault(18, MAX_BYTES, 0, 0))
+        return Sheet(None, [], [], Fault(18, 0, 0, None))
     reader = Reader(data)
     hall, records, code = None, [], 0
     try:
-        hall = tuple(reader.number() for _ in range(3))
+        reader.start_record()
+        hall = tuple(reader.number(field) for field in HALL_FIELDS)
         while not reader.at_end():
+            reader.start_record()
             code = 0
-            code = reader.number()
+            code = reader.number("code")
             if code not in STEPS:
-                return Sheet(hall, records, Fault(17, reader.began, len(records) + 1, code))
-            numbers = tuple(reader.number() for _ in STEPS[code].fields)
+                raise Refused(17)
+            numbers = tuple(reader.number(field) for field in STEPS[code].fields)
             records.append(Record(code, numbers))
-    except BadNumber as error:
-        record = 0 if hall is None else len(records) + 1
-        return Sheet(hall, records, Fault(error.args[0], reader.began, record, code))
-    return Sheet(hall, records, None)
+    except Refused as refused:
+        record = len(reader.numbers) - 1
+        fault = Fault(refused.args[0], record, code, reader.numbers[record][-1])
+        return Sheet(hall, records, reader.numbers, fault)
+    return Sheet(hall, records, reader.numbers, None)
 
 
 def number_bytes(number):

@@ -75,9 +75,9 @@ def decode(sheet):
 
 def where_and_why(fault):
     """'the reading ends at byte 12, in record 3 (take): 16, a number must ...'"""
-    if fault.number == 18:
+    if fault.reply == 18:
         return f"the reading ends with 18, {REASONS[18]}"
     step = f" ({STEPS[fault.code].name})" if fault.code in STEPS else ""
     place = "in the header" if fault.record == 0 else f"in record {fault.record}{step}"
-    code = f": code {fault.code}" if fault.number == 17 else ""
-    return f"the reading ends at byte {fault.byte}, {place}{code}: {fault.number}, {REASONS[fault.number]}"
+    code = f": code {fault.code}" if fault.reply == 17 else ""
+    return f"the reading ends at byte {fault.number.start}, {place}{code}: {fault.reply}, {REASONS[fault.reply]}"
