@@ -235,6 +235,19 @@ printf '0 0 0 0\n1 5 0 0\n2 1 0 0\nend 2 0 0\n' >wrong.lines
 sheet explain cut.sheet --lines wrong.lines >out
 grep -qx '2 1 0 0     reply 0, though the reading ends at byte 7, in record 2 (take): 15, .*' out || fail "explain: a wrong end"
 passed
+printf '0 0 0 0\n1 5 0 0\n2 1 15 6\nend 1 0 0\n' >wrong.lines
+sheet explain cut.sheet --lines wrong.lines >out
+grep -qx '2 1 15 6    session 6, but it should be 7: the reading ends at byte 7, in record 2 (take): 15, .*' out ||
+    fail "explain: a wrong offset"
+passed
+printf '\001\001\001\011' >unknown.sheet
+printf '0 0 0 0\n1 9 17 3\nend 0 0 0\n' >unknown.lines
+sheet explain unknown.sheet --lines unknown.lines >out
+grep -qx '1 9 17 3    session 3, but it should be 0: the reading ends at byte 3, in record 1: code 9: 17, .*' out ||
+    fail "explain: 17 with an offset"
+passed
+refused 2 "record 2: the program printed 15 6, but by documents 01 and 02 it is 15 7; nothing is drawn" \
+    picture cut.sheet wrong.svg --lines wrong.lines
 
 # Random bytes: a message, never a Python traceback.
 for at in 1 2 3; do

@@ -17,8 +17,7 @@ def explained(sheet, lines, end):
 
 def meaning(sheet, line, references):
     if sheet.fault and line.record == sheet.fault.record:
-        ends = where_and_why(sheet.fault)
-        return ends if line.reply == sheet.fault.reply else f"reply {line.reply}, though {ends}"
+        return reading_ends(sheet.fault, line)
     if line.record == 0:
         return opening_in_words(sheet.hall, line.reply)
     record = sheet.records[line.record - 1]
@@ -26,6 +25,16 @@ def meaning(sheet, line, references):
         return f"{doing_in_words(record)}: refused, {reason(line.reply)}"
     references.accept(record, line.session)
     return f"{doing_in_words(record)}: {result_in_words(record, line.session, references)}"
+
+
+def reading_ends(fault, line):
+    """Where and why the reading ends; first what the line says differently."""
+    ends = where_and_why(fault)
+    if line.reply != fault.reply:
+        return f"reply {line.reply}, though {ends}"
+    if line.session != fault.session:
+        return f"session {line.session}, but it should be {fault.session}: {ends}"
+    return ends
 
 
 def reason(reply):

@@ -13,11 +13,18 @@ Sheet = namedtuple("Sheet", "hall records numbers fault")
 # byte, and its value, which is None for a number that does not end.
 Number = namedtuple("Number", "field start end value")
 
-# Why a reading ends: the reply number, the record being read (0 is the header), its code (0 if it was not read) and
-# the number of the sheet that caused it (None for 18).
-Fault = namedtuple("Fault", "reply record code number")
-
 MAX_GROUPS = 3
+WITH_OFFSET = (15, 16)
+
+
+class Fault(namedtuple("Fault", "reply record code number")):
+    """Why a reading ends: the reply number, the record being read (0 is the header), its code (0 if it was not read)
+    and the number of the sheet that caused it (None for 18)."""
+
+    @property
+    def session(self):
+        """The session column of its line: for 15 and 16 the offset of the number's first byte."""
+        return self.number.start if self.reply in WITH_OFFSET else 0
 
 
 class Refused(Exception):

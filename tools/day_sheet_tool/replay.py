@@ -30,7 +30,7 @@ def replay(sheet, lines, end, numbers):
         if line.record in numbers:
             moments.append(Moment(line.record, record, reply, session, copy.deepcopy(board)))
     if sheet.fault:
-        agree(lines[-1], sheet.fault.reply, 0)
+        agree(lines[-1], sheet.fault.reply, sheet.fault.session)
     if end != tuple(counts):
         differ("end", " ".join(map(str, end)), " ".join(map(str, counts)))
     return moments
