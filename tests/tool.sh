@@ -62,6 +62,15 @@ bad_sheet() {
     passed
 }
 
+# ends MEANING ROW BYTES: for the bytes, a printf format, 'explain' prints this line where the reading ends, and this row below it.
+# Several spaces are one here.
+ends() {
+    printf "$3" >bad.sheet
+    printf '%s\n' "$1" " $2" >expected
+    sheet explain bad.sheet --program "$program" | tail -n 3 | head -n 2 | tr -s ' ' >out
+    same "explain: not '$1'" expected out
+}
+
 # Case D, whole.
 cat >d.txt <<'END'
 hall 1 1 1
@@ -198,12 +207,59 @@ awk 'BEGIN { print "hall 1 1 1"; for (i = 0; i < 32767; i++) print "collect 1" }
 refused 2 "long.txt:32768: the sheet is longer than 65,536 bytes with this record (reply number 18)" encode long.txt
 
 # Sheets that cannot be read.
-bad_sheet "byte 0, in the header: 15, the sheet ends before this number is complete" ''
-bad_sheet "byte 5, in record 1 (take): 15, the sheet ends before this number is complete" '\001\001\001\001\001\201'
-bad_sheet "byte 4, in record 1 (swap): 16, a number must end within three bytes and be at most 65,535" '\001\001\001\003\200\200\004\001'
-bad_sheet "byte 5, in record 2: code 9: 17, no step has this code; the codes are 1 to 5" '\001\001\001\005\001\011\001'
+bad_sheet "byte 0, number P of the header (desks): 15, it is missing; the sheet has 0 bytes" ''
+bad_sheet "byte 5, the screen of record 1 (take): 15, it is cut off; the sheet has 6 bytes" '\001\001\001\001\001\201'
+bad_sheet "byte 4, the desk of record 1 (swap): 16, it is 65,536, over 65,535" '\001\001\001\003\200\200\004\001'
+bad_sheet "byte 5, the code of record 2: 17, no step has code 9; the codes are 1 to 5" '\001\001\001\005\001\011\001'
 head -c 65537 /dev/zero >long.sheet
 refused 2 "long.sheet: the reading ends with 18, a sheet has at most 65,536 bytes" decode long.sheet
+
+# The number that ends a reading, explained with the bytes around it: each number of the header, the code, each field.
+ends "0 0 15 0 the reading ends at byte 0, number P of the header (desks): 15, it is missing; the sheet has 0 bytes" \
+    "from byte 0: [end] byte 0 = 0x0" ''
+ends "0 0 15 1 the reading ends at byte 1, number c of the header (screens per desk): 15, it is missing; the sheet has 1 byte" \
+    "from byte 0: 01 [end] byte 1 = 0x1" '\001'
+ends "0 0 16 2 the reading ends at byte 2, number L of the header (positions): 16, it is 65,536, over 65,535" \
+    "from byte 0: 01 01 [80 80 04] 05 01 05 01 .. byte 2 = 0x2" '\001\001\200\200\004\005\001\005\001\005\001'
+ends "2 0 15 5 the reading ends at byte 5, the code of record 2: 15, it is cut off; the sheet has 6 bytes" \
+    "from byte 0: 01 01 01 05 01 [80] byte 5 = 0x5" '\001\001\001\005\001\200'
+ends "1 5 15 4 the reading ends at byte 4, the desk of record 1 (collect): 15, it is missing; the sheet has 4 bytes" \
+    "from byte 0: 01 01 01 05 [end] byte 4 = 0x4" '\001\001\001\005'
+ends "1 5 15 4 the reading ends at byte 4, the desk of record 1 (collect): 15, it is cut off; the sheet has 6 bytes" \
+    "from byte 0: 01 01 01 05 [80 80] byte 4 = 0x4" '\001\001\001\005\200\200'
+ends "1 2 16 5 the reading ends at byte 5, the screen of record 1 (drop): 16, it does not end within three bytes" \
+    "from byte 0: 01 01 01 02 01 [ff ff ff] 01 byte 5 = 0x5" '\001\001\001\002\001\377\377\377\001'
+ends "1 1 16 6 the reading ends at byte 6, the position of record 1 (take): 16, it is 2,097,151, over 65,535" \
+    "from byte 0: 01 01 01 01 01 01 [ff ff 7f] byte 6 = 0x6" '\001\001\001\001\001\001\377\377\177'
+# Padded numbers before it: the header has seven bytes, the swap's code, desk and position have eight.
+ends "1 3 15 15 the reading ends at byte 15, the session of record 1 (swap): 15, it is cut off; the sheet has 16 bytes" \
+    "from byte 7: 83 80 00 81 00 81 80 00 [ac] byte 15 = 0xf" \
+    '\201\000\201\000\201\200\000\203\200\000\201\000\201\200\000\254'
+ends "2 9 17 0 the reading ends at byte 5, the code of record 2: 17, no step has code 9; the codes are 1 to 5" \
+    "from byte 0: 01 01 01 05 01 [09] 01 byte 5 = 0x5" '\001\001\001\005\001\011\001'
+# The greatest offset: 65,536 bytes, and the desk of the last collect should follow them.
+"$python" -c 'import sys; sys.stdout.buffer.write(b"\1\1\1" + 32766 * b"\5\1" + b"\5")' >full.sheet
+cat >full.meaning <<'END'
+32767 5 15 65536   the reading ends at byte 65536, the desk of record 32767 (collect): 15, it is missing; the sheet has 65,536 bytes
+                   from byte 65528: 01 05 01 05 01 05 01 05 [end]   byte 65536 = 0x10000
+end 32766 0 0      32,766 steps accepted, 0 refused by the board, 0 sessions handed back
+END
+sheet explain full.sheet --program "$program" | tail -n 3 >full.explained
+same "explain: offset 65,536" full.meaning full.explained
+# An opening that is refused, or a sheet that is too long, has no such row.
+printf '\021\001\001\005' >closed.sheet
+cat >expected <<'END'
+0 0 1 0     a hall of 17 desks, 1 screen per desk, 1 position: refused, a hall has 1 to 16 desks; nothing more is read
+end 0 0 0   0 steps accepted, 0 refused by the board, 0 sessions handed back
+END
+sheet explain closed.sheet --program "$program" >out
+same "explain: 1" expected out
+cat >expected <<'END'
+0 0 18 0    the reading ends with 18, a sheet has at most 65,536 bytes
+end 0 0 0   0 steps accepted, 0 refused by the board, 0 sessions handed back
+END
+sheet explain long.sheet --program "$program" >out
+same "explain: 18" expected out
 
 # Files and programs that do not exist, or are of the wrong kind.
 refused 2 "none.txt: no such file or directory" encode none.txt
@@ -233,17 +289,17 @@ refused 2 "end: the program printed 7 1 2, but by documents 01 and 02 it is 7 1 
 [ ! -e wrong.svg ] || fail "a picture of wrong lines was written"
 printf '0 0 0 0\n1 5 0 0\n2 1 0 0\nend 2 0 0\n' >wrong.lines
 sheet explain cut.sheet --lines wrong.lines >out
-grep -qx '2 1 0 0     reply 0, though the reading ends at byte 7, in record 2 (take): 15, .*' out || fail "explain: a wrong end"
+grep -qx '2 1 0 0     reply 0, though the reading ends at byte 7, the screen of record 2 (take): 15, .*' out || fail "explain: a wrong end"
 passed
 printf '0 0 0 0\n1 5 0 0\n2 1 15 6\nend 1 0 0\n' >wrong.lines
 sheet explain cut.sheet --lines wrong.lines >out
-grep -qx '2 1 15 6    session 6, but it should be 7: the reading ends at byte 7, in record 2 (take): 15, .*' out ||
+grep -qx '2 1 15 6    session 6, but it should be 7: the reading ends at byte 7, the screen of record 2 (take): 15, .*' out ||
     fail "explain: a wrong offset"
 passed
 printf '\001\001\001\011' >unknown.sheet
 printf '0 0 0 0\n1 9 17 3\nend 0 0 0\n' >unknown.lines
 sheet explain unknown.sheet --lines unknown.lines >out
-grep -qx '1 9 17 3    session 3, but it should be 0: the reading ends at byte 3, in record 1: code 9: 17, .*' out ||
+grep -qx '1 9 17 3    session 3, but it should be 0: the reading ends at byte 3, the code of record 1: 17, .*' out ||
     fail "explain: 17 with an offset"
 passed
 refused 2 "record 2: the program printed 15 6, but by documents 01 and 02 it is 15 7; nothing is drawn" \

@@ -6,12 +6,13 @@ import sys
 
 from .errors import UserError, plural
 from .explain import explained
+from .faults import where_and_why
 from .files import read_sheet, read_text, reason, write_text
 from .lines import lines_of
 from .picture import MAX_RECORDS, picture
 from .reading import read
 from .replay import replay
-from .text import decode, encode, where_and_why
+from .text import decode, encode
 
 EPILOG = "docs/SHEETS.md has examples. A file named '-' is standard input."
 
@@ -97,7 +98,7 @@ def explain(options):
     data = read_sheet(options.sheet)
     sheet = read(data)
     lines, end = lines_of(data, sheet, options.program, options.lines)
-    sys.stdout.write(explained(sheet, lines, end))
+    sys.stdout.write(explained(data, sheet, lines, end))
 
 
 def draw(options):

@@ -1,15 +1,18 @@
 """The meaning of each printed line, in words."""
 
+from .dump import around
 from .errors import plural
+from .faults import where_and_why
 from .references import References
 from .steps import REASONS, STEPS, is_repeat
-from .text import where_and_why
 
 
-def explained(sheet, lines, end):
-    """Each printed line, followed by its meaning."""
+def explained(data, sheet, lines, end):
+    """Each printed line, followed by its meaning. Below the line that ends the reading are the bytes around its number."""
     references = References()
     rows = [(" ".join(map(str, line)), meaning(sheet, line, references)) for line in lines]
+    if sheet.fault and sheet.fault.number and lines[-1].record == sheet.fault.record:
+        rows.append(("", around(data, sheet.fault.number)))
     rows.append((" ".join(["end", *map(str, end)]), end_in_words(end)))
     width = max(len(printed) for printed, _ in rows)
     return "".join(f"{printed:<{width}}   {words}\n" for printed, words in rows)

@@ -2,7 +2,7 @@
 
 from .errors import UserError, plural
 from .reading import number_bytes
-from .steps import CODES, HALL_FIELDS, MAX_BYTES, MAX_NUMBER, REASONS, STEPS
+from .steps import CODES, HALL_FIELDS, MAX_BYTES, MAX_NUMBER, STEPS
 
 HALL_LINE = "'hall DESKS SCREENS POSITIONS'"
 
@@ -71,13 +71,3 @@ def decode(sheet):
     for record in sheet.records:
         lines.append(" ".join([STEPS[record.code].name, *map(str, record.numbers)]))
     return "\n".join(lines) + "\n"
-
-
-def where_and_why(fault):
-    """'the reading ends at byte 12, in record 3 (take): 16, a number must ...'"""
-    if fault.reply == 18:
-        return f"the reading ends with 18, {REASONS[18]}"
-    step = f" ({STEPS[fault.code].name})" if fault.code in STEPS else ""
-    place = "in the header" if fault.record == 0 else f"in record {fault.record}{step}"
-    code = f": code {fault.code}" if fault.reply == 17 else ""
-    return f"the reading ends at byte {fault.number.start}, {place}{code}: {fault.reply}, {REASONS[fault.reply]}"
