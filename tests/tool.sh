@@ -86,8 +86,21 @@ END
 printf '\001\001\001\003\001\001\254\002\001\001\001\001\003\001\001\007\004\001\005\001\002\001\001\005\001\004\001' >d.bytes
 "$root/tools/sheet" encode d.txt >d.sheet
 same "encode: case D" d.bytes d.sheet
+cat >d.offsets <<'END'
+hall 1 1 1     # header, byte 0
+swap 1 1 300   # record 1, byte 3
+take 1 1 1     # record 2, byte 8
+swap 1 1 7     # record 3, byte 12
+retire 1       # record 4, byte 16
+collect 1      # record 5, byte 18
+drop 1 1       # record 6, byte 20
+collect 1      # record 7, byte 23
+retire 1       # record 8, byte 25
+END
 sheet decode d.sheet >d.again
-same "decode: case D" d.txt d.again
+same "decode: case D" d.offsets d.again
+sheet encode d.again >d.sheet
+same "encode: case D, with the offsets as comments" d.bytes d.sheet
 
 cat >d.meaning <<'END'
 0 0 0 0     a hall of 1 desk, 1 screen per desk, 1 position opens
@@ -166,6 +179,22 @@ printf '\357\273\277# a comment\r\n\r\n\thall  1 1 1 # the hall\r\nswap 1 01 300
 sheet encode loose.txt >loose.sheet
 printf '\001\001\001\003\001\001\254\002' >loose.bytes
 same "encode: a loose text" loose.bytes loose.sheet
+
+# 'decode' gives the offsets of the sheet at hand: here numbers are padded, and the text encodes to fewer bytes. It writes the part that
+# could be read.
+printf '\201\000\001\001\203\000\001\001\254\202\000\204\200\000\001\005\200' >padded.sheet
+cat >padded.offsets <<'END'
+hall 1 1 1     # header, byte 0
+swap 1 1 300   # record 1, byte 4
+retire 1       # record 2, byte 11
+END
+sheet decode padded.sheet >padded.again 2>err && fail "decode: a cut sheet"
+same "decode: padded numbers, and a cut record" padded.offsets padded.again
+echo "sheet: padded.sheet: the reading ends at byte 16, the desk of record 3 (collect): 15, it is cut off; the sheet has 17 bytes" >expected
+same "decode: where it is cut" expected err
+printf '\001\001\001\003\001\001\254\002\004\001' >expected
+sheet encode padded.again >out
+same "encode: in shortest form" expected out
 
 # The examples, encoded and decoded, and their pictures, compared with the gallery.
 for text in "$root"/examples/*.txt; do

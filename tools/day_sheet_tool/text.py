@@ -64,10 +64,24 @@ def shown(word):
 
 
 def decode(sheet):
-    """The text of the part of a sheet that could be read."""
+    """The text of the part of a sheet that could be read. A comment gives the offset of each record's first byte."""
     if sheet.hall is None:
         return ""
-    lines = ["hall " + " ".join(map(str, sheet.hall))]
-    for record in sheet.records:
-        lines.append(" ".join([STEPS[record.code].name, *map(str, record.numbers)]))
-    return "\n".join(lines) + "\n"
+    lines = [record_text(sheet, record) for record in range(len(sheet.records) + 1)]
+    width = max(map(len, lines))
+    return "".join(
+        f"{line:<{width}}   # {record_name(record)}, byte {sheet.numbers[record][0].start}\n"
+        for record, line in enumerate(lines)
+    )
+
+
+def record_name(record):
+    return f"record {record}" if record else "header"
+
+
+def record_text(sheet, record):
+    """The text of a record that was read; record 0 is the hall."""
+    if record == 0:
+        return " ".join(["hall", *map(str, sheet.hall)])
+    code, numbers = sheet.records[record - 1]
+    return " ".join([STEPS[code].name, *map(str, numbers)])
