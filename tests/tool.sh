@@ -71,6 +71,11 @@ ends() {
     same "explain: not '$1'" expected out
 }
 
+# Sheets that several checks use: no bytes, an unknown code, 65,537 bytes.
+: >empty.sheet
+printf '\001\001\001\011\001' >unknown.sheet
+head -c 65537 /dev/zero >long.sheet
+
 # Case D, whole.
 cat >d.txt <<'END'
 hall 1 1 1
@@ -240,7 +245,6 @@ bad_sheet "byte 0, number P of the header (desks): 15, it is missing; the sheet 
 bad_sheet "byte 5, the screen of record 1 (take): 15, it is cut off; the sheet has 6 bytes" '\001\001\001\001\001\201'
 bad_sheet "byte 4, the desk of record 1 (swap): 16, it is 65,536, over 65,535" '\001\001\001\003\200\200\004\001'
 bad_sheet "byte 5, the code of record 2: 17, no step has code 9; the codes are 1 to 5" '\001\001\001\005\001\011\001'
-head -c 65537 /dev/zero >long.sheet
 refused 2 "long.sheet: the reading ends with 18, a sheet has at most 65,536 bytes" decode long.sheet
 
 # The number that ends a reading, explained with the bytes around it: each number of the header, the code, each field.
@@ -290,6 +294,108 @@ END
 sheet explain long.sheet --program "$program" >out
 same "explain: 18" expected out
 
+# found OPTION NUMBER SHEET: 'find' prints the lines of standard input.
+found() {
+    cat >expected
+    sheet find "$3" "$1" "$2" >out
+    same "find $3 $1 $2" expected out
+}
+
+# Records and their bytes, from a record and from a byte.
+found --record 1 d.sheet <<'END'
+record 1: byte 3 (0x3), 5 bytes: 03 01 01 ac 02
+text: swap 1 1 300
+byte 3: 03      code: 3 (swap)
+byte 4: 01      desk: 1
+byte 5: 01      position: 1
+byte 6: ac 02   session: 300
+END
+found --byte 7 d.sheet <<'END'
+byte 7: the second of the 2 bytes of the session of record 1 (swap)
+record 1: byte 3 (0x3), 5 bytes: 03 01 01 ac 02
+text: swap 1 1 300
+byte 3: 03      code: 3 (swap)
+byte 4: 01      desk: 1
+byte 5: 01      position: 1
+byte 6: ac 02   session: 300
+END
+found --record 0 d.sheet <<'END'
+header: byte 0 (0x0), 3 bytes: 01 01 01
+text: hall 1 1 1
+byte 0: 01   P (desks): 1
+byte 1: 01   c (screens per desk): 1
+byte 2: 01   L (positions): 1
+END
+found --byte 0x1a d.sheet <<'END'
+byte 26: the desk of record 8 (retire)
+record 8: byte 25 (0x19), 2 bytes: 04 01
+text: retire 1
+byte 25: 04   code: 4 (retire)
+byte 26: 01   desk: 1
+END
+# Padded numbers, and the number that ends the reading.
+found --byte 10 padded.sheet <<'END'
+byte 10: the third of the 3 bytes of the session of record 1 (swap)
+record 1: byte 4 (0x4), 7 bytes: 83 00 01 01 ac 82 00
+text: swap 1 1 300
+byte 4: 83 00      code: 3 (swap)
+byte 6: 01         desk: 1
+byte 7: 01         position: 1
+byte 8: ac 82 00   session: 300
+END
+found --byte 16 padded.sheet <<'END'
+byte 16: the desk of record 3 (collect)
+record 3: byte 15 (0xf), 2 bytes: 05 80
+no text: the reading ends here
+byte 15: 05   code: 5 (collect)
+byte 16: 80   desk: refused with 15, it is cut off; the sheet has 17 bytes
+END
+found --record 1 unknown.sheet <<'END'
+record 1: byte 3 (0x3), 1 byte: 09
+no text: the reading ends here
+byte 3: 09   code: refused with 17, no step has code 9; the codes are 1 to 5
+END
+found --byte 65536 full.sheet <<'END'
+byte 65536: the sheet ends here; the desk of record 32767 (collect) is missing
+record 32767: byte 65535 (0xffff), 1 byte: 05
+no text: the reading ends here
+byte 65535: 05      code: 5 (collect)
+byte 65536: [end]   desk: refused with 15, it is missing; the sheet has 65,536 bytes
+END
+found --byte 0 empty.sheet <<'END'
+byte 0: the sheet ends here; number P of the header (desks) is missing
+header: byte 0 (0x0), 0 bytes: none
+no text: the reading ends here
+byte 0: [end]   P (desks): refused with 15, it is missing; the sheet has 0 bytes
+END
+
+# Records and bytes that are not there, or after the end of the reading.
+ends_at="the reading ends at byte 16, the desk of record 3 (collect): 15, it is cut off; the sheet has 17 bytes"
+refused 2 "d.sheet: no record 9; the sheet has 8 records, and the header is record 0" find d.sheet --record 9
+refused 2 "d.sheet: no byte 27; the sheet has 27 bytes, counted from 0" find d.sheet --byte 27
+refused 2 "padded.sheet: record 4 is not read: $ends_at" find padded.sheet --record 4
+refused 2 "padded.sheet: no byte 17; the sheet has 17 bytes, counted from 0" find padded.sheet --byte 17
+refused 2 "unknown.sheet: byte 4 is not read: the reading ends at byte 3, the code of record 1: 17, no step has code 9; the codes are 1 to 5" \
+    find unknown.sheet --byte 4
+refused 2 "empty.sheet: no byte 1; the sheet has 0 bytes, counted from 0" find empty.sheet --byte 1
+refused 2 "long.sheet: byte 0 is not read: the reading ends with 18, a sheet has at most 65,536 bytes" find long.sheet --byte 0
+refused 2 "'find' needs either --record N or --byte N" find d.sheet
+refused 2 "'find' needs either --record N or --byte N" find d.sheet --record 1 --byte 1
+refused 2 "--record 'x1': not a number from 0 to 65,536" find d.sheet --record x1
+refused 2 "--record '-1': not a number from 0 to 65,536" find d.sheet --record -1
+refused 2 "--byte '65537': not a number from 0 to 65,536" find d.sheet --byte 65537
+refused 2 "d.txt: this is the text of a sheet; 'encode' makes the sheet" find d.txt --byte 0
+
+# Each command has a help text.
+for command in encode decode explain find picture; do
+    sheet "$command" --help >out
+    grep -q "^usage: sheet $command " out || fail "$command --help"
+    sheet --help | grep -q "^ *$command  " || fail "--help does not name $command"
+    passed
+done
+sheet find --help | grep -qx 'usage: sheet find \[-h\] SHEET (--record N | --byte N)' || fail "find --help: not its usage"
+passed
+
 # Files and programs that do not exist, or are of the wrong kind.
 refused 2 "none.txt: no such file or directory" encode none.txt
 refused 2 "none.sheet: no such file or directory" explain none.sheet --program "$program"
@@ -325,7 +431,6 @@ sheet explain cut.sheet --lines wrong.lines >out
 grep -qx '2 1 15 6    session 6, but it should be 7: the reading ends at byte 7, the screen of record 2 (take): 15, .*' out ||
     fail "explain: a wrong offset"
 passed
-printf '\001\001\001\011' >unknown.sheet
 printf '0 0 0 0\n1 9 17 3\nend 0 0 0\n' >unknown.lines
 sheet explain unknown.sheet --lines unknown.lines >out
 grep -qx '1 9 17 3    session 3, but it should be 0: the reading ends at byte 3, the code of record 1: 17, .*' out ||
@@ -338,7 +443,7 @@ refused 2 "record 2: the program printed 15 6, but by documents 01 and 02 it is 
 for at in 1 2 3; do
     head -c "$((at * 700))" "$program" | tail -c 300 >junk
     for command in "encode junk" "decode junk" "explain junk --program $program" "explain d.sheet --lines junk" \
-        "picture junk junk.svg --program $program"; do
+        "find junk --record $at" "find junk --byte $at" "picture junk junk.svg --program $program"; do
         sheet $command >out 2>err || true
         if grep -q Traceback err; then cat err; fail "$command: a traceback"; fi
     done

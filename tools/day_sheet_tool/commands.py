@@ -1,20 +1,29 @@
-"""The four commands of tools/sheet."""
+"""The five commands of tools/sheet."""
 
 import argparse
 import os
+import re
 import sys
 
 from .errors import UserError, plural
 from .explain import explained
 from .faults import where_and_why
 from .files import read_sheet, read_text, reason, write_text
+from .find import find_byte, find_record
 from .lines import lines_of
 from .picture import MAX_RECORDS, picture
 from .reading import read
 from .replay import replay
-from .text import decode, encode
+from .steps import MAX_BYTES
+from .text import decode, encode, shown
 
 EPILOG = "docs/SHEETS.md has examples. A file named '-' is standard input."
+DECODE = "Writes a sheet as text. The comment of each line gives the offset of the record's first byte."
+EXPLAIN = """Writes each line of the sheet program with its meaning. Where a number ends the reading, it says
+which number this is, gives the offset of its first byte, and shows the bytes around it in hex."""
+FIND = """Finds the bytes of a record, or what a byte belongs to, up to the number that ends the reading.
+Bytes are counted from 0. N is decimal, or hex with 0x."""
+FIND_USAGE = "sheet find [-h] SHEET (--record N | --byte N)"
 
 
 def main(arguments):
@@ -48,21 +57,33 @@ def discard_output():
 
 
 def parser():
-    whole = argparse.ArgumentParser(prog="sheet", description="Converts, explains and draws day sheets.", epilog=EPILOG)
+    whole = argparse.ArgumentParser(prog="sheet", description="Converts, explains, searches and draws day sheets.", epilog=EPILOG)
     commands = whole.add_subparsers(metavar="COMMAND", required=True)
 
     one = commands.add_parser("encode", help="text to bytes, to standard output", epilog=EPILOG)
     one.add_argument("text", metavar="FILE.txt")
     one.set_defaults(command=to_bytes)
 
-    one = commands.add_parser("decode", help="bytes to text", epilog=EPILOG)
+    one = commands.add_parser(
+        "decode", help="bytes to text, with the offset of each record", description=DECODE, epilog=EPILOG
+    )
     one.add_argument("sheet", metavar="SHEET")
     one.set_defaults(command=to_text)
 
-    one = commands.add_parser("explain", help="each printed line with its meaning", epilog=EPILOG)
+    one = commands.add_parser(
+        "explain", help="each printed line with its meaning", description=EXPLAIN, epilog=EPILOG
+    )
     one.add_argument("sheet", metavar="SHEET")
     add_lines(one)
     one.set_defaults(command=explain)
+
+    one = commands.add_parser(
+        "find", help="the bytes of a record, or the record of a byte", usage=FIND_USAGE, description=FIND, epilog=EPILOG
+    )
+    one.add_argument("sheet", metavar="SHEET")
+    one.add_argument("--record", metavar="N", help="the bytes and the numbers of record N; 0 is the header")
+    one.add_argument("--byte", metavar="N", help="the record and the number that byte N belongs to")
+    one.set_defaults(command=find)
 
     one = commands.add_parser("picture", help="a replay as SVG", epilog=EPILOG)
     one.add_argument("sheet", metavar="SHEET")
@@ -99,6 +120,29 @@ def explain(options):
     sheet = read(data)
     lines, end = lines_of(data, sheet, options.program, options.lines)
     sys.stdout.write(explained(data, sheet, lines, end))
+
+
+def find(options):
+    if (options.record is None) == (options.byte is None):
+        raise UserError("'find' needs either --record N or --byte N")
+    if options.byte is None:
+        found, number = find_record, place("--record", options.record)
+    else:
+        found, number = find_byte, place("--byte", options.byte)
+    data = read_sheet(options.sheet)
+    try:
+        sys.stdout.write(found(data, read(data), number))
+    except UserError as error:
+        raise UserError(f"{options.sheet}: {error}") from None
+
+
+def place(option, word):
+    """The number of a record or a byte, in decimal or in hex."""
+    if re.fullmatch("[0-9]{1,9}|0x[0-9a-fA-F]{1,8}", word):
+        number = int(word, 16 if word.startswith("0x") else 10)
+        if number <= MAX_BYTES:
+            return number
+    raise UserError(f"{option} '{shown(word)}': not a number from 0 to 65,536")
 
 
 def draw(options):

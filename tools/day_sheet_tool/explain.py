@@ -8,7 +8,7 @@ from .steps import REASONS, STEPS, is_repeat
 
 
 def explained(data, sheet, lines, end):
-    """Each printed line, followed by its meaning. Below the line that ends the reading are the bytes around its number."""
+    """Each printed line, followed by its meaning. Where a number ends the reading, a row below shows its bytes."""
     references = References()
     rows = [(" ".join(map(str, line)), meaning(sheet, line, references)) for line in lines]
     if sheet.fault and sheet.fault.number and lines[-1].record == sheet.fault.record:

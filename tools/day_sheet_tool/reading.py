@@ -55,7 +55,7 @@ class Reader:
         return value
 
     def value(self):
-        """Groups of seven bits, lowest first; the top bit says that another follows. None if the number does not end."""
+        """Groups of seven bits, lowest first; the top bit says that another follows. None if it does not end."""
         value = 0
         for group in range(MAX_GROUPS):
             if self.at_end():

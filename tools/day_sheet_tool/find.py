@@ -1,0 +1,80 @@
+"""Finds the bytes of a record, and the number that a byte belongs to."""
+
+from .dump import in_hex
+from .errors import UserError, plural
+from .faults import HALL_LETTERS, number_in_words, where_and_why, why
+from .steps import STEPS
+from .text import record_name, record_text
+
+ORDINALS = ("first", "second", "third")
+
+
+def find_record(data, sheet, record):
+    """The bytes of a record, its text, and the offset of each of its numbers."""
+    if record >= len(sheet.numbers):
+        raise UserError(no_record(sheet, record))
+    first, end = sheet.numbers[record][0].start, sheet.numbers[record][-1].end
+    head = f"{record_name(record)}: byte {first} ({first:#x}), {plural(end - first, 'byte')}"
+    lines = [f"{head}: {in_hex(data[first:end]) or 'none'}", text_line(sheet, record)]
+    return "\n".join(lines + number_lines(data, sheet, record)) + "\n"
+
+
+def text_line(sheet, record):
+    if sheet.fault and record == sheet.fault.record:
+        return "no text: the reading ends here"
+    return f"text: {record_text(sheet, record)}"
+
+
+def number_lines(data, sheet, record):
+    """For each number of a record its offset, its bytes and its meaning."""
+    rows = [
+        (f"byte {number.start}:", in_hex(data[number.start : number.end]) or "[end]", meaning(sheet, number))
+        for number in sheet.numbers[record]
+    ]
+    widths = [max(len(row[column]) for row in rows) for column in (0, 1)]
+    return [f"{where:<{widths[0]}} {in_bytes:<{widths[1]}}   {words}" for where, in_bytes, words in rows]
+
+
+def meaning(sheet, number):
+    """'desk: 1', or why the number ends the reading."""
+    letter = HALL_LETTERS.get(number.field)
+    name = f"{letter} ({number.field})" if letter else number.field
+    if sheet.fault and number is sheet.fault.number:
+        return f"{name}: refused with {why(sheet.fault)}"
+    step = f" ({STEPS[number.value].name})" if number.field == "code" else ""
+    return f"{name}: {number.value}{step}"
+
+
+def no_record(sheet, record):
+    if sheet.fault:
+        return f"record {record} is not read: {where_and_why(sheet.fault)}"
+    return f"no record {record}; the sheet has {plural(len(sheet.records), 'record')}, and the header is record 0"
+
+
+def find_byte(data, sheet, byte):
+    """What a byte is, and the record that it belongs to."""
+    for record, numbers in enumerate(sheet.numbers):
+        for number in numbers:
+            if belongs(byte, number):
+                return f"{byte_in_words(byte, sheet, record, number)}\n{find_record(data, sheet, record)}"
+    raise UserError(no_byte(data, sheet, byte))
+
+
+def belongs(byte, number):
+    """A missing number has no bytes; the offset where it should start is taken for it."""
+    return number.start <= byte < number.end or number.start == byte == number.end
+
+
+def byte_in_words(byte, sheet, record, number):
+    name = number_in_words(record, sheet.numbers[record][0].value, number.field)
+    length = number.end - number.start
+    if length == 0:
+        return f"byte {byte}: the sheet ends here; {name} is missing"
+    part = "" if length == 1 else f"the {ORDINALS[byte - number.start]} of the {length} bytes of "
+    return f"byte {byte}: {part}{name}"
+
+
+def no_byte(data, sheet, byte):
+    if sheet.fault and (sheet.fault.reply == 18 or byte < len(data)):
+        return f"byte {byte} is not read: {where_and_why(sheet.fault)}"
+    return f"no byte {byte}; the sheet has {plural(len(data), 'byte')}, counted from 0"
