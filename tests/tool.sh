@@ -221,7 +221,7 @@ for name in d nothing cut; do
     passed
 done
 grep -q ">refused 13<" d.svg || fail "the picture of case D does not show the refusal"
-grep -q ">number 15<" cut.svg || fail "the picture of a cut sheet does not show its end"
+grep -q ">number 15<" cut.svg && grep -q ">byte 7<" cut.svg || fail "the picture of a cut sheet does not show its end"
 passed
 
 # Texts that cannot be encoded.

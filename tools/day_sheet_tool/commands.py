@@ -18,6 +18,7 @@ from .steps import MAX_BYTES
 from .text import decode, encode, shown
 
 EPILOG = "docs/SHEETS.md has examples. A file named '-' is standard input."
+WHOLE = "Converts, explains, searches and draws day sheets."
 DECODE = "Writes a sheet as text. The comment of each line gives the offset of the record's first byte."
 EXPLAIN = """Writes each line of the sheet program with its meaning. Where a number ends the reading, it says
 which number this is, gives the offset of its first byte, and shows the bytes around it in hex."""
@@ -57,7 +58,7 @@ def discard_output():
 
 
 def parser():
-    whole = argparse.ArgumentParser(prog="sheet", description="Converts, explains, searches and draws day sheets.", epilog=EPILOG)
+    whole = argparse.ArgumentParser(prog="sheet", description=WHOLE, epilog=EPILOG)
     commands = whole.add_subparsers(metavar="COMMAND", required=True)
 
     one = commands.add_parser("encode", help="text to bytes, to standard output", epilog=EPILOG)

@@ -141,8 +141,9 @@ def reading_ends(drawing, fault, x, top):
     middle = x + COLUMN / 2
     drawing.line(x, top, x, top + HEAD, stroke=INK, stroke_width=2)
     drawing.words(middle, top + 13, str(fault.record), "bold", "middle")
-    drawing.words(middle, top + 33, "the reading", "", "middle")
-    drawing.words(middle, top + 46, "ends here", "", "middle")
+    drawing.words(middle, top + 27, "the reading", "", "middle")
+    drawing.words(middle, top + 40, "ends at", "", "middle")
+    drawing.words(middle, top + 52, f"byte {fault.number.start}", "", "middle")
     boxed(drawing, x, top + 59, f"number {fault.reply}", **REFUSED)
 
 
