@@ -44,22 +44,31 @@ def listed():
     return cases
 
 
+# In a hall of 1, 1, 1: a swap to 65,535, a swap to 0, a retire, a collect. Every number has three bytes.
+ONE, NONE = '81 80 00', '80 80 00'
+SWAP, RETIRE, COLLECT = f'83 80 00 {ONE} {ONE}', f'84 80 00 {ONE}', f'85 80 00 {ONE}'
+TURN = bytes.fromhex(f'{SWAP} FF FF 03 {SWAP} {NONE} {RETIRE} {COLLECT}')
+
+
+def turned(header, turns, rest):
+    """A sheet of a header, turns and a rest, and the lines of its header and of its turns."""
+    lines = ['0 0 0 0']
+    for record in range(0, 4 * turns, 4):
+        lines += [f'{record + 1} 3 0 0', f'{record + 2} 3 0 65535', f'{record + 3} 4 0 65535', f'{record + 4} 5 0 65535']
+    return bytes.fromhex(header) + turns * TURN + bytes.fromhex(rest), lines
+
+
 def longest():
     """The cases of 65,536 bytes and of one more."""
-    # In a hall of 1, 1, 1, over and over: a swap to 65,535, a swap to 0, a retire, a collect. Every number has three bytes.
-    one, none = '81 80 00', '80 80 00'
-    swap, retire, collect = f'83 80 00 {one} {one}', f'84 80 00 {one}', f'85 80 00 {one}'
-    turn = bytes.fromhex(f'{swap} FF FF 03 {swap} {none} {retire} {collect}')
-    lines = ['0 0 0 0']
-    for record in range(0, 4 * 1820, 4):
-        lines += [f'{record + 1} 3 0 0', f'{record + 2} 3 0 65535', f'{record + 3} 4 0 65535', f'{record + 4} 5 0 65535']
-    sheet = bytes.fromhex('81 00 01 01') + 1820 * turn + bytes.fromhex(f'{swap} FF FF 03')
-    assert len(sheet) == MAX_BYTES
+    sheet, lines = turned('81 00 01 01', 1820, f'{SWAP} FF FF 03')
+    cut, before = turned('81 80 00 81 80 00 01', 1820, SWAP)
+    assert len(sheet) == len(cut) == MAX_BYTES
     return [
         Case('the longest sheet, read to its end', sheet, [*lines, '7281 3 0 0', 'end 7281 0 1820']),
         Case('one byte more: nothing is run', sheet + b'\x05', ['0 0 18 0', 'end 0 0 0']),
         Case('65,536 zeros: P is 0', bytes(MAX_BYTES), ['0 0 1 0', 'end 0 0 0']),
         Case('65,537 zeros: 18 is asked before P', bytes(MAX_BYTES + 1), ['0 0 18 0', 'end 0 0 0']),
+        Case('the longest sheet, its last session missing', cut, [*before, '7281 3 15 65536', 'end 7280 0 1820']),
     ]
 
 
