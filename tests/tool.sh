@@ -195,7 +195,7 @@ retire 1       # record 2, byte 11
 END
 sheet decode padded.sheet >padded.again 2>err && fail "decode: a cut sheet"
 same "decode: padded numbers, and a cut record" padded.offsets padded.again
-echo "sheet: padded.sheet: the reading ends at byte 16, the desk of record 3 (collect): 15, it is cut off; the sheet has 17 bytes" >expected
+echo "sheet: padded.sheet: the reading ends at byte 16, the desk of record 3 (collect): 15, it is cut off: the sheet has 17 bytes" >expected
 same "decode: where it is cut" expected err
 printf '\001\001\001\003\001\001\254\002\004\001' >expected
 sheet encode padded.again >out
@@ -241,31 +241,31 @@ awk 'BEGIN { print "hall 1 1 1"; for (i = 0; i < 32767; i++) print "collect 1" }
 refused 2 "long.txt:32768: the sheet is longer than 65,536 bytes with this record (reply number 18)" encode long.txt
 
 # Sheets that cannot be read.
-bad_sheet "byte 0, number P of the header (desks): 15, it is missing; the sheet has 0 bytes" ''
-bad_sheet "byte 5, the screen of record 1 (take): 15, it is cut off; the sheet has 6 bytes" '\001\001\001\001\001\201'
+bad_sheet "byte 0, number P of the header (desks): 15, it is missing: the sheet ends here" ''
+bad_sheet "byte 5, the screen of record 1 (take): 15, it is cut off: the sheet has 6 bytes" '\001\001\001\001\001\201'
 bad_sheet "byte 4, the desk of record 1 (swap): 16, it is 65,536, over 65,535" '\001\001\001\003\200\200\004\001'
 bad_sheet "byte 5, the code of record 2: 17, no step has code 9; the codes are 1 to 5" '\001\001\001\005\001\011\001'
 refused 2 "long.sheet: the reading ends with 18, a sheet has at most 65,536 bytes" decode long.sheet
 
 # The number that ends a reading, explained with the bytes around it: each number of the header, the code, each field.
-ends "0 0 15 0 the reading ends at byte 0, number P of the header (desks): 15, it is missing; the sheet has 0 bytes" \
+ends "0 0 15 0 the reading ends at byte 0, number P of the header (desks): 15, it is missing: the sheet ends here" \
     "from byte 0: [end] byte 0 = 0x0" ''
-ends "0 0 15 1 the reading ends at byte 1, number c of the header (screens per desk): 15, it is missing; the sheet has 1 byte" \
+ends "0 0 15 1 the reading ends at byte 1, number c of the header (screens per desk): 15, it is missing: the sheet ends here" \
     "from byte 0: 01 [end] byte 1 = 0x1" '\001'
 ends "0 0 16 2 the reading ends at byte 2, number L of the header (positions): 16, it is 65,536, over 65,535" \
     "from byte 0: 01 01 [80 80 04] 05 01 05 01 .. byte 2 = 0x2" '\001\001\200\200\004\005\001\005\001\005\001'
-ends "2 0 15 5 the reading ends at byte 5, the code of record 2: 15, it is cut off; the sheet has 6 bytes" \
+ends "2 0 15 5 the reading ends at byte 5, the code of record 2: 15, it is cut off: the sheet has 6 bytes" \
     "from byte 0: 01 01 01 05 01 [80] byte 5 = 0x5" '\001\001\001\005\001\200'
-ends "1 5 15 4 the reading ends at byte 4, the desk of record 1 (collect): 15, it is missing; the sheet has 4 bytes" \
+ends "1 5 15 4 the reading ends at byte 4, the desk of record 1 (collect): 15, it is missing: the sheet ends here" \
     "from byte 0: 01 01 01 05 [end] byte 4 = 0x4" '\001\001\001\005'
-ends "1 5 15 4 the reading ends at byte 4, the desk of record 1 (collect): 15, it is cut off; the sheet has 6 bytes" \
+ends "1 5 15 4 the reading ends at byte 4, the desk of record 1 (collect): 15, it is cut off: the sheet has 6 bytes" \
     "from byte 0: 01 01 01 05 [80 80] byte 4 = 0x4" '\001\001\001\005\200\200'
 ends "1 2 16 5 the reading ends at byte 5, the screen of record 1 (drop): 16, it does not end within three bytes" \
     "from byte 0: 01 01 01 02 01 [ff ff ff] 01 byte 5 = 0x5" '\001\001\001\002\001\377\377\377\001'
 ends "1 1 16 6 the reading ends at byte 6, the position of record 1 (take): 16, it is 2,097,151, over 65,535" \
     "from byte 0: 01 01 01 01 01 01 [ff ff 7f] byte 6 = 0x6" '\001\001\001\001\001\001\377\377\177'
 # Padded numbers before it: the header has seven bytes, the swap's code, desk and position have eight.
-ends "1 3 15 15 the reading ends at byte 15, the session of record 1 (swap): 15, it is cut off; the sheet has 16 bytes" \
+ends "1 3 15 15 the reading ends at byte 15, the session of record 1 (swap): 15, it is cut off: the sheet has 16 bytes" \
     "from byte 7: 83 80 00 81 00 81 80 00 [ac] byte 15 = 0xf" \
     '\201\000\201\000\201\200\000\203\200\000\201\000\201\200\000\254'
 ends "2 9 17 0 the reading ends at byte 5, the code of record 2: 17, no step has code 9; the codes are 1 to 5" \
@@ -273,7 +273,7 @@ ends "2 9 17 0 the reading ends at byte 5, the code of record 2: 17, no step has
 # The greatest offset: 65,536 bytes, and the desk of the last collect should follow them.
 "$python" -c 'import sys; sys.stdout.buffer.write(b"\1\1\1" + 32766 * b"\5\1" + b"\5")' >full.sheet
 cat >full.meaning <<'END'
-32767 5 15 65536   the reading ends at byte 65536, the desk of record 32767 (collect): 15, it is missing; the sheet has 65,536 bytes
+32767 5 15 65536   the reading ends at byte 65536, the desk of record 32767 (collect): 15, it is missing: the sheet ends here
                    from byte 65528: 01 05 01 05 01 05 01 05 [end]   byte 65536 = 0x10000
 end 32766 0 0      32,766 steps accepted, 0 refused by the board, 0 sessions handed back
 END
@@ -348,7 +348,7 @@ byte 16: the desk of record 3 (collect)
 record 3: byte 15 (0xf), 2 bytes: 05 80
 no text: the reading ends here
 byte 15: 05   code: 5 (collect)
-byte 16: 80   desk: refused with 15, it is cut off; the sheet has 17 bytes
+byte 16: 80   desk: refused with 15, it is cut off: the sheet has 17 bytes
 END
 found --record 1 unknown.sheet <<'END'
 record 1: byte 3 (0x3), 1 byte: 09
@@ -360,17 +360,17 @@ byte 65536: the sheet ends here; the desk of record 32767 (collect) is missing
 record 32767: byte 65535 (0xffff), 1 byte: 05
 no text: the reading ends here
 byte 65535: 05      code: 5 (collect)
-byte 65536: [end]   desk: refused with 15, it is missing; the sheet has 65,536 bytes
+byte 65536: [end]   desk: refused with 15, it is missing: the sheet ends here
 END
 found --byte 0 empty.sheet <<'END'
 byte 0: the sheet ends here; number P of the header (desks) is missing
 header: byte 0 (0x0), 0 bytes: none
 no text: the reading ends here
-byte 0: [end]   P (desks): refused with 15, it is missing; the sheet has 0 bytes
+byte 0: [end]   P (desks): refused with 15, it is missing: the sheet ends here
 END
 
 # Records and bytes that are not there, or after the end of the reading.
-ends_at="the reading ends at byte 16, the desk of record 3 (collect): 15, it is cut off; the sheet has 17 bytes"
+ends_at="the reading ends at byte 16, the desk of record 3 (collect): 15, it is cut off: the sheet has 17 bytes"
 refused 2 "d.sheet: no record 9; the sheet has 8 records, and the header is record 0" find d.sheet --record 9
 refused 2 "d.sheet: no byte 27; the sheet has 27 bytes, counted from 0" find d.sheet --byte 27
 refused 2 "padded.sheet: record 4 is not read: $ends_at" find padded.sheet --record 4

@@ -28,9 +28,10 @@ def why(fault):
 
 def reason(fault):
     number = fault.number
+    if fault.reply == 15 and number.start == number.end:
+        return "it is missing: the sheet ends here"
     if fault.reply == 15:
-        kind = "missing" if number.start == number.end else "cut off"
-        return f"it is {kind}; the sheet has {plural(number.end, 'byte')}"
+        return f"it is cut off: the sheet has {plural(number.end, 'byte')}"
     if fault.reply == 17:
         return f"no step has code {fault.code}; the codes are 1 to 5"
     if number.value is None:
