@@ -439,6 +439,18 @@ passed
 refused 2 "record 2: the program printed 15 6, but by documents 01 and 02 it is 15 7; nothing is drawn" \
     picture cut.sheet wrong.svg --lines wrong.lines
 
+# The worked repair of docs/SHEETS.md: its commands print what it shows.
+awk '/^## / { on = /A worked repair/ } on && sub(/^    /, "")' "$root/docs/SHEETS.md" >repair.shown
+sed -n 's/^\$ //p' repair.shown >repair.commands
+[ "$(wc -l <repair.commands)" -ge 10 ] || fail "docs/SHEETS.md: no worked repair"
+while IFS= read -r command; do
+    printf '$ %s\n' "$command"
+    here=$(printf '%s\n' "$command" |
+        sed 's|target/bin/day_sheet|"$program"|; s|tools/sheet|sheet|; s|sheet explain|& --program "$program"|')
+    eval "$here" 2>&1 || true # 'decode' of a broken sheet ends with status 2
+done <repair.commands >repair.printed
+same "the worked repair of docs/SHEETS.md" repair.shown repair.printed
+
 # Random bytes: a message, never a Python traceback.
 for at in 1 2 3; do
     head -c "$((at * 700))" "$program" | tail -c 300 >junk
