@@ -75,6 +75,6 @@ def byte_in_words(byte, sheet, record, number):
 
 
 def no_byte(data, sheet, byte):
-    if sheet.fault and (sheet.fault.reply == 18 or byte < len(data)):
+    if sheet.fault and byte < len(data):
         return f"byte {byte} is not read: {where_and_why(sheet.fault)}"
     return f"no byte {byte}; the sheet has {plural(len(data), 'byte')}, counted from 0"
