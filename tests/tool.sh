@@ -254,6 +254,8 @@ ends "0 0 15 1 the reading ends at byte 1, number c of the header (screens per d
     "from byte 0: 01 [end] byte 1 = 0x1" '\001'
 ends "0 0 16 2 the reading ends at byte 2, number L of the header (positions): 16, it is 65,536, over 65,535" \
     "from byte 0: 01 01 [80 80 04] 05 01 05 01 .. byte 2 = 0x2" '\001\001\200\200\004\005\001\005\001\005\001'
+ends "0 0 16 2 the reading ends at byte 2, number L of the header (positions): 16, it is 65,536, over 65,535" \
+    "from byte 0: 01 01 [80 80 04] 05 01 05 01 byte 2 = 0x2" '\001\001\200\200\004\005\001\005\001'
 ends "2 0 15 5 the reading ends at byte 5, the code of record 2: 15, it is cut off: the sheet has 6 bytes" \
     "from byte 0: 01 01 01 05 01 [80] byte 5 = 0x5" '\001\001\001\005\001\200'
 ends "1 5 15 4 the reading ends at byte 4, the desk of record 1 (collect): 15, it is missing: the sheet ends here" \
@@ -379,6 +381,7 @@ refused 2 "unknown.sheet: byte 4 is not read: the reading ends at byte 3, the co
     find unknown.sheet --byte 4
 refused 2 "empty.sheet: no byte 1; the sheet has 0 bytes, counted from 0" find empty.sheet --byte 1
 refused 2 "long.sheet: byte 0 is not read: the reading ends with 18, a sheet has at most 65,536 bytes" find long.sheet --byte 0
+refused 2 "long.sheet: byte 65536 is not read: the reading ends with 18, a sheet has at most 65,536 bytes" find long.sheet --byte 65536
 refused 2 "'find' needs either --record N or --byte N" find d.sheet
 refused 2 "'find' needs either --record N or --byte N" find d.sheet --record 1 --byte 1
 refused 2 "--record 'x1': not a number from 0 to 65,536" find d.sheet --record x1
