@@ -237,7 +237,7 @@ stores_wrong() {
 fuzz_boards="keeps-every-copy joins-in-mid-reading room-one-early position-before-screen newest-first"
 # Wrong boards that the header's promises rule out: the reference is patched too.
 fuzz_boards_and_reference="opening-clears-all opening-clears-odd-byte refused-swap-writes repeat-owes"
-fuzz_programs="reads-once two-groups stops-at-refusal counts-exchanged"
+fuzz_programs="reads-once two-groups stops-at-refusal counts-exchanged offset-of-the-failing-byte"
 
 fuzz_all() {
     echo $fuzz_boards $fuzz_boards_and_reference

@@ -101,6 +101,7 @@ came "the help and a file name" 0 "" "$usage"
 
 run argument --help
 grep -qxF 'usage: day_sheet < SHEET' out || fail "--help: no usage"
+grep -qF 'With 15 and 16' out || fail "--help: nothing about offsets"
 cp out help
 came "--help" 0 "$(sed 's/%/%%/g' help)\n" ""
 

@@ -31,11 +31,15 @@ fn print_help() -> bool {
         )
         && io::write_all(
             STDOUT_FILENO,
-            b"record number, step code, reply number, session. The last line is 'end', steps\n",
+            b"record number, step code, reply number, session. With 15 and 16 the last number is\n",
         )
         && io::write_all(
             STDOUT_FILENO,
-            b"accepted, steps refused by the board, sessions handed back.\n\n",
+            b"not a session: it is the offset of the number that could not be read. The last line\n",
+        )
+        && io::write_all(
+            STDOUT_FILENO,
+            b"is 'end', steps accepted, steps refused by the board, sessions handed back.\n\n",
         )
         && io::write_all(
             STDOUT_FILENO,
