@@ -98,6 +98,14 @@ pub fn stays(n: u16) -> u16
     n
 }
 
+// Two named clauses.
+pub fn copy(n: u16) -> u16
+    ensures value { λ r. ⌜ r ≡ n ⌝ }
+    ensures bound { λ r. ⌜ r ≤ n ⌝ }
+{
+    n
+}
+
 fn helper(n: u16, s: &str) -> u32 {
     n as u32 + 1
 }
@@ -108,7 +116,7 @@ returns : tie.Need-returns
 returns c = refl
 ''',
     'crates/board/proofs/stays/Proof.antt': 'returns : tie.Need-returns\nreturns c = refl\n',
-    'crates/board/proofs/Laws.antt': 'pub board-law : ℕ\nboard-law = 1\n\nlocal : ℕ\nlocal = 2\n',
+    'crates/board/proofs/Laws.antt': 'pub board-law : ℕ\nboard-law = 1\n\nlocal : ℕ\nlocal = 2\n\nopen-law : ℕ\nopen-law = 3\n',
     'crates/quiet/specs/Nothing.antt': 'abbrev pub nothing : ℕ\nnothing = 0\n',
 }
 
@@ -174,6 +182,8 @@ length-map (x ∷ l) = ap suc (length-map l)
     'crates/board/src/lib.rt': BEFORE['crates/board/src/lib.rt']
         .replace('n < 10', 'n < 20')
         .replace('n as usize + 1', '1 + n as usize')
+        .replace('r ≤ n', 'r < n + 1')
+        .replace('{\n    n\n}\n\nfn helper', '{\n    n + 0\n}\n\nfn helper')
         .replace('pub fn need(n: u16) -> usize', 'pub fn need(\n        n: u16,\n    ) -> usize')
         .replace('fn helper(n: u16, s: &str)', '// private\nfn helper(n: u16, text: &str)'),
     'crates/board/proofs/add/Proof.antt': '''
@@ -183,6 +193,7 @@ returns : tie.Need-returns
 returns c = sym refl
 ''',
     'crates/board/proofs/stays/Proof.antt': '-- by definition\nreturns : tie.Need-returns\nreturns c =\n    refl\n',
+    'crates/board/proofs/Laws.antt': BEFORE['crates/board/proofs/Laws.antt'].replace('open-law = 3', 'open-law = 4'),
     'crates/board/specs/Results.antt': 'pub record Result : Type 0 where\n  pub number : ℕ\n',
 }
 del AFTER['crates/rules/specs/laws/Lists.antt']
@@ -190,17 +201,20 @@ del AFTER['crates/rules/specs/laws/Lists.antt']
 EXPECTED = '''
 board
   definitions: 1 new, 0 stayed
-  promises: 1 changed, 2 stayed
-  proofs: 1 changed, 3 stayed
-  code: 2 changed, 4 stayed
+  promises: 2 changed, 2 stayed
+  proofs: 2 changed, 3 stayed
+  code: 3 changed, 4 stayed
   definitions new:
     Results.Result
   promises changed:
     board::add
+    board::copy
   proofs changed:
+    Laws.open-law
     board::add
   code changed:
     board::Board::need
+    board::copy
     board::helper
 
 rules
@@ -228,19 +242,19 @@ rules
 
 all crates
   definitions: 3 changed, 2 new, 1 gone, 1 in another file, 3 stayed
-  promises: 2 changed, 5 stayed
-  proofs: 2 changed, 1 gone, 1 in another file, 7 stayed
-  code: 2 changed, 4 stayed
+  promises: 3 changed, 5 stayed
+  proofs: 3 changed, 1 gone, 1 in another file, 7 stayed
+  code: 3 changed, 4 stayed
 '''
 
 MARKDOWN = [
     '| crate | kind | changed | new | gone | in another file | stayed |',
     '| `board` | definitions | 0 | 1 | 0 | 0 | 0 |',
     '| `rules` | proofs | 1 | 0 | 1 | 1 | 4 |',
-    '| all | promises | 2 | 0 | 0 | 0 | 5 |',
+    '| all | promises | 3 | 0 | 0 | 0 | 5 |',
     'Nothing moved in `quiet`.',
     '- definitions, changed: `Steps.Step`, `Steps._sends_`, `Steps.twoMore`',
-    '- promises, changed: `board::add`',
+    '- promises, changed: `board::add`, `board::copy`',
 ]
 
 checks = 0
