@@ -50,8 +50,14 @@ pub record Lawful (edition : Edition) (maxSession : ℕ) : Type 0 where
       → edition .decodeRecord carried sheet at ≡ parsed entry next
       → GoodRecord maxSession entry
 
+-- The refusal of a number that is read at this offset.
+pub record RefusedAt (at : ℕ) (reason : Refusal) : Type 0 where
+  pub carries : reason ≡ refusalOf 0 (reason .number) at
+  pub refuses : refusesNumber (reason .number) ≡ true
+
 -- What edition 1 requires of a reader of numbers: it reads back the shortest form, and what it reads has at least one byte and is at most
--- the limit. What it reads depends neither on the bytes after the number nor on a larger limit. What it refuses shows its own offset.
+-- the limit. What it reads depends neither on the bytes after the number nor on a larger limit. A refusal carries the offset at which the
+-- number was read.
 pub record LawfulNumbers (readNumber : NumberReader) : Type 0 where
   pub read-back : (limit value : ℕ) → value ≤ limit → limit ≤ maxNumber → ReadsBack (readNumber limit) (encodeNumber value) value
   pub small : (limit : ℕ) (sheet : List ℕ) (at value next : ℕ) → readNumber limit sheet at ≡ parsed value next → value ≤ limit
@@ -62,4 +68,4 @@ pub record LawfulNumbers (readNumber : NumberReader) : Type 0 where
   pub larger-limit : (limit larger : ℕ) (sheet : List ℕ) (at value next : ℕ) → readNumber limit sheet at ≡ parsed value next → limit ≤ larger
       → readNumber larger sheet at ≡ parsed value next
   pub own-offset : (limit : ℕ) (sheet : List ℕ) (at : ℕ) (reason : Refusal) → readNumber limit sheet at ≡ refused reason
-      → (reason ≡ refusalOf 0 (reason .number) at) × (refusesNumber (reason .number) ≡ true)
+      → RefusedAt at reason

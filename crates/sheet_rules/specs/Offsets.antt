@@ -3,7 +3,7 @@
 use Prim.Native.Nat.{ℕ, zero, suc}
 use mathlib.Core.Path.{_≡_}
 use mathlib.Core.Bool.{Bool, true, false, _||_}
-use mathlib.Core.List.{List, _++_}
+use mathlib.Core.List.{List, [], _∷_, _++_}
 use mathlib.Core.Logic.{_⊎_}
 use mathlib.Core.Option.{Option, none, some}
 use lib.Dec.{eqb}
@@ -27,12 +27,17 @@ ending (opened hall records) = endingIn records
 abbrev pub refusesNumber : ℕ → Bool
 refusesNumber number = eqb number 15 || eqb number 16
 
+-- Bytes that are whole lines: there are none, or the last is a newline.
+abbrev pub WholeLines : List ℕ → Type 0
+WholeLines bytes = (bytes ≡ []) ⊎ ((start : List ℕ) × (bytes ≡ start ++ (10 ∷ [])))
+
 -- "the session column prints it": the last line but one is that of the refusal.
 pub record PrintsRefusal (text : List ℕ) (reason : Refusal) : Type 0 where
-  pub lines : List ℕ
+  pub before : List ℕ
+  pub whole : WholeLines before
   pub index : ℕ
   pub tally : Tally
-  pub printed : text ≡ lines ++ (line index (reason .code) (reason .number) (reason .offset) ++ endLine tally)
+  pub printed : text ≡ before ++ (line index (reason .code) (reason .number) (reason .offset) ++ endLine tally)
 
 -- ---- Where the refused number is.
 
@@ -48,14 +53,14 @@ abbrev pub NumbersFill : NumberReader → List ℕ → ℕ → ℕ → ℕ → T
 NumbersFill readNumber sheet zero at end = at ≡ end
 NumbersFill readNumber sheet (suc count) at end = NumberThen readNumber sheet at (λ next. NumbersFill readNumber sheet count next end)
 
-pub record Filled (format : Format) (sheet : List ℕ) (at end : ℕ) : Type 0 where
+pub record NumbersBetween (format : Format) (sheet : List ℕ) (at end : ℕ) : Type 0 where
   pub count : ℕ
   pub numbers : NumbersFill (format .readNumber) sheet count at end
 
 -- "the offset of that number's first byte": numbers fill the bytes before it, and the number that starts there is refused with just this reply
 -- number. The limit is that of a session or of any other number.
 pub record ShowsByte (format : Format) (sheet : List ℕ) (at number offset : ℕ) : Type 0 where
-  pub before : Filled format sheet at offset
+  pub before : NumbersBetween format sheet at offset
   pub limit : ℕ
   pub limited : (limit ≡ maxNumber) ⊎ (limit ≡ format .maxSession)
   pub refuses : format .readNumber limit sheet offset ≡ refusal 0 number offset
@@ -69,10 +74,10 @@ pub record Located (format : Format) (sheet : List ℕ) (at : ℕ) (reason : Ref
 
 -- The result of such a parser: a value, and numbers fill the bytes up to the next offset; or a refusal that is located.
 abbrev pub OfNumbers : {A : Type 0} → Format → List ℕ → ℕ → Parsed A → Type 0
-OfNumbers format sheet at (parsed value next) = Filled format sheet at next
+OfNumbers format sheet at (parsed value next) = NumbersBetween format sheet at next
 OfNumbers format sheet at (refused reason) = Located format sheet at reason
 
 -- An edition whose headers and records consist of numbers.
-pub record Numbered (format : Format) (edition : Edition) : Type 0 where
+pub record EditionOfNumbers (format : Format) (edition : Edition) : Type 0 where
   pub header-numbers : (sheet : List ℕ) (at : ℕ) → OfNumbers format sheet at (edition .decodeHeader sheet at)
   pub record-numbers : (carried : Carried) (sheet : List ℕ) (at : ℕ) → OfNumbers format sheet at (edition .decodeRecord carried sheet at)

@@ -9,9 +9,9 @@ use lib.ListN.{length, take, drop}
 use Rattle.rules.specs.Hall.{hallOf}
 use Rattle.rules.specs.Numbers.{Parsed, Refusal, parsed, refusal, refusalOf, refused}
 use Rattle.sheet_rules.specs.Edition1.{Format, NumberReader, encodeNumber}
-use Rattle.sheet_rules.specs.Lawful.{CarriedHolds, Lawful, LawfulNumbers, Moved, ReadsBack, Stands}
+use Rattle.sheet_rules.specs.Lawful.{CarriedHolds, Lawful, LawfulNumbers, Moved, ReadsBack, RefusedAt, Stands}
 use Rattle.sheet_rules.specs.Lines.{endLine, line}
-use Rattle.sheet_rules.specs.Offsets.{Filled, Located, NumberThen, Numbered, NumbersFill, OfNumbers, PrintsRefusal, ShowsByte, refusesNumber}
+use Rattle.sheet_rules.specs.Offsets.{NumbersBetween, Located, NumberThen, EditionOfNumbers, NumbersFill, OfNumbers, PrintsRefusal, ShowsByte, WholeLines, refusesNumber}
 use Rattle.sheet_rules.specs.Sheet.{Accepted, EachGood, Edition, GoodMeaning, GoodRecord, Meaning, Record, isCode, lastDesk, noDesk, opened, openingNumber}
 use Rattle.sheet_rules.specs.Sheet.{reading, recordFor, whole}
 
@@ -115,8 +115,11 @@ module _ (readNumber : NumberReader) (lawful : LawfulNumbers readNumber) (sheet 
   says-number-larger-limit = lawful .larger-limit 999 1000 sheet 5 7 8
 
   pub says-number-own-offset : (reason : Refusal) → readNumber 999 sheet 5 ≡ refused reason
-      → (reason ≡ refusalOf 0 (reason .number) 5) × (refusesNumber (reason .number) ≡ true)
+      → RefusedAt 5 reason
   says-number-own-offset = lawful .own-offset 999 sheet 5
+
+pub says-refused-at : (reason : Refusal) → RefusedAt 5 reason → (reason ≡ refusalOf 0 (reason .number) 5) × (refusesNumber (reason .number) ≡ true)
+says-refused-at reason at = (at .carries, at .refuses)
 
 -- ---- The byte that a refusal shows, in a sheet that is read from offset 5 on: 8, with code 3.
 module _ (format : Format) (sheet : List ℕ) where
@@ -124,11 +127,11 @@ module _ (format : Format) (sheet : List ℕ) where
       → (format .readNumber 65535 sheet 5 ≡ parsed (then .value) (then .next)) × Rest (then .next)
   says-number-then Rest then = (then .read, then .rest)
 
-  pub says-filled : (filled : Filled format sheet 5 8) → NumbersFill (format .readNumber) sheet (filled .count) 5 8
-  says-filled filled = filled .numbers
+  pub says-numbers-between : (filled : NumbersBetween format sheet 5 8) → NumbersFill (format .readNumber) sheet (filled .count) 5 8
+  says-numbers-between filled = filled .numbers
 
   pub says-shows-byte : (byte : ShowsByte format sheet 5 15 8)
-      → Filled format sheet 5 8
+      → NumbersBetween format sheet 5 8
       × ((byte .limit ≡ 65535) ⊎ (byte .limit ≡ format .maxSession))
       × (format .readNumber (byte .limit) sheet 8 ≡ refusal 0 15 8)
   says-shows-byte byte = (byte .before, byte .limited, byte .refuses)
@@ -141,14 +144,14 @@ module _ (format : Format) (sheet : List ℕ) where
   says-located-none located = located .no-offset refl
 
   pub says-of-numbers :
-      (OfNumbers {A = ℕ} format sheet 5 (parsed 7 8) → Filled format sheet 5 8)
+      (OfNumbers {A = ℕ} format sheet 5 (parsed 7 8) → NumbersBetween format sheet 5 8)
       × (OfNumbers {A = ℕ} format sheet 5 (refusal 3 15 8) → Located format sheet 5 (refusalOf 3 15 8))
   says-of-numbers = (λ filled. filled, λ located. located)
 
-  pub says-numbered : (edition : Edition) → Numbered format edition
+  pub says-edition-of-numbers : (edition : Edition) → EditionOfNumbers format edition
       → OfNumbers format sheet 5 (edition .decodeHeader sheet 5) × OfNumbers format sheet 5 (edition .decodeRecord (lastDesk 3) sheet 5)
-  says-numbered edition numbered = (numbered .header-numbers sheet 5, numbered .record-numbers (lastDesk 3) sheet 5)
+  says-edition-of-numbers edition of-numbers = (of-numbers .header-numbers sheet 5, of-numbers .record-numbers (lastDesk 3) sheet 5)
 
 pub says-prints-refusal : (text : List ℕ) (prints : PrintsRefusal text (refusalOf 3 15 8))
-    → text ≡ prints .lines ++ (line (prints .index) 3 15 8 ++ endLine (prints .tally))
-says-prints-refusal text prints = prints .printed
+    → WholeLines (prints .before) × (text ≡ prints .before ++ (line (prints .index) 3 15 8 ++ endLine (prints .tally)))
+says-prints-refusal text prints = (prints .whole, prints .printed)

@@ -2,7 +2,7 @@ pub mod Parsing
 pub mod Numbers
 pub mod Edition1
 pub mod Sheet
-pub mod Filled
+pub mod NumbersBetween
 pub mod Offsets
 pub mod Tally
 pub mod Run

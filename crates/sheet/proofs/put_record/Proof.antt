@@ -88,13 +88,13 @@ same-length-2 c = search needs
 
 returns-2 : tie.Need-returns-2
 returns-2 c =
-    let numbered = c .before .before .before .before in
-    let matched = numbered .before .before in
+    let after-number = c .before .before .before .before in
+    let matched = after-number .before .before in
     let after-read = matched .before .before in
     let start = after-read .before .before .before .before .before in
     let last = c .before .before .stop .ensures in
     let code = matched .code .given in
-    let read = sym (after-read .read-record .ensures) ∙ ap recordResult (code .1) ∙ ap (λ (n : ℕ). refused (refusalOf (code .0 .0) n (code .0 .1 .1 .0))) (sym (numbered .refusal-number .ensures)) in
+    let read = sym (after-read .read-record .ensures) ∙ ap recordResult (code .1) ∙ ap (λ (n : ℕ). refused (refusalOf (code .0 .0) n (code .0 .1 .1 .0))) (sym (after-number .refusal-number .ensures)) in
     (reading-stopped (start .pre .0) (after-read .before .if1 .left) read (last .0) (last .1), finished-progress (last .1) (start .pre .1))
 
 same-length-3 : tie.Need-same-length-3

@@ -82,13 +82,13 @@ same-length-4 c = search needs
 
 returns-3 : tie.Need-returns-3
 returns-3 c =
-    let numbered = c .before .before .before .before in
-    let matched = numbered .before .before in
+    let after-number = c .before .before .before .before in
+    let matched = after-number .before .before in
     let after-read = matched .before .before in
     let start = after-read .before .before .before .before .before in
     let last = c .before .before .stop2 .ensures in
     let fault = matched .fault .given in
-    let read = sym (after-read .read-header .ensures) ∙ ap headerResult (fault .1) ∙ ap (λ (n : ℕ). refused (refusalOf 0 n (fault .0 .1 .0))) (sym (numbered .refusal-number .ensures)) in
+    let read = sym (after-read .read-header .ensures) ∙ ap headerResult (fault .1) ∙ ap (λ (n : ℕ). refused (refusalOf 0 n (fault .0 .1 .0))) (sym (after-number .refusal-number .ensures)) in
     started-stopped (short-enough hallEdition (start .args .sheet .now) (after-read .before .if1 .left) read) (start .pre .0) (last .0) (last .1)
 
 same-length-5 : tie.Need-same-length-5

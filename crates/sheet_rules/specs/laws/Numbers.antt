@@ -6,12 +6,13 @@ use mathlib.Core.Path.{_≡_, refl, sym, ap, _∙_, subst}
 use mathlib.Core.Bool.{Bool, true, false, cond}
 use mathlib.Core.List.{List, [], _∷_, _++_}
 use lib.ListN.{length, take, drop, length-drop, take-append-drop}
+use lib.Seq.{take-nil}
 use lib.Dec.{leb, ltb}
 use borrow.Author.Tests.{ltb-false, leb-true, le-ltb, le-leb}
 use Rattle.rules.specs.Numbers.{Groups, Parsed, Refusal, decodeGroups, decodeNumber, groupsIn, maxNumber, overlong, parsed, prepend, refusalOf, refused, terminated}
 use Rattle.rules.specs.Numbers.{truncated, valueOf}
 use Rattle.sheet_rules.specs.Edition1.{encodeNumber, shortest}
-use Rattle.sheet_rules.specs.Lawful.{LawfulNumbers, Moved, ReadsBack}
+use Rattle.sheet_rules.specs.Lawful.{LawfulNumbers, Moved, ReadsBack, RefusedAt}
 use Rattle.sheet_rules.specs.Offsets.{refusesNumber}
 use Rattle.sheet_rules.specs.laws.Parsing.{asked-parsed, refused-not-parsed}
 
@@ -57,13 +58,19 @@ number-parsed limit sheet at value next e = of-groups (groupsIn 3 (drop at sheet
 
 -- ---- What is read depends on its own bytes alone.
 
+truncated-not-terminated : {groups : List ℕ} → truncated ≡ terminated groups → ⊥
+truncated-not-terminated e = let z : _≡_ {A = ℕ} 0 1 = cc in omega arith
+
+overlong-not-terminated : {groups : List ℕ} → overlong ≡ terminated groups → ⊥
+overlong-not-terminated e = let z : _≡_ {A = ℕ} 0 1 = cc in omega arith
+
 -- terminated groups are found again, whatever follows their bytes
 abbrev FoundAgain : ℕ → List ℕ → List ℕ → List ℕ → Type 0
 FoundAgain most bytes rest groups = groupsIn most (take (length groups) bytes ++ rest) ≡ terminated groups
 
 groups-kept : (most : ℕ) (bytes rest groups : List ℕ) → groupsIn most bytes ≡ terminated groups → FoundAgain most bytes rest groups
-groups-kept zero bytes rest groups e = absurd (let z : _≡_ {A = ℕ} 0 1 = cc in omega arith)
-groups-kept (suc most) [] rest groups e = absurd (let z : _≡_ {A = ℕ} 0 1 = cc in omega arith)
+groups-kept zero bytes rest groups e = absurd (overlong-not-terminated e)
+groups-kept (suc most) [] rest groups e = absurd (truncated-not-terminated e)
 groups-kept (suc most) (byte ∷ bytes) rest groups e = by-byte (ltb byte 128) refl (groupsIn most bytes) (groups-kept most bytes rest) e
   where
     by-byte : (last : Bool) → ltb byte 128 ≡ last → (found : Groups) → ((more : List ℕ) → found ≡ terminated more → FoundAgain most bytes rest more)
@@ -75,22 +82,15 @@ groups-kept (suc most) (byte ∷ bytes) rest groups e = by-byte (ltb byte 128) r
     by-byte false is (terminated more) later q =
         let all : (byte % 128) ∷ more ≡ groups = cc in
         subst (FoundAgain (suc most) (byte ∷ bytes) rest) all (simp (is, later more refl))
-    by-byte false is truncated later q = absurd (let z : _≡_ {A = ℕ} 0 1 = cc in omega arith)
-    by-byte false is overlong later q = absurd (let z : _≡_ {A = ℕ} 0 1 = cc in omega arith)
+    by-byte false is truncated later q = absurd (truncated-not-terminated q)
+    by-byte false is overlong later q = absurd (overlong-not-terminated q)
 
--- two lists that begin alike do so after an offset too
-alike-after : (at count next : ℕ) (first second : List ℕ) → next ≡ at + count → take next first ≡ take next second
-    → take count (drop at first) ≡ take count (drop at second)
-alike-after zero count next first second e alike =
-    let same : next ≡ count = omega (arith, e) in
-    subst (λ (n : ℕ). take n first ≡ take n second) same alike
-alike-after (suc at) count zero first second e alike = absurd (omega (arith, e))
-alike-after (suc at) count (suc next) [] [] e alike = refl
-alike-after (suc at) count (suc next) [] (x ∷ second) e alike = absurd (let z : _≡_ {A = ℕ} 0 1 = cc in omega arith)
-alike-after (suc at) count (suc next) (x ∷ first) [] e alike = absurd (let z : _≡_ {A = ℕ} 0 1 = cc in omega arith)
-alike-after (suc at) count (suc next) (x ∷ first) (y ∷ second) e alike =
-    let rest : take next first ≡ take next second = cc in
-    alike-after at count next first second (omega (arith, e)) rest
+drop-take : (m n : ℕ) (list : List ℕ) → drop m (take (m + n) list) ≡ take n (drop m list)
+drop-take zero n list = let same : zero + n ≡ n = omega arith in ap (λ (k : ℕ). take k list) same
+drop-take (suc m) n [] = let same : suc m + n ≡ suc (m + n) = omega arith in ap (λ (k : ℕ). drop (suc m) (take k [])) same ∙ sym (take-nil n)
+drop-take (suc m) n (first ∷ list) =
+    let same : suc m + n ≡ suc (m + n) = omega arith in
+    ap (λ (k : ℕ). drop (suc m) (take k (first ∷ list))) same ∙ drop-take m n list
 
 number-kept : (limit : ℕ) (sheet other : List ℕ) (at value next : ℕ) → decodeNumber limit sheet at ≡ parsed value next
     → take next other ≡ take next sheet
@@ -103,10 +103,13 @@ number-kept limit sheet other at value next e kept = of-groups (groupsIn 3 (drop
     of-groups (terminated groups) are q =
         let asked = asked-parsed (leb (valueOf groups) limit) _ _ value next q in
         let offset : next ≡ at + length groups = cc (asked .1) in
-        let alike = alike-after at (length groups) next other sheet offset kept in
+        let own : take (length groups) (drop at other) ≡ take (length groups) (drop at sheet) =
+        sym (drop-take at (length groups) other) ∙ ap (λ (n : ℕ). drop at (take n other)) (sym offset)
+        ∙ ap (drop at) kept
+        ∙ ap (λ (n : ℕ). drop at (take n sheet)) offset ∙ drop-take at (length groups) sheet in
         let again : drop at other ≡ take (length groups) (drop at sheet) ++ drop (length groups) (drop at other) =
         sym (take-append-drop (length groups) (drop at other))
-        ∙ ap (λ (front : List ℕ). front ++ drop (length groups) (drop at other)) alike in
+        ∙ ap (λ (front : List ℕ). front ++ drop (length groups) (drop at other)) own in
         ap (λ (bytes : List ℕ). decodeGroups limit at (groupsIn 3 bytes)) again
         ∙ ap (decodeGroups limit at) (groups-kept 3 (drop at sheet) (drop (length groups) (drop at other)) groups are)
         ∙ q
@@ -127,23 +130,23 @@ number-wider limit larger sheet at value next e wider = of-groups (groupsIn 3 (d
 
 -- ---- What is refused shows its own offset.
 number-refused : (limit : ℕ) (sheet : List ℕ) (at : ℕ) (reason : Refusal) → decodeNumber limit sheet at ≡ refused reason
-    → (reason ≡ refusalOf 0 (reason .number) at) × (refusesNumber (reason .number) ≡ true)
+    → RefusedAt at reason
 unfolding decodeNumber
 number-refused limit sheet at reason e = of-groups (groupsIn 3 (drop at sheet)) e
   where
     with-number : (number : ℕ) → refusesNumber number ≡ true → _≡_ {A = Parsed ℕ} (refused (refusalOf 0 number at)) (refused reason)
-        → (reason ≡ refusalOf 0 (reason .number) at) × (refusesNumber (reason .number) ≡ true)
+        → RefusedAt at reason
     with-number number is q =
         let same : refusalOf 0 number at ≡ reason = cc in
-        subst (λ (r : Refusal). (r ≡ refusalOf 0 (r .number) at) × (refusesNumber (r .number) ≡ true)) same (refl, is)
+        subst (RefusedAt at) same (record { carries = refl; refuses = is })
 
     of-value : (small : Bool) (value next : ℕ) → cond small (parsed value next) (refused (refusalOf 0 16 at)) ≡ refused reason
-        → (reason ≡ refusalOf 0 (reason .number) at) × (refusesNumber (reason .number) ≡ true)
+        → RefusedAt at reason
     of-value true value next q = absurd (refused-not-parsed (sym q))
     of-value false value next q = with-number 16 refl q
 
     of-groups : (found : Groups) → decodeGroups limit at found ≡ refused reason
-        → (reason ≡ refusalOf 0 (reason .number) at) × (refusesNumber (reason .number) ≡ true)
+        → RefusedAt at reason
     of-groups (terminated groups) q = of-value (leb (valueOf groups) limit) (valueOf groups) (at + length groups) q
     of-groups truncated q = with-number 15 refl q
     of-groups overlong q = with-number 16 refl q

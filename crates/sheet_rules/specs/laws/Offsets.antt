@@ -3,40 +3,45 @@ use Prim.Native.Nat.{ℕ, zero, suc, _≤_}
 use native.Mathlib.Omega.{arith}
 use mathlib.Core.Path.{_≡_, refl, sym, ap, _∙_, subst}
 use mathlib.Core.Bool.{Bool, true, false, cond}
-use mathlib.Core.List.{List, [], _++_, append-assoc}
-use mathlib.Core.Logic.{⊎-elim}
+use mathlib.Core.List.{List, [], _∷_, _++_, append-assoc, append-nil}
+use mathlib.Core.Logic.{inl, inr, ⊎-elim}
 use mathlib.Core.Option.{Option, none, some}
 use lib.ListN.{length, take}
 use lib.Dec.{leb, ltb}
-use borrow.Author.Tests.{leb-false, leb-true}
+use borrow.Author.Tests.{leb-false, leb-true, ne-eqb}
 use Rattle.rules.specs.Hall.{Hall, hallLimits}
 use Rattle.rules.specs.Numbers.{Parsed, Refusal, maxNumber, parsed, refusal, refusalOf, refused}
 use Rattle.rules.specs.Table.{openTable}
 use Rattle.sheet_rules.specs.Edition1.{Format}
 use Rattle.sheet_rules.specs.Lawful.{LawfulNumbers}
-use Rattle.sheet_rules.specs.Lines.{answerLine, linesFrom, linesOf, printed}
-use Rattle.sheet_rules.specs.Offsets.{Filled, Located, Numbered, OfNumbers, PrintsRefusal, ShowsByte, ending, endingIn, refusesNumber}
+use Rattle.sheet_rules.specs.Lines.{answerLine, decimal, endLine, line, linesFrom, linesOf, printed, refusalLine}
+use Rattle.sheet_rules.specs.Offsets.{NumbersBetween, Located, EditionOfNumbers, OfNumbers, PrintsRefusal, ShowsByte, WholeLines, ending, endingIn, refusesNumber}
 use Rattle.sheet_rules.specs.Run.{runRecord}
 use Rattle.sheet_rules.specs.Sheet.{Carried, Edition, Reading, Record, Records, afterHeader, bindRecords, carriedAfter, complete, decodeRecords, lentTable}
 use Rattle.sheet_rules.specs.Sheet.{maxBytes, more, noDesk, opened, openedIf, openingNumber, reading, stop, unopened}
 use Rattle.sheet_rules.specs.Tally.{Tally, addStep, zeros}
-use Rattle.sheet_rules.specs.laws.Filled.{fill-inside, fill-kept, filled-append, filled-one, located-after, no-number, refused-past}
+use Rattle.sheet_rules.specs.laws.NumbersBetween.{fill-inside, fill-kept, between-append, between-one, located-after, no-number, refused-past}
 use Rattle.sheet_rules.specs.laws.Sheet.{opening-never-four, too-long}
 
 -- ---- Readings.
-module _ {format : Format} {edition : Edition} (numbered : Numbered format edition) (sheet : List ℕ) where
+
+-- 1, 2 and 3 refuse an opening, and no number.
+opening-refuses-no-number : (n : ℕ) → n ≤ 3 → refusesNumber n ≡ false
+opening-refuses-no-number n few = simp (ne-eqb n 15 (λ same. omega (arith, same, few)), ne-eqb n 16 (λ same. omega (arith, same, few)))
+
+module _ {format : Format} {edition : Edition} (of-numbers : EditionOfNumbers format edition) (sheet : List ℕ) where
   abbrev EndLocated : Option Refusal → ℕ → Type 0
   EndLocated none at = Unit {0}
   EndLocated (some reason) at = Located format sheet at reason
 
-  end-after : {at middle : ℕ} → Filled format sheet at middle → (end : Option Refusal) → EndLocated end middle → EndLocated end at
+  end-after : {at middle : ℕ} → NumbersBetween format sheet at middle → (end : Option Refusal) → EndLocated end middle → EndLocated end at
   end-after filled none located = tt
   end-after filled (some reason) located = located-after format sheet filled located
 
   records-located : (most : ℕ) (carried : Carried) (at : ℕ) → EndLocated (endingIn (decodeRecords edition most carried sheet at)) at
   records-located zero carried at = tt
   records-located (suc most) carried at =
-      by-record (ltb at (length sheet)) (edition .decodeRecord carried sheet at) (numbered .record-numbers carried sheet at)
+      by-record (ltb at (length sheet)) (edition .decodeRecord carried sheet at) (of-numbers .record-numbers carried sheet at)
       (λ entry. records-located most (carriedAfter entry))
     where
       by-record : (inside : Bool) (found : Parsed Record) → OfNumbers format sheet at found
@@ -51,14 +56,11 @@ module _ {format : Format} {edition : Edition} (numbered : Numbered format editi
   unfolding reading
   reading-located = by-length (leb (length sheet) maxBytes)
     where
-      by-number : (n : ℕ) → n ≤ 3 → (hall : Hall) (next : ℕ) → Filled format sheet 0 next
+      by-number : (n : ℕ) → n ≤ 3 → (hall : Hall) (next : ℕ) → NumbersBetween format sheet 0 next
           → EndLocated (ending (openedIf n hall (decodeRecords edition (length sheet) noDesk sheet next))) 0
       by-number zero few hall next filled =
           end-after filled (endingIn (decodeRecords edition (length sheet) noDesk sheet next)) (records-located (length sheet) noDesk next)
-      by-number (suc zero) few hall next filled = no-number format sheet 0 0 1 refl
-      by-number (suc (suc zero)) few hall next filled = no-number format sheet 0 0 2 refl
-      by-number (suc (suc (suc zero))) few hall next filled = no-number format sheet 0 0 3 refl
-      by-number (suc (suc (suc (suc n)))) few hall next filled = absurd (omega (arith, few))
+      by-number (suc n) few hall next filled = no-number format sheet 0 0 (suc n) (opening-refuses-no-number (suc n) few)
 
       by-header : (found : Parsed Hall) → OfNumbers format sheet 0 found → EndLocated (ending (afterHeader edition sheet found)) 0
       by-header (parsed hall next) filled = by-number (openingNumber hall) (opening-never-four hall) hall next filled
@@ -66,7 +68,7 @@ module _ {format : Format} {edition : Edition} (numbered : Numbered format editi
 
       by-length : (short : Bool)
           → EndLocated (ending (cond short (afterHeader edition sheet (edition .decodeHeader sheet 0)) (unopened (refusalOf 0 18 0)))) 0
-      by-length true = by-header (edition .decodeHeader sheet 0) (numbered .header-numbers sheet 0)
+      by-length true = by-header (edition .decodeHeader sheet 0) (of-numbers .header-numbers sheet 0)
       by-length false = no-number format sheet 0 0 18 refl
 
   pub ending-located : (reason : Refusal) → ending (reading edition sheet) ≡ some reason → Located format sheet 0 reason
@@ -75,12 +77,12 @@ module _ {format : Format} {edition : Edition} (numbered : Numbered format editi
 -- ---- The byte that is shown.
 module _ {format : Format} (numbers : LawfulNumbers (format .readNumber)) where
   -- It is at most the end of the sheet, and a sheet that is longer than 65,536 bytes shows none.
-  pub offset-bounded : {edition : Edition} → Numbered format edition → (sheet : List ℕ) (reason : Refusal) → ending (reading edition sheet) ≡ some reason
+  pub offset-bounded : {edition : Edition} → EditionOfNumbers format edition → (sheet : List ℕ) (reason : Refusal) → ending (reading edition sheet) ≡ some reason
       → reason .offset ≤ maxBytes
-  offset-bounded {edition} numbered sheet reason e = by-length (leb (length sheet) maxBytes) refl
+  offset-bounded {edition} of-numbers sheet reason e = by-length (leb (length sheet) maxBytes) refl
     where
       located : Located format sheet 0 reason
-      located = ending-located numbered sheet reason e
+      located = ending-located of-numbers sheet reason e
 
       by-number : (is : Bool) → refusesNumber (reason .number) ≡ is → length sheet ≤ maxBytes → reason .offset ≤ maxBytes
       by-number true is short =
@@ -103,7 +105,7 @@ module _ {format : Format} (numbers : LawfulNumbers (format .readNumber)) where
         ap (λ (n : ℕ). format .readNumber n sheet offset) (sym largest) ∙ byte .refuses
 
     -- It is past all numbers that fill the first bytes.
-    past-numbers : {sheet : List ℕ} {end number offset : ℕ} → Filled format sheet 0 end → ShowsByte format sheet 0 number offset → end ≤ offset
+    past-numbers : {sheet : List ℕ} {end number offset : ℕ} → NumbersBetween format sheet 0 end → ShowsByte format sheet 0 number offset → end ≤ offset
     past-numbers {sheet} {end} {number} {offset} filled byte =
         refused-past (format .readNumber) sheet numbers (filled .count) (byte .before .count) 0 end offset (refusalOf 0 number offset)
         (filled .numbers) (byte .before .numbers) (refused-there byte)
@@ -129,32 +131,48 @@ module _ {format : Format} (numbers : LawfulNumbers (format .readNumber)) where
         → format .readNumber maxNumber mended offset ≡ parsed value next
         → ShowsByte format mended 0 number′ offset′
         → next ≤ offset′
-    mended-past {sheet} mended {offset = offset} byte kept read = past-numbers (filled-append format mended kept-before (filled-one format mended read))
+    mended-past {sheet} mended {offset = offset} byte kept read = past-numbers (between-append format mended kept-before (between-one format mended read))
       where
-        kept-before : Filled format mended 0 offset
+        kept-before : NumbersBetween format mended 0 offset
         kept-before = record {
           count = byte .before .count;
           numbers = fill-kept (format .readNumber) sheet numbers mended (byte .before .count) 0 offset (byte .before .numbers) kept;
         }
 
 -- ---- Its line is printed.
-line-before : (first : List ℕ) {text : List ℕ} {reason : Refusal} → PrintsRefusal text reason → PrintsRefusal (first ++ text) reason
-line-before first prints = record {
-  lines = first ++ prints .lines;
+line-whole : (index code number session : ℕ) → WholeLines (line index code number session)
+unfolding line
+line-whole index code number session =
+    inr (decimal index ++ (32 ∷ (decimal code ++ (32 ∷ (decimal number ++ (32 ∷ decimal session))))), simp append-assoc)
+
+whole-append : (first second : List ℕ) → WholeLines first → WholeLines second → WholeLines (first ++ second)
+whole-append first second first-whole second-whole =
+    ⊎-elim (λ none. subst WholeLines (sym (ap (λ (rest : List ℕ). first ++ rest) none ∙ append-nil first)) first-whole)
+    (λ last. inr (first ++ last .0, ap (λ (rest : List ℕ). first ++ rest) (last .1) ∙ sym (append-assoc first (last .0) (10 ∷ [])))) second-whole
+
+line-before : (first : List ℕ) → WholeLines first → {text : List ℕ} {reason : Refusal} → PrintsRefusal text reason → PrintsRefusal (first ++ text) reason
+line-before first whole prints = record {
+  before = first ++ prints .before;
+  whole = whole-append first (prints .before) whole (prints .whole);
   index = prints .index;
   tally = prints .tally;
-  printed = ap (λ (rest : List ℕ). first ++ rest) (prints .printed) ∙ sym (append-assoc first (prints .lines) _);
+  printed = ap (λ (rest : List ℕ). first ++ rest) (prints .printed) ∙ sym (append-assoc first (prints .before) _);
 }
+
+-- the refusal's line and the last line
+two-lines : (index : ℕ) (tally : Tally) (reason : Refusal) → PrintsRefusal (refusalLine index reason ++ endLine tally) reason
+two-lines index tally reason = record { before = []; whole = inl refl; index = index; tally = tally; printed = refl }
 
 lines-end : (table : List ℕ) (index : ℕ) (tally : Tally) (records : Records) (reason : Refusal) → endingIn records ≡ some reason
     → PrintsRefusal (linesFrom table index tally records) reason
 lines-end table index tally complete reason e = absurd (let z : _≡_ {A = ℕ} 0 1 = cc in omega arith)
 lines-end table index tally (stop found) reason e =
     let same : found ≡ reason = cc in
-    subst (PrintsRefusal (linesFrom table index tally (stop found))) same (record { lines = []; index = index; tally = tally; printed = refl })
+    subst (PrintsRefusal (linesFrom table index tally (stop found))) same (two-lines index tally found)
 lines-end table index tally (more entry rest) reason e =
     let done = runRecord hallLimits table entry in
-    line-before (answerLine index (entry .code) (done .answer)) (lines-end (done .after) (suc index) (addStep tally (entry .code) (done .answer)) rest reason e)
+    line-before (answerLine index (entry .code) (done .answer)) (line-whole index (entry .code) (done .answer .number) (done .answer .session))
+    (lines-end (done .after) (suc index) (addStep tally (entry .code) (done .answer)) rest reason e)
 
 pub refusal-printed : (edition : Edition) (sheet : List ℕ) (reason : Refusal) → ending (reading edition sheet) ≡ some reason
     → PrintsRefusal (printed edition sheet) reason
@@ -164,7 +182,7 @@ refusal-printed edition sheet reason = of-reading (reading edition sheet)
     of-reading : (found : Reading) → ending found ≡ some reason → PrintsRefusal (linesOf found) reason
     of-reading (unopened refused-with) e =
         let same : refused-with ≡ reason = cc in
-        subst (PrintsRefusal (linesOf (unopened refused-with))) same (record { lines = []; index = 0; tally = zeros; printed = refl })
+        subst (PrintsRefusal (linesOf (unopened refused-with))) same (two-lines 0 zeros refused-with)
     of-reading (opened hall records) e =
         let done = openTable hallLimits hall lentTable in
-        line-before (answerLine 0 0 (done .answer)) (lines-end (done .after) 1 zeros records reason e)
+        line-before (answerLine 0 0 (done .answer)) (line-whole 0 0 (done .answer .number) (done .answer .session)) (lines-end (done .after) 1 zeros records reason e)

@@ -10,7 +10,7 @@ use lib.Seq.{take-take}
 use Rattle.rules.specs.Numbers.{Parsed, Refusal, bind, maxNumber, parsed, refusalOf, refused}
 use Rattle.sheet_rules.specs.Edition1.{Format, NumberReader, decodeField, decodeFields, decodeHeader, decodeRecord, decodeRest, edition1, withCode}
 use Rattle.sheet_rules.specs.Lawful.{LawfulNumbers}
-use Rattle.sheet_rules.specs.Offsets.{Filled, Located, Numbered, NumbersFill, OfNumbers, refusesNumber}
+use Rattle.sheet_rules.specs.Offsets.{NumbersBetween, Located, EditionOfNumbers, NumbersFill, OfNumbers, refusesNumber}
 use Rattle.sheet_rules.specs.Sheet.{deskField, follows, isCode, positionField, screenField, sessionField}
 use Rattle.sheet_rules.specs.laws.Parsing.{refused-not-parsed}
 
@@ -69,31 +69,31 @@ module _ (readNumber : NumberReader) (sheet : List ℕ) where
 
 -- ---- Parsers.
 module _ (format : Format) (sheet : List ℕ) where
-  filled-none : (at : ℕ) → Filled format sheet at at
-  filled-none at = record { count = 0; numbers = refl }
+  between-none : (at : ℕ) → NumbersBetween format sheet at at
+  between-none at = record { count = 0; numbers = refl }
 
-  pub filled-one : {at value next : ℕ} → format .readNumber maxNumber sheet at ≡ parsed value next → Filled format sheet at next
-  filled-one {at} {value} {next} read = record { count = 1; numbers = record { value = value; next = next; read = read; rest = refl } }
+  pub between-one : {at value next : ℕ} → format .readNumber maxNumber sheet at ≡ parsed value next → NumbersBetween format sheet at next
+  between-one {at} {value} {next} read = record { count = 1; numbers = record { value = value; next = next; read = read; rest = refl } }
 
-  pub filled-append : {at middle end : ℕ} → Filled format sheet at middle → Filled format sheet middle end → Filled format sheet at end
-  filled-append {at} {middle} {end} first second = record {
+  pub between-append : {at middle end : ℕ} → NumbersBetween format sheet at middle → NumbersBetween format sheet middle end → NumbersBetween format sheet at end
+  between-append {at} {middle} {end} first second = record {
     count = first .count + second .count;
     numbers = fill-append (format .readNumber) sheet (first .count) (second .count) at middle end (first .numbers) (second .numbers);
   }
 
   -- A refusal after numbers that fill bytes.
-  pub located-after : {at middle : ℕ} {reason : Refusal} → Filled format sheet at middle → Located format sheet middle reason → Located format sheet at reason
+  pub located-after : {at middle : ℕ} {reason : Refusal} → NumbersBetween format sheet at middle → Located format sheet middle reason → Located format sheet at reason
   located-after filled located = record {
     shows =
         λ is.
         let byte = located .shows is in
-        record { before = filled-append filled (byte .before); limit = byte .limit; limited = byte .limited; refuses = byte .refuses };
+        record { before = between-append filled (byte .before); limit = byte .limit; limited = byte .limited; refuses = byte .refuses };
     no-offset = located .no-offset;
   }
 
-  after-numbers : {A : Type 0} {at middle : ℕ} → Filled format sheet at middle → (found : Parsed A) → OfNumbers format sheet middle found
+  after-numbers : {A : Type 0} {at middle : ℕ} → NumbersBetween format sheet at middle → (found : Parsed A) → OfNumbers format sheet middle found
       → OfNumbers format sheet at found
-  after-numbers filled (parsed value next) later = filled-append filled later
+  after-numbers filled (parsed value next) later = between-append filled later
   after-numbers filled (refused reason) later = located-after filled later
 
   -- The law by which fields, records and headers hand an offset on: a parser of numbers, and then another.
@@ -122,14 +122,14 @@ module _ {format : Format} (numbers : LawfulNumbers (format .readNumber)) (fits 
       small = ⊎-elim (λ same. omega (arith, same)) (λ same. omega (arith, same, fits)) limited
 
       by-result : (found : Parsed ℕ) → format .readNumber limit sheet at ≡ found → OfNumbers format sheet at found
-      by-result (parsed value next) e = filled-one format sheet (numbers .larger-limit limit maxNumber sheet at value next e small)
+      by-result (parsed value next) e = between-one format sheet (numbers .larger-limit limit maxNumber sheet at value next e small)
       by-result (refused reason) e =
           let own = numbers .own-offset limit sheet at reason e in
-          let here : at ≡ reason .offset = sym (ap (λ (r : Refusal). r .offset) (own .0)) in
-          let refuses = ap (format .readNumber limit sheet) (sym here) ∙ e ∙ ap refused (own .0 ∙ ap (refusalOf 0 (reason .number)) here) in
+          let here : at ≡ reason .offset = sym (ap (λ (r : Refusal). r .offset) (own .carries)) in
+          let refuses = ap (format .readNumber limit sheet) (sym here) ∙ e ∙ ap refused (own .carries ∙ ap (refusalOf 0 (reason .number)) here) in
           record {
             shows = λ is. record { before = record { count = 0; numbers = here }; limit = limit; limited = limited; refuses = refuses };
-            no-offset = λ other. absurd (true≢false (sym (own .1) ∙ other));
+            no-offset = λ other. absurd (true≢false (sym (own .refuses) ∙ other));
           }
 
   any-number : (sheet : List ℕ) (at : ℕ) → OfNumbers format sheet at (format .readNumber maxNumber sheet at)
@@ -138,7 +138,7 @@ module _ {format : Format} (numbers : LawfulNumbers (format .readNumber)) (fits 
   field-numbers : (present : Bool) (limit : ℕ) → (limit ≡ maxNumber) ⊎ (limit ≡ format .maxSession) → (sheet : List ℕ) (at : ℕ)
       → OfNumbers format sheet at (decodeField (format .readNumber) present limit sheet at)
   field-numbers true limit limited sheet at = number-numbers limit limited sheet at
-  field-numbers false limit limited sheet at = filled-none format sheet at
+  field-numbers false limit limited sheet at = between-none format sheet at
 
   rest-numbers : (code desk : ℕ) (sheet : List ℕ) (at : ℕ) → OfNumbers format sheet at (decodeRest format code desk sheet at)
   rest-numbers code desk sheet at =
@@ -148,7 +148,7 @@ module _ {format : Format} (numbers : LawfulNumbers (format .readNumber)) (fits 
       (field-numbers (follows code positionField) maxNumber (inl refl) sheet afterScreen) λ position afterPosition.
       bind-numbers format sheet afterPosition (decodeField (format .readNumber) (follows code sessionField) (format .maxSession) sheet afterPosition) _
       (field-numbers (follows code sessionField) (format .maxSession) (inr refl) sheet afterPosition) λ session afterSession.
-      filled-none format sheet afterSession
+      between-none format sheet afterSession
 
   fields-numbers : (code : ℕ) (sheet : List ℕ) (at : ℕ) → OfNumbers format sheet at (decodeFields format code sheet at)
   fields-numbers code sheet at =
@@ -172,7 +172,7 @@ module _ {format : Format} (numbers : LawfulNumbers (format .readNumber)) (fits 
       bind-numbers format sheet at (format .readNumber maxNumber sheet at) _ (any-number sheet at) λ desks afterDesks.
       bind-numbers format sheet afterDesks (format .readNumber maxNumber sheet afterDesks) _ (any-number sheet afterDesks) λ screens afterScreens.
       bind-numbers format sheet afterScreens (format .readNumber maxNumber sheet afterScreens) _ (any-number sheet afterScreens) λ positions afterPositions.
-      filled-none format sheet afterPositions
+      between-none format sheet afterPositions
 
-  pub edition1-numbered : Numbered format (edition1 format)
-  edition1-numbered = record { header-numbers = header-numbers; record-numbers = λ carried. record-numbers }
+  pub edition1-of-numbers : EditionOfNumbers format (edition1 format)
+  edition1-of-numbers = record { header-numbers = header-numbers; record-numbers = λ carried. record-numbers }
