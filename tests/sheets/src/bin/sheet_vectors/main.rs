@@ -1,6 +1,6 @@
 //! Runs the published sheets (tests/vectors) on programs and on the reference:
 //!
-//!     sheet_vectors --NAME PROGRAM REFERENCE... FILE...
+//!     sheet_vectors [--NAME PROGRAM REFERENCE]... FILE...
 //!
 //! NAME is what the files call the program. Each sheet must get its lines from
 //! both. Every sheet that does not is printed, with the first difference.
@@ -33,7 +33,7 @@ fn main() -> ExitCode {
         Ok(options) => options,
         Err(error) => {
             eprintln!("sheet_vectors: {error}");
-            eprintln!("usage: sheet_vectors --NAME PROGRAM REFERENCE... FILE...");
+            eprintln!("usage: sheet_vectors [--NAME PROGRAM REFERENCE]... FILE...");
             return ExitCode::from(2);
         }
     };
