@@ -249,34 +249,34 @@ refused 2 "long.sheet: the reading ends with 18, a sheet has at most 65,536 byte
 
 # The number that ends a reading, explained with the bytes around it: each number of the header, the code, each field.
 ends "0 0 15 0 the reading ends at byte 0, number P of the header (desks): 15, it is missing: the sheet ends here" \
-    "from byte 0: [end] byte 0 = 0x0" ''
+    "from byte 0: [end] offset 0 (0x0)" ''
 ends "0 0 15 1 the reading ends at byte 1, number c of the header (screens per desk): 15, it is missing: the sheet ends here" \
-    "from byte 0: 01 [end] byte 1 = 0x1" '\001'
+    "from byte 0: 01 [end] offset 1 (0x1)" '\001'
 ends "0 0 16 2 the reading ends at byte 2, number L of the header (positions): 16, it is 65,536, over 65,535" \
-    "from byte 0: 01 01 [80 80 04] 05 01 05 01 .. byte 2 = 0x2" '\001\001\200\200\004\005\001\005\001\005\001'
+    "from byte 0: 01 01 [80 80 04] 05 01 05 01 .. offset 2 (0x2)" '\001\001\200\200\004\005\001\005\001\005\001'
 ends "0 0 16 2 the reading ends at byte 2, number L of the header (positions): 16, it is 65,536, over 65,535" \
-    "from byte 0: 01 01 [80 80 04] 05 01 05 01 byte 2 = 0x2" '\001\001\200\200\004\005\001\005\001'
+    "from byte 0: 01 01 [80 80 04] 05 01 05 01 offset 2 (0x2)" '\001\001\200\200\004\005\001\005\001'
 ends "2 0 15 5 the reading ends at byte 5, the code of record 2: 15, it is cut off: the sheet has 6 bytes" \
-    "from byte 0: 01 01 01 05 01 [80] byte 5 = 0x5" '\001\001\001\005\001\200'
+    "from byte 0: 01 01 01 05 01 [80] offset 5 (0x5)" '\001\001\001\005\001\200'
 ends "1 5 15 4 the reading ends at byte 4, the desk of record 1 (collect): 15, it is missing: the sheet ends here" \
-    "from byte 0: 01 01 01 05 [end] byte 4 = 0x4" '\001\001\001\005'
+    "from byte 0: 01 01 01 05 [end] offset 4 (0x4)" '\001\001\001\005'
 ends "1 5 15 4 the reading ends at byte 4, the desk of record 1 (collect): 15, it is cut off: the sheet has 6 bytes" \
-    "from byte 0: 01 01 01 05 [80 80] byte 4 = 0x4" '\001\001\001\005\200\200'
+    "from byte 0: 01 01 01 05 [80 80] offset 4 (0x4)" '\001\001\001\005\200\200'
 ends "1 2 16 5 the reading ends at byte 5, the screen of record 1 (drop): 16, it does not end within three bytes" \
-    "from byte 0: 01 01 01 02 01 [ff ff ff] 01 byte 5 = 0x5" '\001\001\001\002\001\377\377\377\001'
+    "from byte 0: 01 01 01 02 01 [ff ff ff] 01 offset 5 (0x5)" '\001\001\001\002\001\377\377\377\001'
 ends "1 1 16 6 the reading ends at byte 6, the position of record 1 (take): 16, it is 2,097,151, over 65,535" \
-    "from byte 0: 01 01 01 01 01 01 [ff ff 7f] byte 6 = 0x6" '\001\001\001\001\001\001\377\377\177'
+    "from byte 0: 01 01 01 01 01 01 [ff ff 7f] offset 6 (0x6)" '\001\001\001\001\001\001\377\377\177'
 # Padded numbers before it: the header has seven bytes, the swap's code, desk and position have eight.
 ends "1 3 15 15 the reading ends at byte 15, the session of record 1 (swap): 15, it is cut off: the sheet has 16 bytes" \
-    "from byte 7: 83 80 00 81 00 81 80 00 [ac] byte 15 = 0xf" \
+    "from byte 7: 83 80 00 81 00 81 80 00 [ac] offset 15 (0xf)" \
     '\201\000\201\000\201\200\000\203\200\000\201\000\201\200\000\254'
 ends "2 9 17 0 the reading ends at byte 5, the code of record 2: 17, no step has code 9; the codes are 1 to 5" \
-    "from byte 0: 01 01 01 05 01 [09] 01 byte 5 = 0x5" '\001\001\001\005\001\011\001'
+    "from byte 0: 01 01 01 05 01 [09] 01 offset 5 (0x5)" '\001\001\001\005\001\011\001'
 # The greatest offset: 65,536 bytes, and the desk of the last collect should follow them.
 "$python" -c 'import sys; sys.stdout.buffer.write(b"\1\1\1" + 32766 * b"\5\1" + b"\5")' >full.sheet
 cat >full.meaning <<'END'
 32767 5 15 65536   the reading ends at byte 65536, the desk of record 32767 (collect): 15, it is missing: the sheet ends here
-                   from byte 65528: 01 05 01 05 01 05 01 05 [end]   byte 65536 = 0x10000
+                   from byte 65528: 01 05 01 05 01 05 01 05 [end]   offset 65536 (0x10000)
 end 32766 0 0      32,766 steps accepted, 0 refused by the board, 0 sessions handed back
 END
 sheet explain full.sheet --program "$program" | tail -n 3 >full.explained

@@ -8,7 +8,7 @@ def in_hex(data):
 
 
 def around(data, number):
-    """The number in brackets, with a few bytes around it: 'from byte 0: 01 01 01 05 [80 80]   byte 4 = 0x4'.
+    """The number in brackets, with a few bytes around it: 'from byte 0: 01 01 01 05 [80 80]   offset 4 (0x4)'.
     A number that is missing is shown as [end]."""
     first = max(number.start - BEFORE, 0)
     last = number.end + AFTER
@@ -18,4 +18,4 @@ def around(data, number):
         in_hex(data[number.end : last]),
         ".." if last < len(data) else "",
     ]
-    return f"from byte {first}: {' '.join(filter(None, parts))}   byte {number.start} = {number.start:#x}"
+    return f"from byte {first}: {' '.join(filter(None, parts))}   offset {number.start} ({number.start:#x})"
