@@ -195,7 +195,7 @@ retire 1       # record 2, byte 11
 END
 sheet decode padded.sheet >padded.again 2>err && fail "decode: a cut sheet"
 same "decode: padded numbers, and a cut record" padded.offsets padded.again
-echo "sheet: padded.sheet: the reading ends at byte 16, the desk of record 3 (collect): 15, it is cut off: the sheet has 17 bytes" >expected
+echo "sheet: padded.sheet: the reading ends at byte 16: the desk of record 3 (collect) is cut off after 1 byte (reply number 15)" >expected
 same "decode: where it is cut" expected err
 printf '\001\001\001\003\001\001\254\002\004\001' >expected
 sheet encode padded.again >out
@@ -241,41 +241,42 @@ awk 'BEGIN { print "hall 1 1 1"; for (i = 0; i < 32767; i++) print "collect 1" }
 refused 2 "long.txt:32768: the sheet is longer than 65,536 bytes with this record (reply number 18)" encode long.txt
 
 # Sheets that cannot be read.
-bad_sheet "byte 0, number P of the header (desks): 15, it is missing: the sheet ends here" ''
-bad_sheet "byte 5, the screen of record 1 (take): 15, it is cut off: the sheet has 6 bytes" '\001\001\001\001\001\201'
-bad_sheet "byte 4, the desk of record 1 (swap): 16, it is 65,536, over 65,535" '\001\001\001\003\200\200\004\001'
-bad_sheet "byte 5, the code of record 2: 17, no step has code 9; the codes are 1 to 5" '\001\001\001\005\001\011\001'
-refused 2 "long.sheet: the reading ends with 18, a sheet has at most 65,536 bytes" decode long.sheet
+bad_sheet "byte 0: number P of the header (desks) is missing (reply number 15)" ''
+bad_sheet "byte 5: the screen of record 1 (take) is cut off after 1 byte (reply number 15)" '\001\001\001\001\001\201'
+bad_sheet "byte 4: the desk of record 1 (swap) is 65,536, over 65,535 (reply number 16)" '\001\001\001\003\200\200\004\001'
+bad_sheet "byte 5: the code of record 2 is 9, but the codes are 1 to 5 (reply number 17)" '\001\001\001\005\001\011\001'
+too_long="the reading ends before the header: a sheet has at most 65,536 bytes (reply number 18)"
+refused 2 "long.sheet: $too_long" decode long.sheet
 
 # The number that ends a reading, explained with the bytes around it: each number of the header, the code, each field.
-ends "0 0 15 0 the reading ends at byte 0, number P of the header (desks): 15, it is missing: the sheet ends here" \
+ends "0 0 15 0 the reading ends at byte 0: number P of the header (desks) is missing (reply number 15)" \
     "from byte 0: [end] offset 0 (0x0)" ''
-ends "0 0 15 1 the reading ends at byte 1, number c of the header (screens per desk): 15, it is missing: the sheet ends here" \
+ends "0 0 15 1 the reading ends at byte 1: number c of the header (screens per desk) is missing (reply number 15)" \
     "from byte 0: 01 [end] offset 1 (0x1)" '\001'
-ends "0 0 16 2 the reading ends at byte 2, number L of the header (positions): 16, it is 65,536, over 65,535" \
+ends "0 0 16 2 the reading ends at byte 2: number L of the header (positions) is 65,536, over 65,535 (reply number 16)" \
     "from byte 0: 01 01 [80 80 04] 05 01 05 01 .. offset 2 (0x2)" '\001\001\200\200\004\005\001\005\001\005\001'
-ends "0 0 16 2 the reading ends at byte 2, number L of the header (positions): 16, it is 65,536, over 65,535" \
+ends "0 0 16 2 the reading ends at byte 2: number L of the header (positions) is 65,536, over 65,535 (reply number 16)" \
     "from byte 0: 01 01 [80 80 04] 05 01 05 01 offset 2 (0x2)" '\001\001\200\200\004\005\001\005\001'
-ends "2 0 15 5 the reading ends at byte 5, the code of record 2: 15, it is cut off: the sheet has 6 bytes" \
+ends "2 0 15 5 the reading ends at byte 5: the code of record 2 is cut off after 1 byte (reply number 15)" \
     "from byte 0: 01 01 01 05 01 [80] offset 5 (0x5)" '\001\001\001\005\001\200'
-ends "1 5 15 4 the reading ends at byte 4, the desk of record 1 (collect): 15, it is missing: the sheet ends here" \
+ends "1 5 15 4 the reading ends at byte 4: the desk of record 1 (collect) is missing (reply number 15)" \
     "from byte 0: 01 01 01 05 [end] offset 4 (0x4)" '\001\001\001\005'
-ends "1 5 15 4 the reading ends at byte 4, the desk of record 1 (collect): 15, it is cut off: the sheet has 6 bytes" \
+ends "1 5 15 4 the reading ends at byte 4: the desk of record 1 (collect) is cut off after 2 bytes (reply number 15)" \
     "from byte 0: 01 01 01 05 [80 80] offset 4 (0x4)" '\001\001\001\005\200\200'
-ends "1 2 16 5 the reading ends at byte 5, the screen of record 1 (drop): 16, it does not end within three bytes" \
+ends "1 2 16 5 the reading ends at byte 5: the screen of record 1 (drop) is longer than three bytes (reply number 16)" \
     "from byte 0: 01 01 01 02 01 [ff ff ff] 01 offset 5 (0x5)" '\001\001\001\002\001\377\377\377\001'
-ends "1 1 16 6 the reading ends at byte 6, the position of record 1 (take): 16, it is 2,097,151, over 65,535" \
+ends "1 1 16 6 the reading ends at byte 6: the position of record 1 (take) is 2,097,151, over 65,535 (reply number 16)" \
     "from byte 0: 01 01 01 01 01 01 [ff ff 7f] offset 6 (0x6)" '\001\001\001\001\001\001\377\377\177'
 # Padded numbers before it: the header has seven bytes, the swap's code, desk and position have eight.
-ends "1 3 15 15 the reading ends at byte 15, the session of record 1 (swap): 15, it is cut off: the sheet has 16 bytes" \
+ends "1 3 15 15 the reading ends at byte 15: the session of record 1 (swap) is cut off after 1 byte (reply number 15)" \
     "from byte 7: 83 80 00 81 00 81 80 00 [ac] offset 15 (0xf)" \
     '\201\000\201\000\201\200\000\203\200\000\201\000\201\200\000\254'
-ends "2 9 17 0 the reading ends at byte 5, the code of record 2: 17, no step has code 9; the codes are 1 to 5" \
+ends "2 9 17 0 the reading ends at byte 5: the code of record 2 is 9, but the codes are 1 to 5 (reply number 17)" \
     "from byte 0: 01 01 01 05 01 [09] 01 offset 5 (0x5)" '\001\001\001\005\001\011\001'
 # The greatest offset: 65,536 bytes, and the desk of the last collect should follow them.
 "$python" -c 'import sys; sys.stdout.buffer.write(b"\1\1\1" + 32766 * b"\5\1" + b"\5")' >full.sheet
 cat >full.meaning <<'END'
-32767 5 15 65536   the reading ends at byte 65536, the desk of record 32767 (collect): 15, it is missing: the sheet ends here
+32767 5 15 65536   the reading ends at byte 65536: the desk of record 32767 (collect) is missing (reply number 15)
                    from byte 65528: 01 05 01 05 01 05 01 05 [end]   offset 65536 (0x10000)
 end 32766 0 0      32,766 steps accepted, 0 refused by the board, 0 sessions handed back
 END
@@ -290,7 +291,7 @@ END
 sheet explain closed.sheet --program "$program" >out
 same "explain: 1" expected out
 cat >expected <<'END'
-0 0 18 0    the reading ends with 18, a sheet has at most 65,536 bytes
+0 0 18 0    the reading ends before the header: a sheet has at most 65,536 bytes (reply number 18)
 end 0 0 0   0 steps accepted, 0 refused by the board, 0 sessions handed back
 END
 sheet explain long.sheet --program "$program" >out
@@ -350,38 +351,38 @@ byte 16: the desk of record 3 (collect)
 record 3: byte 15 (0xf), 2 bytes: 05 80
 no text: the reading ends here
 byte 15: 05   code: 5 (collect)
-byte 16: 80   desk: refused with 15, it is cut off: the sheet has 17 bytes
+byte 16: 80   desk: cut off after 1 byte (reply number 15)
 END
 found --record 1 unknown.sheet <<'END'
 record 1: byte 3 (0x3), 1 byte: 09
 no text: the reading ends here
-byte 3: 09   code: refused with 17, no step has code 9; the codes are 1 to 5
+byte 3: 09   code: 9, but the codes are 1 to 5 (reply number 17)
 END
 found --byte 65536 full.sheet <<'END'
 byte 65536: the sheet ends here; the desk of record 32767 (collect) is missing
 record 32767: byte 65535 (0xffff), 1 byte: 05
 no text: the reading ends here
 byte 65535: 05      code: 5 (collect)
-byte 65536: [end]   desk: refused with 15, it is missing: the sheet ends here
+byte 65536: [end]   desk: missing (reply number 15)
 END
 found --byte 0 empty.sheet <<'END'
 byte 0: the sheet ends here; number P of the header (desks) is missing
 header: byte 0 (0x0), 0 bytes: none
 no text: the reading ends here
-byte 0: [end]   P (desks): refused with 15, it is missing: the sheet ends here
+byte 0: [end]   P (desks): missing (reply number 15)
 END
 
 # Records and bytes that are not there, or after the end of the reading.
-ends_at="the reading ends at byte 16, the desk of record 3 (collect): 15, it is cut off: the sheet has 17 bytes"
+ends_at="the reading ends at byte 16: the desk of record 3 (collect) is cut off after 1 byte (reply number 15)"
 refused 2 "d.sheet: no record 9; the sheet has 8 records, and the header is record 0" find d.sheet --record 9
 refused 2 "d.sheet: no byte 27; the sheet has 27 bytes, counted from 0" find d.sheet --byte 27
-refused 2 "padded.sheet: record 4 is not read: $ends_at" find padded.sheet --record 4
+refused 2 "padded.sheet: record 4 is not read; $ends_at" find padded.sheet --record 4
 refused 2 "padded.sheet: no byte 17; the sheet has 17 bytes, counted from 0" find padded.sheet --byte 17
-refused 2 "unknown.sheet: byte 4 is not read: the reading ends at byte 3, the code of record 1: 17, no step has code 9; the codes are 1 to 5" \
+refused 2 "unknown.sheet: byte 4 is not read; the reading ends at byte 3: the code of record 1 is 9, but the codes are 1 to 5 (reply number 17)" \
     find unknown.sheet --byte 4
 refused 2 "empty.sheet: no byte 1; the sheet has 0 bytes, counted from 0" find empty.sheet --byte 1
-refused 2 "long.sheet: byte 0 is not read: the reading ends with 18, a sheet has at most 65,536 bytes" find long.sheet --byte 0
-refused 2 "long.sheet: byte 65536 is not read: the reading ends with 18, a sheet has at most 65,536 bytes" find long.sheet --byte 65536
+refused 2 "long.sheet: byte 0 is not read; $too_long" find long.sheet --byte 0
+refused 2 "long.sheet: byte 65536 is not read; $too_long" find long.sheet --byte 65536
 refused 2 "'find' needs either --record N or --byte N" find d.sheet
 refused 2 "'find' needs either --record N or --byte N" find d.sheet --record 1 --byte 1
 refused 2 "--record 'x1': not a number from 0 to 65,536" find d.sheet --record x1
@@ -427,16 +428,16 @@ refused 2 "end: the program printed 7 1 2, but by documents 01 and 02 it is 7 1 
 [ ! -e wrong.svg ] || fail "a picture of wrong lines was written"
 printf '0 0 0 0\n1 5 0 0\n2 1 0 0\nend 2 0 0\n' >wrong.lines
 sheet explain cut.sheet --lines wrong.lines >out
-grep -qx '2 1 0 0     reply 0, though the reading ends at byte 7, the screen of record 2 (take): 15, .*' out || fail "explain: a wrong end"
+grep -qx '2 1 0 0     reply 0, though the reading ends at byte 7: the screen of record 2 (take) is missing (reply number 15)' out || fail "explain: a wrong end"
 passed
 printf '0 0 0 0\n1 5 0 0\n2 1 15 6\nend 1 0 0\n' >wrong.lines
 sheet explain cut.sheet --lines wrong.lines >out
-grep -qx '2 1 15 6    session 6, but it should be 7: the reading ends at byte 7, the screen of record 2 (take): 15, .*' out ||
+grep -qx '2 1 15 6    session 6, but it should be 7: the reading ends at byte 7: the screen of record 2 (take) is missing (reply number 15)' out ||
     fail "explain: a wrong offset"
 passed
 printf '0 0 0 0\n1 9 17 3\nend 0 0 0\n' >unknown.lines
 sheet explain unknown.sheet --lines unknown.lines >out
-grep -qx '1 9 17 3    session 3, but it should be 0: the reading ends at byte 3, the code of record 1: 17, .*' out ||
+grep -qx '1 9 17 3    session 3, but it should be 0: the reading ends at byte 3: the code of record 1 is 9, but the codes are 1 to 5 (reply number 17)' out ||
     fail "explain: 17 with an offset"
 passed
 refused 2 "record 2: the program printed 15 6, but by documents 01 and 02 it is 15 7; nothing is drawn" \

@@ -7,11 +7,11 @@ HALL_LETTERS = dict(zip(HALL_FIELDS, "PcL"))
 
 
 def where_and_why(fault):
-    """'the reading ends at byte 12, the screen of record 3 (take): 16, it does not end within three bytes'"""
+    """'the reading ends at byte 12: the screen of record 3 (take) is longer than three bytes (reply number 16)'"""
     if fault.reply == 18:
-        return f"the reading ends with 18, {REASONS[18]}"
-    where = number_in_words(fault.record, fault.code, fault.number.field)
-    return f"the reading ends at byte {fault.number.start}, {where}: {why(fault)}"
+        return f"the reading ends before the header: {REASONS[18]} (reply number 18)"
+    name = number_in_words(fault.record, fault.code, fault.number.field)
+    return f"the reading ends at byte {fault.number.start}: {name} is {why(fault)}"
 
 
 def number_in_words(record, code, field):
@@ -23,17 +23,18 @@ def number_in_words(record, code, field):
 
 
 def why(fault):
-    return f"{fault.reply}, {reason(fault)}"
+    """'longer than three bytes (reply number 16)'"""
+    return f"{reason(fault)} (reply number {fault.reply})"
 
 
 def reason(fault):
+    """What is wrong with the number, in words that can follow 'it is'."""
     number = fault.number
-    if fault.reply == 15 and number.start == number.end:
-        return "it is missing: the sheet ends here"
+    length = number.end - number.start
     if fault.reply == 15:
-        return f"it is cut off: the sheet has {plural(number.end, 'byte')}"
+        return f"cut off after {plural(length, 'byte')}" if length else "missing"
     if fault.reply == 17:
-        return f"no step has code {fault.code}; the codes are 1 to 5"
+        return f"{fault.code}, but the codes are 1 to 5"
     if number.value is None:
-        return "it does not end within three bytes"
-    return f"it is {number.value:,}, over {MAX_NUMBER:,}"
+        return "longer than three bytes"
+    return f"{number.value:,}, over {MAX_NUMBER:,}"

@@ -40,14 +40,14 @@ def meaning(sheet, number):
     letter = HALL_LETTERS.get(number.field)
     name = f"{letter} ({number.field})" if letter else number.field
     if sheet.fault and number is sheet.fault.number:
-        return f"{name}: refused with {why(sheet.fault)}"
+        return f"{name}: {why(sheet.fault)}"
     step = f" ({STEPS[number.value].name})" if number.field == "code" else ""
     return f"{name}: {number.value}{step}"
 
 
 def no_record(sheet, record):
     if sheet.fault:
-        return f"record {record} is not read: {where_and_why(sheet.fault)}"
+        return f"record {record} is not read; {where_and_why(sheet.fault)}"
     return f"no record {record}; the sheet has {plural(len(sheet.records), 'record')}, and the header is record 0"
 
 
@@ -76,5 +76,5 @@ def byte_in_words(byte, sheet, record, number):
 
 def no_byte(data, sheet, byte):
     if sheet.fault and byte < len(data):
-        return f"byte {byte} is not read: {where_and_why(sheet.fault)}"
+        return f"byte {byte} is not read; {where_and_why(sheet.fault)}"
     return f"no byte {byte}; the sheet has {plural(len(data), 'byte')}, counted from 0"
