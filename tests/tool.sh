@@ -426,20 +426,19 @@ sed 's/^end .*/end 7 1 2/' d.lines >wrong.lines
 refused 2 "end: the program printed 7 1 2, but by documents 01 and 02 it is 7 1 1; nothing is drawn" \
     picture d.sheet wrong.svg --lines wrong.lines
 [ ! -e wrong.svg ] || fail "a picture of wrong lines was written"
-printf '0 0 0 0\n1 5 0 0\n2 1 0 0\nend 2 0 0\n' >wrong.lines
-sheet explain cut.sheet --lines wrong.lines >out
-grep -qx '2 1 0 0     reply 0, though the reading ends at byte 7: the screen of record 2 (take) is missing (reply number 15)' out || fail "explain: a wrong end"
-passed
-printf '0 0 0 0\n1 5 0 0\n2 1 15 6\nend 1 0 0\n' >wrong.lines
-sheet explain cut.sheet --lines wrong.lines >out
-grep -qx '2 1 15 6    session 6, but it should be 7: the reading ends at byte 7: the screen of record 2 (take) is missing (reply number 15)' out ||
-    fail "explain: a wrong offset"
-passed
-printf '0 0 0 0\n1 9 17 3\nend 0 0 0\n' >unknown.lines
-sheet explain unknown.sheet --lines unknown.lines >out
-grep -qx '1 9 17 3    session 3, but it should be 0: the reading ends at byte 3: the code of record 1 is 9, but the codes are 1 to 5 (reply number 17)' out ||
-    fail "explain: 17 with an offset"
-passed
+
+# corrected LINE SHEET LINES: with these lines, a printf format, 'explain' prints this line, which says what is wrong.
+corrected() {
+    printf "$3" >wrong.lines
+    sheet explain "$2" --lines wrong.lines >out
+    grep -qxF "$1" out || { cat out; fail "explain: not '$1'"; }
+    passed
+}
+ends_at="the reading ends at byte 3: the code of record 1 is 9, but the codes are 1 to 5 (reply number 17)"
+corrected "1 9 17 3    the last column is 3, but it should be 0; $ends_at" unknown.sheet '0 0 0 0\n1 9 17 3\nend 0 0 0\n'
+ends_at="the reading ends at byte 7: the screen of record 2 (take) is missing (reply number 15)"
+corrected "2 1 0 0     the reply number is 0, but it should be 15; $ends_at" cut.sheet '0 0 0 0\n1 5 0 0\n2 1 0 0\nend 2 0 0\n'
+corrected "2 1 15 6    the last column is 6, but it should be 7; $ends_at" cut.sheet '0 0 0 0\n1 5 0 0\n2 1 15 6\nend 1 0 0\n'
 refused 2 "record 2: the program printed 15 6, but by documents 01 and 02 it is 15 7; nothing is drawn" \
     picture cut.sheet wrong.svg --lines wrong.lines
 

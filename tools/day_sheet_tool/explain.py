@@ -34,9 +34,9 @@ def reading_ends(fault, line):
     """Where and why the reading ends; first what the line says differently."""
     ends = where_and_why(fault)
     if line.reply != fault.reply:
-        return f"reply {line.reply}, though {ends}"
+        return f"the reply number is {line.reply}, but it should be {fault.reply}; {ends}"
     if line.session != fault.session:
-        return f"session {line.session}, but it should be {fault.session}: {ends}"
+        return f"the last column is {line.session}, but it should be {fault.session}; {ends}"
     return ends
 
 

@@ -23,7 +23,7 @@ class Fault(namedtuple("Fault", "reply record code number")):
 
     @property
     def session(self):
-        """The session column of its line: for 15 and 16 the offset of the number's first byte."""
+        """The last column of its line: for 15 and 16 the offset of the number's first byte, else 0."""
         return self.number.start if self.reply in WITH_OFFSET else 0
 
 
