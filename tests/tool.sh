@@ -372,6 +372,72 @@ no text: the reading ends here
 byte 0: [end]   P (desks): missing (reply number 15)
 END
 
+# A hall that is refused: 'decode' writes the records and 'find' finds them, and both say that the program does not read them.
+no_record="the hall is refused and the program reads no record"
+bad_desks="$no_record: number P of the header (desks) is 17, but a hall has 1 to 16 desks (reply number 1)"
+bad_screens="$no_record: number c of the header (screens per desk) is 5, but a desk has 1 to 4 screens (reply number 2)"
+bad_positions="$no_record: number L of the header (positions) is 0, but a hall has 1 to 64 positions (reply number 3)"
+printf '\021\001\001\005\200' >desks.sheet
+printf '\001\005\001\005\001\011\001' >screens.sheet
+printf '\001\001\200\000\005\001' >positions.sheet
+
+# decoded MESSAGE SHEET: 'decode' writes the lines of standard input and this message; its status is 2.
+decoded() {
+    cat >expected
+    status=0
+    sheet decode "$2" >out 2>err || status=$?
+    [ "$status" -eq 2 ] || fail "decode $2: status $status"
+    same "decode $2" expected out
+    echo "sheet: $2: $1" >expected
+    same "decode $2: its message" expected err
+}
+cut_off="with a valid hall, the reading ends at byte 4: the desk of record 1 (collect) is cut off after 1 byte (reply number 15)"
+decoded "$bad_desks; $cut_off" desks.sheet <<'END'
+hall 17 1 1   # header, byte 0
+END
+bad_code="with a valid hall, the reading ends at byte 5: the code of record 2 is 9, but the codes are 1 to 5 (reply number 17)"
+decoded "$bad_screens; $bad_code" screens.sheet <<'END'
+hall 1 5 1   # header, byte 0
+collect 1    # record 1, byte 3
+END
+decoded "$bad_positions" positions.sheet <<'END'
+hall 1 1 0   # header, byte 0
+collect 1    # record 1, byte 4
+END
+found --byte 4 desks.sheet <<END
+byte 4: the desk of record 1 (collect)
+record 1: byte 3 (0x3), 2 bytes: 05 80
+$bad_desks
+no text: with a valid hall, the reading ends here
+byte 3: 05   code: 5 (collect)
+byte 4: 80   desk: cut off after 1 byte (reply number 15)
+END
+found --record 1 screens.sheet <<END
+record 1: byte 3 (0x3), 2 bytes: 05 01
+$bad_screens
+text: collect 1
+byte 3: 05   code: 5 (collect)
+byte 4: 01   desk: 1
+END
+found --byte 5 positions.sheet <<END
+byte 5: the desk of record 1 (collect)
+record 1: byte 4 (0x4), 2 bytes: 05 01
+$bad_positions
+text: collect 1
+byte 4: 05   code: 5 (collect)
+byte 5: 01   desk: 1
+END
+found --record 0 positions.sheet <<'END'
+header: byte 0 (0x0), 4 bytes: 01 01 80 00
+text: hall 1 1 0
+byte 0: 01      P (desks): 1
+byte 1: 01      c (screens per desk): 1
+byte 2: 80 00   L (positions): 0, but a hall has 1 to 64 positions (reply number 3)
+END
+refused 2 "desks.sheet: record 2 is not read; $bad_desks; $cut_off" find desks.sheet --record 2
+refused 2 "screens.sheet: byte 6 is not read; $bad_screens; $bad_code" find screens.sheet --byte 6
+refused 2 "positions.sheet: no record 2; the sheet has 1 record, and the header is record 0" find positions.sheet --record 2
+
 # Records and bytes that are not there, or after the end of the reading.
 ends_at="the reading ends at byte 16: the desk of record 3 (collect) is cut off after 1 byte (reply number 15)"
 refused 2 "d.sheet: no record 9; the sheet has 8 records, and the header is record 0" find d.sheet --record 9

@@ -7,7 +7,7 @@ import sys
 
 from .errors import UserError, plural
 from .explain import explained
-from .faults import where_and_why
+from .faults import ending
 from .files import read_sheet, read_text, reason, write_text
 from .find import find_byte, find_record
 from .lines import lines_of
@@ -112,8 +112,8 @@ def to_text(options):
     sheet = read(read_sheet(options.sheet))
     sys.stdout.write(decode(sheet))
     sys.stdout.flush()
-    if sheet.fault is not None:
-        raise UserError(f"{options.sheet}: {where_and_why(sheet.fault)}")
+    if ending(sheet):
+        raise UserError(f"{options.sheet}: {ending(sheet)}")
 
 
 def explain(options):

@@ -4,6 +4,13 @@ from .errors import plural
 from .steps import HALL_FIELDS, MAX_NUMBER, REASONS, STEPS
 
 HALL_LETTERS = dict(zip(HALL_FIELDS, "PcL"))
+OPENING = (1, 2, 3)  # the reply numbers of a hall that is refused
+
+
+def ending(sheet):
+    """Where and why the reading of a sheet ends; empty if it is read to its end."""
+    faults = filter(None, (sheet.refusal, sheet.fault))
+    return "; with a valid hall, ".join(map(where_and_why, faults))
 
 
 def where_and_why(fault):
@@ -11,6 +18,8 @@ def where_and_why(fault):
     if fault.reply == 18:
         return f"the reading ends before the header: {REASONS[18]} (reply number 18)"
     name = number_in_words(fault.record, fault.code, fault.number.field)
+    if fault.reply in OPENING:
+        return f"the hall is refused and the program reads no record: {name} is {why(fault)}"
     return f"the reading ends at byte {fault.number.start}: {name} is {why(fault)}"
 
 
@@ -30,6 +39,8 @@ def why(fault):
 def reason(fault):
     """What is wrong with the number, in words that can follow 'it is'."""
     number = fault.number
+    if fault.reply in OPENING:
+        return f"{number.value:,}, but {REASONS[fault.reply]}"
     length = number.end - number.start
     if fault.reply == 15:
         return f"cut off after {plural(length, 'byte')}" if length else "missing"

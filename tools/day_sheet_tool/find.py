@@ -2,7 +2,7 @@
 
 from .dump import in_hex
 from .errors import UserError, plural
-from .faults import HALL_LETTERS, number_in_words, where_and_why, why
+from .faults import HALL_LETTERS, ending, number_in_words, where_and_why, why
 from .steps import STEPS
 from .text import record_name, record_text
 
@@ -15,13 +15,16 @@ def find_record(data, sheet, record):
         raise UserError(no_record(sheet, record))
     first, end = sheet.numbers[record][0].start, sheet.numbers[record][-1].end
     head = f"{record_name(record)}: byte {first} ({first:#x}), {plural(end - first, 'byte')}"
-    lines = [f"{head}: {in_hex(data[first:end]) or 'none'}", text_line(sheet, record)]
+    lines = [f"{head}: {in_hex(data[first:end]) or 'none'}"]
+    if record > 0 and sheet.refusal:
+        lines.append(where_and_why(sheet.refusal))
+    lines.append(text_line(sheet, record))
     return "\n".join(lines + number_lines(data, sheet, record)) + "\n"
 
 
 def text_line(sheet, record):
     if sheet.fault and record == sheet.fault.record:
-        return "no text: the reading ends here"
+        return f"no text: {'with a valid hall, ' if sheet.refusal else ''}the reading ends here"
     return f"text: {record_text(sheet, record)}"
 
 
@@ -36,18 +39,19 @@ def number_lines(data, sheet, record):
 
 
 def meaning(sheet, number):
-    """'desk: 1', or why the number ends the reading."""
+    """'desk: 1', or what is wrong with the number."""
     letter = HALL_LETTERS.get(number.field)
     name = f"{letter} ({number.field})" if letter else number.field
-    if sheet.fault and number is sheet.fault.number:
-        return f"{name}: {why(sheet.fault)}"
+    for fault in filter(None, (sheet.refusal, sheet.fault)):
+        if number is fault.number:
+            return f"{name}: {why(fault)}"
     step = f" ({STEPS[number.value].name})" if number.field == "code" else ""
     return f"{name}: {number.value}{step}"
 
 
 def no_record(sheet, record):
     if sheet.fault:
-        return f"record {record} is not read; {where_and_why(sheet.fault)}"
+        return f"record {record} is not read; {ending(sheet)}"
     return f"no record {record}; the sheet has {plural(len(sheet.records), 'record')}, and the header is record 0"
 
 
@@ -76,5 +80,5 @@ def byte_in_words(byte, sheet, record, number):
 
 def no_byte(data, sheet, byte):
     if sheet.fault and byte < len(data):
-        return f"byte {byte} is not read; {where_and_why(sheet.fault)}"
+        return f"byte {byte} is not read; {ending(sheet)}"
     return f"no byte {byte}; the sheet has {plural(len(data), 'byte')}, counted from 0"

@@ -2,12 +2,8 @@
 
 from collections import namedtuple
 
+from .board import opening
 from .steps import HALL_FIELDS, MAX_BYTES, MAX_NUMBER, STEPS, Record
-
-# The contents of a sheet, up to the end of its reading. The hall is None if it could not be read; numbers[N] has the
-# numbers of record N (0 is the header), also the one that ends the reading; fault is None if the whole sheet could be
-# read.
-Sheet = namedtuple("Sheet", "hall records numbers fault")
 
 # A number of a sheet: its field ("code" for a step code), the offset of its first byte, the offset after its last
 # byte, and its value, which is None for a number that does not end.
@@ -25,6 +21,19 @@ class Fault(namedtuple("Fault", "reply record code number")):
     def session(self):
         """The last column of its line: for 15 and 16 the offset of the number's first byte, else 0."""
         return self.number.start if self.reply in WITH_OFFSET else 0
+
+
+class Sheet(namedtuple("Sheet", "hall records numbers fault")):
+    """The contents of a sheet, up to the number that ends its reading. The hall is None if it could not be read;
+    numbers[N] has the numbers of record N (0 is the header), also the one that ends the reading; fault is None if the
+    whole sheet could be read. The records after a hall that is refused are here too, though the program does not read
+    them."""
+
+    @property
+    def refusal(self):
+        """Why the hall is refused: 1, 2 or 3 and the number of the header. None if it is not."""
+        reply = opening(self.hall) if self.hall else 0
+        return Fault(reply, 0, 0, self.numbers[0][reply - 1]) if reply else None
 
 
 class Refused(Exception):
