@@ -43,13 +43,14 @@ link() {
     gcc $warnings -I"$root/include" -I"$root/tests/c" "$@" "$SESSION_BOARD_LIB/libsession_board.a" -o "$built"
 }
 
-reference_tests() {
-    cargo test --quiet --offline --release --manifest-path "$root/tests/reference/Cargo.toml" \
+# tests_of CRATE: the tests in Rust of a crate of tests/
+tests_of() {
+    cargo test --quiet --offline --release --manifest-path "$root/tests/$1/Cargo.toml" \
         --tests >"$log.full" 2>&1 || { cat "$log.full"; return 1; }
-    awk '/^test result: ok/ { n += $4 } END { print "reference: " n " tests passed" }' "$log.full"
+    awk -v crate="$1" '/^test result: ok/ { n += $4 } END { print crate ": " n " tests passed" }' "$log.full"
 }
 
-step "reference" 1 reference_tests
+step "reference" 1 tests_of reference
 step "building compare" 0 build compare
 step "compare" 1 "$CARGO_TARGET_DIR/release/compare"
 step "vectors" 1 "$CARGO_TARGET_DIR/release/vectors" "$root"/tests/vectors/*-calls.txt
@@ -57,6 +58,7 @@ step "building host_test" 0 link host_test "$root/tests/host/host_test.c" "$root
 step "host_test" 1 "$CARGO_TARGET_DIR/host_test"
 step "building sheets" 0 build sheets
 step "building the sheet program in Rust" 0 build reference
+step "the tests of sheet_vectors" 0 tests_of sheets
 step "sheet_vectors" 1 "$CARGO_TARGET_DIR/release/sheet_vectors" --day_sheet "$program" \
     "$CARGO_TARGET_DIR/release/day_sheet_reference" "$root"/tests/vectors/*-sheets.txt
 step "sheets" 1 "$CARGO_TARGET_DIR/release/sheets" "$program" \
