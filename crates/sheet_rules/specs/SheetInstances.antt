@@ -11,7 +11,7 @@ use Rattle.rules.specs.Numbers.{Parsed, Refusal, parsed, refusal, refusalOf, re
 use Rattle.sheet_rules.specs.Edition1.{Format, NumberReader, encodeNumber}
 use Rattle.sheet_rules.specs.Lawful.{CarriedHolds, Lawful, LawfulNumbers, Moved, ReadsBack, RefusedAt, Stands}
 use Rattle.sheet_rules.specs.Lines.{endLine, line}
-use Rattle.sheet_rules.specs.Offsets.{NumbersBetween, Located, NumberThen, EditionOfNumbers, NumbersFill, OfNumbers, PrintsRefusal, ShowsByte, WholeLines, refusesNumber}
+use Rattle.sheet_rules.specs.Offsets.{EditionOfNumbers, Located, NumberThen, NumbersBetween, NumbersFill, OfNumbers, PrintsRefusal, ShowsByte, WholeLines, refusesNumber}
 use Rattle.sheet_rules.specs.Sheet.{Accepted, EachGood, Edition, GoodMeaning, GoodRecord, Meaning, Record, isCode, lastDesk, noDesk, opened, openingNumber}
 use Rattle.sheet_rules.specs.Sheet.{reading, recordFor, whole}
 

@@ -10,7 +10,7 @@ use lib.Seq.{take-take}
 use Rattle.rules.specs.Numbers.{Parsed, Refusal, bind, maxNumber, parsed, refusalOf, refused}
 use Rattle.sheet_rules.specs.Edition1.{Format, NumberReader, decodeField, decodeFields, decodeHeader, decodeRecord, decodeRest, edition1, withCode}
 use Rattle.sheet_rules.specs.Lawful.{LawfulNumbers}
-use Rattle.sheet_rules.specs.Offsets.{NumbersBetween, Located, EditionOfNumbers, NumbersFill, OfNumbers, refusesNumber}
+use Rattle.sheet_rules.specs.Offsets.{EditionOfNumbers, Located, NumbersBetween, NumbersFill, OfNumbers, refusesNumber}
 use Rattle.sheet_rules.specs.Sheet.{deskField, follows, isCode, positionField, screenField, sessionField}
 use Rattle.sheet_rules.specs.laws.Parsing.{refused-not-parsed}
 

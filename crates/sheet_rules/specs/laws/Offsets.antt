@@ -15,12 +15,12 @@ use Rattle.rules.specs.Table.{openTable}
 use Rattle.sheet_rules.specs.Edition1.{Format}
 use Rattle.sheet_rules.specs.Lawful.{LawfulNumbers}
 use Rattle.sheet_rules.specs.Lines.{answerLine, decimal, endLine, line, linesFrom, linesOf, printed, refusalLine}
-use Rattle.sheet_rules.specs.Offsets.{NumbersBetween, Located, EditionOfNumbers, OfNumbers, PrintsRefusal, ShowsByte, WholeLines, ending, endingIn, refusesNumber}
+use Rattle.sheet_rules.specs.Offsets.{EditionOfNumbers, Located, NumbersBetween, OfNumbers, PrintsRefusal, ShowsByte, WholeLines, ending, endingIn, refusesNumber}
 use Rattle.sheet_rules.specs.Run.{runRecord}
 use Rattle.sheet_rules.specs.Sheet.{Carried, Edition, Reading, Record, Records, afterHeader, bindRecords, carriedAfter, complete, decodeRecords, lentTable}
 use Rattle.sheet_rules.specs.Sheet.{maxBytes, more, noDesk, opened, openedIf, openingNumber, reading, stop, unopened}
 use Rattle.sheet_rules.specs.Tally.{Tally, addStep, zeros}
-use Rattle.sheet_rules.specs.laws.NumbersBetween.{fill-inside, fill-kept, between-append, between-one, located-after, no-number, refused-past}
+use Rattle.sheet_rules.specs.laws.NumbersBetween.{between-append, between-one, fill-inside, fill-kept, located-after, no-number, refused-past}
 use Rattle.sheet_rules.specs.laws.Sheet.{opening-never-four, too-long}
 
 -- ---- Readings.
