@@ -305,22 +305,18 @@ found() {
 }
 
 # Records and their bytes, from a record and from a byte.
-found --record 1 d.sheet <<'END'
-record 1: byte 3 (0x3), 5 bytes: 03 01 01 ac 02
+swap_of_d="record 1: byte 3 (0x3), 5 bytes: 03 01 01 ac 02
 text: swap 1 1 300
 byte 3: 03      code: 3 (swap)
 byte 4: 01      desk: 1
 byte 5: 01      position: 1
-byte 6: ac 02   session: 300
+byte 6: ac 02   session: 300"
+found --record 1 d.sheet <<END
+$swap_of_d
 END
-found --byte 7 d.sheet <<'END'
+found --byte 7 d.sheet <<END
 byte 7: the second of the 2 bytes of the session of record 1 (swap)
-record 1: byte 3 (0x3), 5 bytes: 03 01 01 ac 02
-text: swap 1 1 300
-byte 3: 03      code: 3 (swap)
-byte 4: 01      desk: 1
-byte 5: 01      position: 1
-byte 6: ac 02   session: 300
+$swap_of_d
 END
 found --record 0 d.sheet <<'END'
 header: byte 0 (0x0), 3 bytes: 01 01 01

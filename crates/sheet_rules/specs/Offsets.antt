@@ -53,6 +53,7 @@ abbrev pub NumbersFill : NumberReader → List ℕ → ℕ → ℕ → ℕ → T
 NumbersFill readNumber sheet zero at end = at ≡ end
 NumbersFill readNumber sheet (suc count) at end = NumberThen readNumber sheet at (λ next. NumbersFill readNumber sheet count next end)
 
+-- Some count of numbers fills them.
 pub record NumbersBetween (format : Format) (sheet : List ℕ) (at end : ℕ) : Type 0 where
   pub count : ℕ
   pub numbers : NumbersFill (format .readNumber) sheet count at end
@@ -79,5 +80,5 @@ OfNumbers format sheet at (refused reason) = Located format sheet at reason
 
 -- An edition whose headers and records consist of numbers.
 pub record EditionOfNumbers (format : Format) (edition : Edition) : Type 0 where
-  pub header-numbers : (sheet : List ℕ) (at : ℕ) → OfNumbers format sheet at (edition .decodeHeader sheet at)
-  pub record-numbers : (carried : Carried) (sheet : List ℕ) (at : ℕ) → OfNumbers format sheet at (edition .decodeRecord carried sheet at)
+  pub header-of-numbers : (sheet : List ℕ) (at : ℕ) → OfNumbers format sheet at (edition .decodeHeader sheet at)
+  pub record-of-numbers : (carried : Carried) (sheet : List ℕ) (at : ℕ) → OfNumbers format sheet at (edition .decodeRecord carried sheet at)

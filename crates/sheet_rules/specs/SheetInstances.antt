@@ -150,7 +150,7 @@ module _ (format : Format) (sheet : List ℕ) where
 
   pub says-edition-of-numbers : (edition : Edition) → EditionOfNumbers format edition
       → OfNumbers format sheet 5 (edition .decodeHeader sheet 5) × OfNumbers format sheet 5 (edition .decodeRecord (lastDesk 3) sheet 5)
-  says-edition-of-numbers edition of-numbers = (of-numbers .header-numbers sheet 5, of-numbers .record-numbers (lastDesk 3) sheet 5)
+  says-edition-of-numbers edition of-numbers = (of-numbers .header-of-numbers sheet 5, of-numbers .record-of-numbers (lastDesk 3) sheet 5)
 
 pub says-prints-refusal : (text : List ℕ) (prints : PrintsRefusal text (refusalOf 3 15 8))
     → WholeLines (prints .before) × (text ≡ prints .before ++ (line (prints .index) 3 15 8 ++ endLine (prints .tally)))

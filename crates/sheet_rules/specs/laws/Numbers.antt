@@ -1,5 +1,5 @@
--- The numbers of a sheet: what is read has at least one byte and is at most the limit, and depends on nothing else; the shortest form is read
--- back; what is refused shows its own offset.
+-- The numbers of a sheet: what is read has at least one byte, is at most the limit, and depends on no other byte; the shortest form is read
+-- back; a refusal carries the offset of its number.
 use Prim.Native.Nat.{ℕ, zero, suc, _+_, _*_, _/_, _%_, _≤_, _<_}
 use native.Mathlib.Omega.{arith}
 use mathlib.Core.Path.{_≡_, refl, sym, ap, _∙_, subst}
@@ -92,25 +92,33 @@ drop-take (suc m) n (first ∷ list) =
     let same : suc m + n ≡ suc (m + n) = omega arith in
     ap (λ (k : ℕ). drop (suc m) (take k (first ∷ list))) same ∙ drop-take m n list
 
+take-kept : (at count next : ℕ) (sheet other : List ℕ) → next ≡ at + count → take next other ≡ take next sheet
+    → take count (drop at other) ≡ take count (drop at sheet)
+take-kept at count next sheet other e kept =
+    sym (drop-take at count other)
+    ∙ ap (λ (n : ℕ). drop at (take n other)) (sym e)
+    ∙ ap (drop at) kept
+    ∙ ap (λ (n : ℕ). drop at (take n sheet)) e
+    ∙ drop-take at count sheet
+
 number-kept : (limit : ℕ) (sheet other : List ℕ) (at value next : ℕ) → decodeNumber limit sheet at ≡ parsed value next
     → take next other ≡ take next sheet
     → decodeNumber limit other at ≡ parsed value next
 unfolding decodeNumber
 number-kept limit sheet other at value next e kept = of-groups (groupsIn 3 (drop at sheet)) refl e
   where
+    -- the bytes of the number, and then those that follow in the other sheet
+    own-bytes : (count : ℕ) → next ≡ at + count → drop at other ≡ take count (drop at sheet) ++ drop count (drop at other)
+    own-bytes count offset =
+        sym (take-append-drop count (drop at other))
+        ∙ ap (λ (own : List ℕ). own ++ drop count (drop at other)) (take-kept at count next sheet other offset kept)
+
     of-groups : (found : Groups) → groupsIn 3 (drop at sheet) ≡ found → decodeGroups limit at found ≡ parsed value next
         → decodeGroups limit at (groupsIn 3 (drop at other)) ≡ parsed value next
     of-groups (terminated groups) are q =
         let asked = asked-parsed (leb (valueOf groups) limit) _ _ value next q in
         let offset : next ≡ at + length groups = cc (asked .1) in
-        let own : take (length groups) (drop at other) ≡ take (length groups) (drop at sheet) =
-        sym (drop-take at (length groups) other) ∙ ap (λ (n : ℕ). drop at (take n other)) (sym offset)
-        ∙ ap (drop at) kept
-        ∙ ap (λ (n : ℕ). drop at (take n sheet)) offset ∙ drop-take at (length groups) sheet in
-        let again : drop at other ≡ take (length groups) (drop at sheet) ++ drop (length groups) (drop at other) =
-        sym (take-append-drop (length groups) (drop at other))
-        ∙ ap (λ (front : List ℕ). front ++ drop (length groups) (drop at other)) own in
-        ap (λ (bytes : List ℕ). decodeGroups limit at (groupsIn 3 bytes)) again
+        ap (λ (bytes : List ℕ). decodeGroups limit at (groupsIn 3 bytes)) (own-bytes (length groups) offset)
         ∙ ap (decodeGroups limit at) (groups-kept 3 (drop at sheet) (drop (length groups) (drop at other)) groups are)
         ∙ q
     of-groups truncated are q = absurd (refused-not-parsed q)
@@ -128,7 +136,7 @@ number-wider limit larger sheet at value next e wider = of-groups (groupsIn 3 (d
     of-groups truncated q = absurd (refused-not-parsed q)
     of-groups overlong q = absurd (refused-not-parsed q)
 
--- ---- What is refused shows its own offset.
+-- ---- A refusal carries the offset of its number.
 number-refused : (limit : ℕ) (sheet : List ℕ) (at : ℕ) (reason : Refusal) → decodeNumber limit sheet at ≡ refused reason
     → RefusedAt at reason
 unfolding decodeNumber

@@ -97,16 +97,16 @@ module _ (format : Format) (sheet : List ℕ) where
   after-numbers filled (refused reason) later = located-after filled later
 
   -- The law by which fields, records and headers hand an offset on: a parser of numbers, and then another.
-  bind-numbers : {A B : Type 0} (at : ℕ) (first : Parsed A) (rest : A → ℕ → Parsed B) → OfNumbers format sheet at first
+  bind-of-numbers : {A B : Type 0} (at : ℕ) (first : Parsed A) (rest : A → ℕ → Parsed B) → OfNumbers format sheet at first
       → ((value : A) (next : ℕ) → OfNumbers format sheet next (rest value next))
       → OfNumbers format sheet at (bind first rest)
-  bind-numbers at (parsed value next) rest filled later = after-numbers filled (rest value next) (later value next)
-  bind-numbers at (refused reason) rest located later = located
+  bind-of-numbers at (parsed value next) rest filled later = after-numbers filled (rest value next) (later value next)
+  bind-of-numbers at (refused reason) rest located later = located
 
   -- The code that a line shows does not change the offset.
-  coded-numbers : {A : Type 0} (at code : ℕ) (found : Parsed A) → OfNumbers format sheet at found → OfNumbers format sheet at (withCode code found)
-  coded-numbers at code (parsed value next) filled = filled
-  coded-numbers at code (refused reason) located = record { shows = located .shows; no-offset = located .no-offset }
+  coded-of-numbers : {A : Type 0} (at code : ℕ) (found : Parsed A) → OfNumbers format sheet at found → OfNumbers format sheet at (withCode code found)
+  coded-of-numbers at code (parsed value next) filled = filled
+  coded-of-numbers at code (refused reason) located = record { shows = located .shows; no-offset = located .no-offset }
 
   -- A refusal of no number shows no offset.
   pub no-number : (at code number : ℕ) → refusesNumber number ≡ false → Located format sheet at (refusalOf code number 0)
@@ -114,9 +114,9 @@ module _ (format : Format) (sheet : List ℕ) where
 
 -- ---- Edition 1.
 module _ {format : Format} (numbers : LawfulNumbers (format .readNumber)) (fits : format .maxSession ≤ maxNumber) where
-  number-numbers : (limit : ℕ) → (limit ≡ maxNumber) ⊎ (limit ≡ format .maxSession) → (sheet : List ℕ) (at : ℕ)
+  read-of-numbers : (limit : ℕ) → (limit ≡ maxNumber) ⊎ (limit ≡ format .maxSession) → (sheet : List ℕ) (at : ℕ)
       → OfNumbers format sheet at (format .readNumber limit sheet at)
-  number-numbers limit limited sheet at = by-result (format .readNumber limit sheet at) refl
+  read-of-numbers limit limited sheet at = by-result (format .readNumber limit sheet at) refl
     where
       small : limit ≤ maxNumber
       small = ⊎-elim (λ same. omega (arith, same)) (λ same. omega (arith, same, fits)) limited
@@ -133,46 +133,46 @@ module _ {format : Format} (numbers : LawfulNumbers (format .readNumber)) (fits 
           }
 
   any-number : (sheet : List ℕ) (at : ℕ) → OfNumbers format sheet at (format .readNumber maxNumber sheet at)
-  any-number = number-numbers maxNumber (inl refl)
+  any-number = read-of-numbers maxNumber (inl refl)
 
-  field-numbers : (present : Bool) (limit : ℕ) → (limit ≡ maxNumber) ⊎ (limit ≡ format .maxSession) → (sheet : List ℕ) (at : ℕ)
+  field-of-numbers : (present : Bool) (limit : ℕ) → (limit ≡ maxNumber) ⊎ (limit ≡ format .maxSession) → (sheet : List ℕ) (at : ℕ)
       → OfNumbers format sheet at (decodeField (format .readNumber) present limit sheet at)
-  field-numbers true limit limited sheet at = number-numbers limit limited sheet at
-  field-numbers false limit limited sheet at = between-none format sheet at
+  field-of-numbers true limit limited sheet at = read-of-numbers limit limited sheet at
+  field-of-numbers false limit limited sheet at = between-none format sheet at
 
-  rest-numbers : (code desk : ℕ) (sheet : List ℕ) (at : ℕ) → OfNumbers format sheet at (decodeRest format code desk sheet at)
-  rest-numbers code desk sheet at =
-      bind-numbers format sheet at (decodeField (format .readNumber) (follows code screenField) maxNumber sheet at) _
-      (field-numbers (follows code screenField) maxNumber (inl refl) sheet at) λ screen afterScreen.
-      bind-numbers format sheet afterScreen (decodeField (format .readNumber) (follows code positionField) maxNumber sheet afterScreen) _
-      (field-numbers (follows code positionField) maxNumber (inl refl) sheet afterScreen) λ position afterPosition.
-      bind-numbers format sheet afterPosition (decodeField (format .readNumber) (follows code sessionField) (format .maxSession) sheet afterPosition) _
-      (field-numbers (follows code sessionField) (format .maxSession) (inr refl) sheet afterPosition) λ session afterSession.
+  rest-of-numbers : (code desk : ℕ) (sheet : List ℕ) (at : ℕ) → OfNumbers format sheet at (decodeRest format code desk sheet at)
+  rest-of-numbers code desk sheet at =
+      bind-of-numbers format sheet at (decodeField (format .readNumber) (follows code screenField) maxNumber sheet at) _
+      (field-of-numbers (follows code screenField) maxNumber (inl refl) sheet at) λ screen afterScreen.
+      bind-of-numbers format sheet afterScreen (decodeField (format .readNumber) (follows code positionField) maxNumber sheet afterScreen) _
+      (field-of-numbers (follows code positionField) maxNumber (inl refl) sheet afterScreen) λ position afterPosition.
+      bind-of-numbers format sheet afterPosition (decodeField (format .readNumber) (follows code sessionField) (format .maxSession) sheet afterPosition) _
+      (field-of-numbers (follows code sessionField) (format .maxSession) (inr refl) sheet afterPosition) λ session afterSession.
       between-none format sheet afterSession
 
-  fields-numbers : (code : ℕ) (sheet : List ℕ) (at : ℕ) → OfNumbers format sheet at (decodeFields format code sheet at)
-  fields-numbers code sheet at =
-      bind-numbers format sheet at (decodeField (format .readNumber) (follows code deskField) maxNumber sheet at) _
-      (field-numbers (follows code deskField) maxNumber (inl refl) sheet at) λ desk afterDesk.
-      rest-numbers code desk sheet afterDesk
+  fields-of-numbers : (code : ℕ) (sheet : List ℕ) (at : ℕ) → OfNumbers format sheet at (decodeFields format code sheet at)
+  fields-of-numbers code sheet at =
+      bind-of-numbers format sheet at (decodeField (format .readNumber) (follows code deskField) maxNumber sheet at) _
+      (field-of-numbers (follows code deskField) maxNumber (inl refl) sheet at) λ desk afterDesk.
+      rest-of-numbers code desk sheet afterDesk
 
-  record-numbers : (sheet : List ℕ) (at : ℕ) → OfNumbers format sheet at (decodeRecord format sheet at)
+  record-of-numbers : (sheet : List ℕ) (at : ℕ) → OfNumbers format sheet at (decodeRecord format sheet at)
   unfolding decodeRecord
-  record-numbers sheet at =
-      bind-numbers format sheet at (format .readNumber maxNumber sheet at) _ (any-number sheet at) λ code afterCode. by-code code afterCode (isCode code)
+  record-of-numbers sheet at =
+      bind-of-numbers format sheet at (format .readNumber maxNumber sheet at) _ (any-number sheet at) λ code afterCode. by-code code afterCode (isCode code)
     where
       by-code : (code afterCode : ℕ) (is : Bool)
           → OfNumbers format sheet afterCode (cond is (withCode code (decodeFields format code sheet afterCode)) (refused (refusalOf code 17 0)))
-      by-code code afterCode true = coded-numbers format sheet afterCode code (decodeFields format code sheet afterCode) (fields-numbers code sheet afterCode)
+      by-code code afterCode true = coded-of-numbers format sheet afterCode code (decodeFields format code sheet afterCode) (fields-of-numbers code sheet afterCode)
       by-code code afterCode false = no-number format sheet afterCode code 17 refl
 
-  header-numbers : (sheet : List ℕ) (at : ℕ) → OfNumbers format sheet at (decodeHeader (format .readNumber) sheet at)
+  header-of-numbers : (sheet : List ℕ) (at : ℕ) → OfNumbers format sheet at (decodeHeader (format .readNumber) sheet at)
   unfolding decodeHeader
-  header-numbers sheet at =
-      bind-numbers format sheet at (format .readNumber maxNumber sheet at) _ (any-number sheet at) λ desks afterDesks.
-      bind-numbers format sheet afterDesks (format .readNumber maxNumber sheet afterDesks) _ (any-number sheet afterDesks) λ screens afterScreens.
-      bind-numbers format sheet afterScreens (format .readNumber maxNumber sheet afterScreens) _ (any-number sheet afterScreens) λ positions afterPositions.
+  header-of-numbers sheet at =
+      bind-of-numbers format sheet at (format .readNumber maxNumber sheet at) _ (any-number sheet at) λ desks afterDesks.
+      bind-of-numbers format sheet afterDesks (format .readNumber maxNumber sheet afterDesks) _ (any-number sheet afterDesks) λ screens afterScreens.
+      bind-of-numbers format sheet afterScreens (format .readNumber maxNumber sheet afterScreens) _ (any-number sheet afterScreens) λ positions afterPositions.
       between-none format sheet afterPositions
 
   pub edition1-of-numbers : EditionOfNumbers format (edition1 format)
-  edition1-of-numbers = record { header-numbers = header-numbers; record-numbers = λ carried. record-numbers }
+  edition1-of-numbers = record { header-of-numbers = header-of-numbers; record-of-numbers = λ carried. record-of-numbers }

@@ -41,7 +41,7 @@ module _ {format : Format} {edition : Edition} (of-numbers : EditionOfNumbers fo
   records-located : (most : ℕ) (carried : Carried) (at : ℕ) → EndLocated (endingIn (decodeRecords edition most carried sheet at)) at
   records-located zero carried at = tt
   records-located (suc most) carried at =
-      by-record (ltb at (length sheet)) (edition .decodeRecord carried sheet at) (of-numbers .record-numbers carried sheet at)
+      by-record (ltb at (length sheet)) (edition .decodeRecord carried sheet at) (of-numbers .record-of-numbers carried sheet at)
       (λ entry. records-located most (carriedAfter entry))
     where
       by-record : (inside : Bool) (found : Parsed Record) → OfNumbers format sheet at found
@@ -68,13 +68,21 @@ module _ {format : Format} {edition : Edition} (of-numbers : EditionOfNumbers fo
 
       by-length : (short : Bool)
           → EndLocated (ending (cond short (afterHeader edition sheet (edition .decodeHeader sheet 0)) (unopened (refusalOf 0 18 0)))) 0
-      by-length true = by-header (edition .decodeHeader sheet 0) (of-numbers .header-numbers sheet 0)
+      by-length true = by-header (edition .decodeHeader sheet 0) (of-numbers .header-of-numbers sheet 0)
       by-length false = no-number format sheet 0 0 18 refl
 
   pub ending-located : (reason : Refusal) → ending (reading edition sheet) ≡ some reason → Located format sheet 0 reason
   ending-located reason e = subst (λ (end : Option Refusal). EndLocated end 0) e reading-located
 
 -- ---- The byte that is shown.
+
+-- It is refused by the limit of all numbers, if sessions have this limit too.
+pub refused-there : {format : Format} → format .maxSession ≡ maxNumber → {sheet : List ℕ} {number offset : ℕ} → ShowsByte format sheet 0 number offset
+    → format .readNumber maxNumber sheet offset ≡ refusal 0 number offset
+refused-there {format} sessions {sheet} {number} {offset} byte =
+    let largest : byte .limit ≡ maxNumber = ⊎-elim (λ same. same) (λ same. same ∙ sessions) (byte .limited) in
+    ap (λ (n : ℕ). format .readNumber n sheet offset) (sym largest) ∙ byte .refuses
+
 module _ {format : Format} (numbers : LawfulNumbers (format .readNumber)) where
   -- It is at most the end of the sheet, and a sheet that is longer than 65,536 bytes shows none.
   pub offset-bounded : {edition : Edition} → EditionOfNumbers format edition → (sheet : List ℕ) (reason : Refusal) → ending (reading edition sheet) ≡ some reason
@@ -98,39 +106,33 @@ module _ {format : Format} (numbers : LawfulNumbers (format .readNumber)) where
           omega (arith, no-offset)
 
   module _ (sessions : format .maxSession ≡ maxNumber) where
-    refused-there : {sheet : List ℕ} {number offset : ℕ} → ShowsByte format sheet 0 number offset
-        → format .readNumber maxNumber sheet offset ≡ refusal 0 number offset
-    refused-there {sheet} {number} {offset} byte =
-        let largest : byte .limit ≡ maxNumber = ⊎-elim (λ same. same) (λ same. same ∙ sessions) (byte .limited) in
-        ap (λ (n : ℕ). format .readNumber n sheet offset) (sym largest) ∙ byte .refuses
-
     -- It is past all numbers that fill the first bytes.
     past-numbers : {sheet : List ℕ} {end number offset : ℕ} → NumbersBetween format sheet 0 end → ShowsByte format sheet 0 number offset → end ≤ offset
     past-numbers {sheet} {end} {number} {offset} filled byte =
         refused-past (format .readNumber) sheet numbers (filled .count) (byte .before .count) 0 end offset (refusalOf 0 number offset)
-        (filled .numbers) (byte .before .numbers) (refused-there byte)
+        (filled .numbers) (byte .before .numbers) (refused-there sessions byte)
 
     -- So a sheet has only one.
-    pub one-byte : {sheet : List ℕ} {number offset number′ offset′ : ℕ} → ShowsByte format sheet 0 number offset
-        → ShowsByte format sheet 0 number′ offset′
-        → (number ≡ number′) × (offset ≡ offset′)
-    one-byte {sheet} {number} {offset} {number′} {offset′} byte other = (same-number, same-offset)
+    pub one-byte : {sheet : List ℕ} {number offset otherNumber otherOffset : ℕ} → ShowsByte format sheet 0 number offset
+        → ShowsByte format sheet 0 otherNumber otherOffset
+        → (number ≡ otherNumber) × (offset ≡ otherOffset)
+    one-byte {sheet} {number} {offset} {otherNumber} {otherOffset} byte other = (same-number, same-offset)
       where
-        same-offset : offset ≡ offset′
+        same-offset : offset ≡ otherOffset
         same-offset = omega (arith, past-numbers (byte .before) other, past-numbers (other .before) byte)
 
-        same-number : number ≡ number′
+        same-number : number ≡ otherNumber
         same-number =
-            let both : refusal {A = ℕ} 0 number offset ≡ refusal 0 number′ offset′ = sym (refused-there byte) ∙ ap (format .readNumber maxNumber sheet) same-offset ∙ refused-there other in
-            let reasons : refusalOf 0 number offset ≡ refusalOf 0 number′ offset′ = cc in
+            let both : refusal {A = ℕ} 0 number offset ≡ refusal 0 otherNumber otherOffset = sym (refused-there sessions byte) ∙ ap (format .readNumber maxNumber sheet) same-offset ∙ refused-there sessions other in
+            let reasons : refusalOf 0 number offset ≡ refusalOf 0 otherNumber otherOffset = cc in
             ap (λ (reason : Refusal). reason .number) reasons
 
     -- And if the bytes before it stay and a number is read there, then the byte that is shown next is past that number.
-    pub mended-past : {sheet : List ℕ} (mended : List ℕ) {number offset value next number′ offset′ : ℕ} → ShowsByte format sheet 0 number offset
+    pub mended-past : {sheet : List ℕ} (mended : List ℕ) {number offset value next otherNumber otherOffset : ℕ} → ShowsByte format sheet 0 number offset
         → take offset mended ≡ take offset sheet
         → format .readNumber maxNumber mended offset ≡ parsed value next
-        → ShowsByte format mended 0 number′ offset′
-        → next ≤ offset′
+        → ShowsByte format mended 0 otherNumber otherOffset
+        → next ≤ otherOffset
     mended-past {sheet} mended {offset = offset} byte kept read = past-numbers (between-append format mended kept-before (between-one format mended read))
       where
         kept-before : NumbersBetween format mended 0 offset
