@@ -1,15 +1,16 @@
 -- For each result of the readers, the result of the rules' readers: the value and the next offset, or document 01's number.
 use Prim.Native.Nat.{ℕ}
 use Rattle.rules.specs.Hall.{Hall, hallOf}
-use Rattle.rules.specs.Numbers.{Parsed, decodeNumber, parsed, refusal}
+use Rattle.rules.specs.Numbers.{Padding, Parsed, Refusal, allowed, barred, decodeNumber, parsed, refusalOf, refused}
 use Rattle.sheet_rules.specs.Edition1.{Format}
 use Rattle.sheet_rules.specs.Sheet.{Carried, Record, lastDesk, noDesk, recordFor}
-use Rattle.reader.specs.declared.Fault.{Fault}
-use Rattle.reader.specs.declared.Fault.the-variants.{Ends, TooLarge}
+use Rattle.reader.specs.declared.Padding.{Padding as ReaderPadding}
+use Rattle.reader.specs.declared.Padding.the-variants.{Allowed, Barred}
+use Rattle.reader.specs.declared.Refusal.{Refusal as ReaderRefusal}
 use Rattle.reader.specs.declared.Number.{Number}
 use Rattle.reader.specs.declared.Number.the-variants.{Refused, Value}
 use Rattle.reader.specs.declared.ParsedRecord.{ParsedRecord}
-use Rattle.reader.specs.declared.ParsedRecord.the-variants.{NoCode, Refused as RefusedRecord, Whole as WholeRecord}
+use Rattle.reader.specs.declared.ParsedRecord.the-variants.{Refused as RefusedRecord, Whole as WholeRecord}
 use Rattle.reader.specs.declared.Format.{Format as ReaderFormat}
 use Rattle.reader.specs.declared.Carried.{Carried as CarriedOver}
 use Rattle.reader.specs.declared.Carried.the-variants.{LastDesk, NoDesk}
@@ -18,19 +19,20 @@ use Rattle.reader.specs.declared.Header.{Header}
 use Rattle.reader.specs.declared.ParsedHeader.{ParsedHeader}
 use Rattle.reader.specs.declared.ParsedHeader.the-variants.{Refused as RefusedHeader, Whole as WholeHeader}
 
--- "does it end within three bytes and at most 65,535? 16; did the sheet go on to its end? 15"
-abbrev pub numberOf : Fault → ℕ
-numberOf Ends = 15
-numberOf TooLarge = 16
+abbrev pub reasonOf : ReaderRefusal → Refusal
+reasonOf reason = refusalOf (reason .code) (reason .number) (reason .offset)
 
--- The refusal of a number has code 0; the reader of a record puts the record's code there.
 abbrev pub numberResult : Number → Parsed ℕ
 numberResult (Value value next) = parsed value next
-numberResult (Refused fault first) = refusal 0 (numberOf fault) first
+numberResult (Refused reason) = refused (reasonOf reason)
 
--- The rules' format for a reader's format: numbers are read by `decodeNumber`.
+-- The rules' format for a reader's format.
+abbrev pub paddingOf : ReaderPadding → Padding
+paddingOf Allowed = allowed
+paddingOf Barred = barred
+
 abbrev pub formatOf : ReaderFormat → Format
-formatOf format = record { readNumber = decodeNumber; maxSession = format .«max_session» }
+formatOf format = record { readNumber = decodeNumber (paddingOf (format .padding)); maxSession = format .«max_session» }
 
 abbrev pub carriedOf : CarriedOver → Carried
 carriedOf NoDesk = noDesk
@@ -39,15 +41,13 @@ carriedOf (LastDesk desk) = lastDesk desk
 abbrev pub recordOf : ReadRecord → Record
 recordOf entry = recordFor (entry .code) (entry .desk) (entry .screen) (entry .position) (entry .session)
 
--- "Is the code 1 to 5? 17"
 abbrev pub recordResult : ParsedRecord → Parsed Record
 recordResult (WholeRecord entry next) = parsed (recordOf entry) next
-recordResult (RefusedRecord code fault first) = refusal code (numberOf fault) first
-recordResult (NoCode code) = refusal code 17 0
+recordResult (RefusedRecord reason) = refused (reasonOf reason)
 
 abbrev pub headerOf : Header → Hall
 headerOf header = hallOf (header .desks) (header .screens) (header .positions)
 
 abbrev pub headerResult : ParsedHeader → Parsed Hall
 headerResult (WholeHeader header next) = parsed (headerOf header) next
-headerResult (RefusedHeader fault first) = refusal 0 (numberOf fault) first
+headerResult (RefusedHeader reason) = refused (reasonOf reason)

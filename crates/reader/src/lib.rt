@@ -5,44 +5,121 @@ use fields::SESSION;
 use fields::follows;
 ghost use mathlib.Core.Path.{_≡_};
 ghost use Prim.Native.Nat.{_≤_, _<_};
-ghost use Rattle.rules.specs.Numbers.{decodeNumber, withinLimit};
-ghost use Rattle.sheet_rules.specs.Edition1.{decodeField, decodeFields, decodeHeader, decodeRest, edition1, withCode};
-ghost use Rattle.sheet_rules.specs.Sheet.{follows as followsCode};
-ghost use Rattle.reader.specs.Results.{carriedOf, formatOf, headerResult, numberOf, numberResult, recordResult};
+ghost use Rattle.rules.specs.Numbers.{judge as judged, refusal, refusalOf, takes as takesPadded};
+ghost use Rattle.sheet_rules.specs.Edition1.{decodeField, decodeFields, decodeRest, edition1, withCode};
+ghost use Rattle.sheet_rules.specs.Sheet.{beginSheet, follows as followsCode};
+ghost use Rattle.reader.specs.Results.{carriedOf, formatOf, headerResult, numberResult, paddingOf, reasonOf, recordResult};
 
-// Why a number is refused.
-pub enum Fault {
-    // 15: the sheet stops before the number's end.
-    Ends,
-    // 16: the number takes more than three bytes, or is larger than its limit.
-    TooLarge,
-}
-
-// The reply number of a refused number.
-pub fn refusal_number(fault: Fault) -> u16
-    ensures { λ r. ⌜ r ≡ numberOf fault ⌝ }
-{
-    match fault {
-        Fault::Ends => 15,
-        Fault::TooLarge => 16,
-    }
-}
-
-// A number of a sheet and the offset after it, or why it is refused and the offset of its first byte.
-pub enum Number {
-    Value(u16, usize),
-    Refused(Fault, usize),
-}
+// The most bytes of a sheet.
+pub const MAX_BYTES: usize = 65536;
 
 // The largest number of a sheet.
 const MAX_NUMBER: u16 = 65535;
 
-// A number whose last byte was read: refused if it is over the limit.
-fn within_limit(value: u32, at: usize, next: usize, limit: u16) -> Number
-    ensures { λ r. ⌜ numberResult r ≡ withinLimit limit at value next ⌝ }
+// Whether padded numbers, those with a zero group at the high end, are taken.
+pub enum Padding {
+    Allowed,
+    Barred,
+}
+
+// What may differ between readers of one edition.
+pub struct Format {
+    pub padding: Padding,
+    // The largest session.
+    pub max_session: u16,
+}
+
+impl Format {
+    // The hall's format.
+    pub const HALL: Format = Format {
+        padding: Padding::Barred,
+        max_session: MAX_NUMBER,
+    };
+
+    // The format of the sheets in the archive.
+    pub const ARCHIVE: Format = Format {
+        padding: Padding::Allowed,
+        max_session: MAX_NUMBER,
+    };
+}
+
+// What ends a reading: the code that its line shows (0 if no code was read), the reply number, and the offset of the first byte of the number
+// that is refused (0 if none is).
+pub struct Refusal {
+    pub code: u16,
+    pub number: u16,
+    pub offset: usize,
+}
+
+// The reply numbers. 15: the sheet stops before the number's end.
+const ENDS: u16 = 15;
+
+// 16: the number takes more than three bytes, or is larger than its limit.
+const TOO_LARGE: u16 = 16;
+
+// 17: no step has this code.
+const NO_CODE: u16 = 17;
+
+// 18: the sheet is too long.
+const TOO_LONG: u16 = 18;
+
+// 19: the number is padded.
+const PADDED: u16 = 19;
+
+// The refusal of a sheet by a question that is not about a number.
+pub fn refuse_sheet(number: u16) -> Refusal
+    ensures { λ r. ⌜ reasonOf r ≡ refusalOf 0 number 0 ⌝ }
+{
+    Refusal {
+        code: 0,
+        number: number,
+        offset: 0,
+    }
+}
+
+// A number of a sheet and the offset after it, or why it is refused.
+pub enum Number {
+    Value(u16, usize),
+    Refused(Refusal),
+}
+
+// The refusal of the number at an offset; the reader of a record puts its code there.
+fn refuse(number: u16, at: usize) -> Number
+    ensures { λ r. ⌜ numberResult r ≡ refusal 0 number at ⌝ }
+{
+    Number::Refused(Refusal {
+        code: 0,
+        number: number,
+        offset: at,
+    })
+}
+
+// Whether a number may be padded or not.
+fn takes(padding: Padding, padded: bool) -> bool
+    ensures { λ r. ⌜ r ≡ takesPadded (paddingOf padding) padded ⌝ }
+{
+    match padding {
+        Padding::Allowed => true,
+        Padding::Barred => !padded,
+    }
+}
+
+// A number whose last byte was read: refused if it is over the limit, and then if it is padded and that is barred.
+fn judge(
+    value: u32,
+    padded: bool,
+    at: usize,
+    next: usize,
+    padding: Padding,
+    limit: u16,
+) -> Number
+    ensures { λ r. ⌜ numberResult r ≡ judged (paddingOf padding) limit at value padded next ⌝ }
 {
     if (limit as u32) < value {
-        return Number::Refused(Fault::TooLarge, at);
+        return refuse(TOO_LARGE, at);
+    }
+    if !takes(padding, padded) {
+        return refuse(PADDED, at);
     }
     Number::Value(value as u16, next)
 }
@@ -55,46 +132,63 @@ fn wide(byte: u8) -> u32
 }
 
 // Reads the number at an offset: groups of seven bits, lowest first; the top bit of a byte (128) says that another follows.
-pub fn read_number(sheet: &[u8], at: usize, limit: u16) -> Number
-    ensures { λ r. ⌜ numberResult r ≡ decodeNumber limit (now (sheet .entry)) at ⌝ }
+pub fn read_number(sheet: &[u8], at: usize, format: Format, limit: u16) -> Number
+    ensures { λ r. ⌜ numberResult r ≡ formatOf format .readNumber limit (now (sheet .entry)) at ⌝ }
 {
+    let padding = format.padding;
     if sheet.len() <= at {
-        return Number::Refused(Fault::Ends, at);
+        return refuse(ENDS, at);
     }
     let first = wide(sheet[at]);
     if first < 128 {
-        return within_limit(first, at, at + 1, limit);
+        return judge(first, false, at, at + 1, padding, limit);
     }
     if sheet.len() <= at + 1 {
-        return Number::Refused(Fault::Ends, at);
+        return refuse(ENDS, at);
     }
     let second = wide(sheet[at + 1]);
     if second < 128 {
-        return within_limit(first % 128 + 128 * second, at, at + 2, limit);
-    }
-    if sheet.len() <= at + 2 {
-        return Number::Refused(Fault::Ends, at);
-    }
-    let third = wide(sheet[at + 2]);
-    if third < 128 {
-        return within_limit(
-            first % 128 + 128 * (second % 128 + 128 * third),
+        return judge(
+            first % 128 + 128 * second,
+            second == 0,
             at,
-            at + 3,
+            at + 2,
+            padding,
             limit,
         );
     }
-    Number::Refused(Fault::TooLarge, at)
+    if sheet.len() <= at + 2 {
+        return refuse(ENDS, at);
+    }
+    let third = wide(sheet[at + 2]);
+    if third < 128 {
+        return judge(
+            first % 128 + 128 * (second % 128 + 128 * third),
+            third == 0,
+            at,
+            at + 3,
+            padding,
+            limit,
+        );
+    }
+    refuse(TOO_LARGE, at)
 }
 
 // Reads a field that follows the code; one that does not is 0 and has no byte.
 // Precondition: the code is one of the five, as for `follows`.
-fn read_field(sheet: &[u8], at: usize, code: u16, field: usize, limit: u16) -> Number
+fn read_field(
+    sheet: &[u8],
+    at: usize,
+    format: Format,
+    code: u16,
+    field: usize,
+    limit: u16,
+) -> Number
     requires { ⌜ (1 ≤ code) × (code ≤ 5) × (field < 4) ⌝ }
-    ensures { λ r. ⌜ numberResult r ≡ decodeField decodeNumber (followsCode code field) limit (now (sheet .entry)) at ⌝ }
+    ensures { λ r. ⌜ numberResult r ≡ decodeField (formatOf format .readNumber) (followsCode code field) limit (now (sheet .entry)) at ⌝ }
 {
     if follows(code, field) {
-        return read_number(sheet, at, limit);
+        return read_number(sheet, at, format, limit);
     }
     Number::Value(0, at)
 }
@@ -108,19 +202,6 @@ pub struct Record {
     pub session: u16,
 }
 
-// What may differ between readers of one edition.
-pub struct Format {
-    // The largest session.
-    pub max_session: u16,
-}
-
-impl Format {
-    // The hall's format.
-    pub const HALL: Format = Format {
-        max_session: MAX_NUMBER,
-    };
-}
-
 // What a record leaves for the next: its desk. Before the first record there is none.
 pub enum Carried {
     NoDesk,
@@ -130,10 +211,29 @@ pub enum Carried {
 // A record and the offset after it, or what ends the reading.
 pub enum ParsedRecord {
     Whole(Record, usize),
-    // A number is refused: the code that its line shows (0 if the code itself was not read), why, and the offset of its first byte.
-    Refused(u16, Fault, usize),
-    // 17: no step has this code.
-    NoCode(u16),
+    Refused(Refusal),
+}
+
+// The refusal of a record whose code was read.
+fn refuse_record(code: u16, reason: Refusal) -> ParsedRecord
+    ensures { λ r. ⌜ recordResult r ≡ refusal code (reason .number) (reason .offset) ⌝ }
+{
+    ParsedRecord::Refused(Refusal {
+        code: code,
+        number: reason.number,
+        offset: reason.offset,
+    })
+}
+
+// The refusal of a record whose code no step has.
+fn refuse_code(code: u16) -> ParsedRecord
+    ensures { λ r. ⌜ recordResult r ≡ refusal code 17 0 ⌝ }
+{
+    ParsedRecord::Refused(Refusal {
+        code: code,
+        number: NO_CODE,
+        offset: 0,
+    })
 }
 
 // Reads the fields after the desk.
@@ -142,24 +242,26 @@ fn read_rest(sheet: &[u8], at: usize, format: Format, code: u16, desk: u16) -> P
     requires { ⌜ (1 ≤ code) × (code ≤ 5) ⌝ }
     ensures { λ r. ⌜ recordResult r ≡ withCode code (decodeRest (formatOf format) code desk (now (sheet .entry)) at) ⌝ }
 {
-    match read_field(sheet, at, code, SCREEN, MAX_NUMBER) {
-        Number::Refused(fault, first) => ParsedRecord::Refused(code, fault, first),
+    match read_field(sheet, at, format, code, SCREEN, MAX_NUMBER) {
+        Number::Refused(reason) => refuse_record(code, reason),
         Number::Value(screen, after_screen) => match read_field(
             sheet,
             after_screen,
+            format,
             code,
             POSITION,
             MAX_NUMBER,
         ) {
-            Number::Refused(fault, first) => ParsedRecord::Refused(code, fault, first),
+            Number::Refused(reason) => refuse_record(code, reason),
             Number::Value(position, after_position) => match read_field(
                 sheet,
                 after_position,
+                format,
                 code,
                 SESSION,
                 format.max_session,
             ) {
-                Number::Refused(fault, first) => ParsedRecord::Refused(code, fault, first),
+                Number::Refused(reason) => refuse_record(code, reason),
                 Number::Value(session, next) => ParsedRecord::Whole(
                     Record {
                         code: code,
@@ -181,8 +283,8 @@ fn read_fields(sheet: &[u8], at: usize, format: Format, code: u16) -> ParsedReco
     requires { ⌜ (1 ≤ code) × (code ≤ 5) ⌝ }
     ensures { λ r. ⌜ recordResult r ≡ withCode code (decodeFields (formatOf format) code (now (sheet .entry)) at) ⌝ }
 {
-    match read_field(sheet, at, code, DESK, MAX_NUMBER) {
-        Number::Refused(fault, first) => ParsedRecord::Refused(code, fault, first),
+    match read_field(sheet, at, format, code, DESK, MAX_NUMBER) {
+        Number::Refused(reason) => refuse_record(code, reason),
         Number::Value(desk, after_desk) => read_rest(sheet, after_desk, format, code, desk),
     }
 }
@@ -191,14 +293,14 @@ fn read_fields(sheet: &[u8], at: usize, format: Format, code: u16) -> ParsedReco
 pub fn read_record(sheet: &[u8], at: usize, format: Format, carried: Carried) -> ParsedRecord
     ensures { λ r. ⌜ recordResult r ≡ edition1 (formatOf format) .decodeRecord (carriedOf carried) (now (sheet .entry)) at ⌝ }
 {
-    match read_number(sheet, at, MAX_NUMBER) {
-        Number::Refused(fault, first) => ParsedRecord::Refused(0, fault, first),
+    match read_number(sheet, at, format, MAX_NUMBER) {
+        Number::Refused(reason) => ParsedRecord::Refused(reason),
         Number::Value(code, after_code) => {
             if code < 1 {
-                return ParsedRecord::NoCode(code);
+                return refuse_code(code);
             }
             if 5 < code {
-                return ParsedRecord::NoCode(code);
+                return refuse_code(code);
             }
             read_fields(sheet, after_code, format, code)
         }
@@ -212,26 +314,32 @@ pub struct Header {
     pub positions: u16,
 }
 
-// The header and the offset after it, or why one of its numbers is refused and the offset of its first byte.
+// The header and the offset after it, or what ends the reading.
 pub enum ParsedHeader {
     Whole(Header, usize),
-    Refused(Fault, usize),
+    Refused(Refusal),
 }
 
 // Reads the header at an offset.
-pub fn read_header(sheet: &[u8], at: usize) -> ParsedHeader
-    ensures { λ r. ⌜ headerResult r ≡ decodeHeader decodeNumber (now (sheet .entry)) at ⌝ }
+fn read_header(sheet: &[u8], at: usize, format: Format) -> ParsedHeader
+    ensures { λ r. ⌜ headerResult r ≡ edition1 (formatOf format) .decodeHeader (now (sheet .entry)) at ⌝ }
 {
-    match read_number(sheet, at, MAX_NUMBER) {
-        Number::Refused(fault, first) => ParsedHeader::Refused(fault, first),
-        Number::Value(desks, after_desks) => match read_number(sheet, after_desks, MAX_NUMBER) {
-            Number::Refused(fault, first) => ParsedHeader::Refused(fault, first),
+    match read_number(sheet, at, format, MAX_NUMBER) {
+        Number::Refused(reason) => ParsedHeader::Refused(reason),
+        Number::Value(desks, after_desks) => match read_number(
+            sheet,
+            after_desks,
+            format,
+            MAX_NUMBER,
+        ) {
+            Number::Refused(reason) => ParsedHeader::Refused(reason),
             Number::Value(screens, after_screens) => match read_number(
                 sheet,
                 after_screens,
+                format,
                 MAX_NUMBER,
             ) {
-                Number::Refused(fault, first) => ParsedHeader::Refused(fault, first),
+                Number::Refused(reason) => ParsedHeader::Refused(reason),
                 Number::Value(positions, next) => ParsedHeader::Whole(
                     Header {
                         desks: desks,
@@ -243,4 +351,14 @@ pub fn read_header(sheet: &[u8], at: usize) -> ParsedHeader
             },
         },
     }
+}
+
+// Begins to read a sheet: refuses one that is too long, and reads the header.
+pub fn begin_sheet(sheet: &[u8], format: Format) -> ParsedHeader
+    ensures { λ r. ⌜ headerResult r ≡ beginSheet (edition1 (formatOf format)) (now (sheet .entry)) ⌝ }
+{
+    if MAX_BYTES < sheet.len() {
+        return ParsedHeader::Refused(refuse_sheet(TOO_LONG));
+    }
+    read_header(sheet, 0, format)
 }

@@ -14,10 +14,10 @@ use Rattle.sheet.specs.laws.Length.{line-some}
 use Rattle.reply.specs.Answer.{answerOf, tableResult}
 use Rattle.sheet_rules.specs.Edition1.{hallEdition}
 use Rattle.sheet_rules.specs.Lines.{answerLine, endLine, line, linesFrom, linesOf, printed, refusalLine}
-use Rattle.sheet_rules.specs.Sheet.{lentTable, maxBytes, opened, openedIf, openingNumber, reading, unopened}
+use Rattle.sheet_rules.specs.Sheet.{beginSheet, lentTable, opened, openedIf, openingNumber, reading, unopened}
 use Rattle.sheet_rules.specs.SheetTheorems.{hall-edition-lawful}
 use Rattle.sheet_rules.specs.Tally.{zeros}
-use Rattle.sheet_rules.specs.laws.Sheet.{opening-answer, short-enough}
+use Rattle.sheet_rules.specs.laws.Sheet.{begun, begun-header, opening-answer}
 use Rattle.sheet.specs.Batch.{Started, callsOf, finishedAt, remainingRecords, startTable}
 use Rattle.reader.specs.declared.Carried.the-variants.{NoDesk}
 use Rattle.reply.specs.declared.Reply.{Reply}
@@ -42,11 +42,11 @@ opening-number : (hall : Hall) (reply : Reply) (after : List ℕ) {number : ℕ}
 opening-number hall reply after tells is-number =
     sym (ap (λ (answer : Answer). answer .number) (opening-answer hall)) ∙ sym (ap (λ (done : Result (List ℕ)). done .answer .number) tells) ∙ sym is-number
 
-reads-by : (sheet : List ℕ) {hall : Hall} {next number : ℕ} → length sheet ≤ maxBytes → hallEdition .decodeHeader sheet 0 ≡ parsed hall next
+reads-by : (sheet : List ℕ) {hall : Hall} {next number : ℕ} → beginSheet hallEdition sheet ≡ parsed hall next
     → openingNumber hall ≡ number
     → reading hallEdition sheet ≡ openedIf number hall (remainingRecords sheet (atFirst next))
-reads-by sheet {hall} {next} short read opening =
-    short-enough hallEdition sheet short read ∙ ap (λ (n : ℕ). openedIf n hall (remainingRecords sheet (atFirst next))) opening
+reads-by sheet {hall} {next} read opening =
+    begun hallEdition sheet read ∙ ap (λ (n : ℕ). openedIf n hall (remainingRecords sheet (atFirst next))) opening
 
 module _ {sheet out outAfter : List ℕ} {end : ℕ} where
   -- The reading ended before a record: the header's line and the last line are all there is.
@@ -65,13 +65,15 @@ module _ {sheet out outAfter : List ℕ} {end : ℕ} where
   })
 
   -- The header was read, and the board replied to the opening.
-  module _ (reply : Reply) {hall : Hall} {next : ℕ} {after : List ℕ} {number : ℕ} (short : length sheet ≤ maxBytes)
-      (read : hallEdition .decodeHeader sheet 0 ≡ parsed hall next) (tells : tableResult reply after ≡ openTable hallLimits hall lentTable) (is-number : number ≡ answerOf reply .number) where
-    pub started-refused : {is : State} → (number ≡ 0 → ⊥) → Put out outAfter 0 (refusalLine 0 (refusalOf 0 number 0) ++ endLine zeros) end → is ≡ finishedAt atHeader
+  module _ (reply : Reply) {hall : Hall} {next : ℕ} {after : List ℕ} {number : ℕ} (read : beginSheet hallEdition sheet ≡ parsed hall next)
+      (tells : tableResult reply after ≡ openTable hallLimits hall lentTable) (is-number : number ≡ answerOf reply .number) where
+    pub started-refused : {is : State} {reason : Refusal} → (number ≡ 0 → ⊥) → reason ≡ refusalOf 0 number 0
+        → Put out outAfter 0 (refusalLine 0 reason ++ endLine zeros) end
+        → is ≡ finishedAt atHeader
         → Started sheet out is after outAfter end
     unfolding openTable openingNumber
-    started-refused some =
-        started-stopped (reads-by sheet short read opening ∙ by-number number some .0)
+    started-refused some is-reason =
+        started-stopped (reads-by sheet read opening ∙ by-number number some .0 ∙ ap unopened (sym is-reason))
         (ap (λ (done : Result (List ℕ)). done .after) tells ∙ ap (λ (n : ℕ). decide n lentTable 0 (openedTable hall lentTable) .after) opening ∙ by-number number some .1)
       where
         opening : openingNumber hall ≡ number
@@ -94,14 +96,14 @@ module _ {sheet out outAfter : List ℕ} {end : ℕ} where
       run = sym (ap callsOf reads);
       table = leaves ∙ sym (ap startTable reads);
       rest = put-rest put;
-      numbered = omega (arith, hall-edition-lawful .header-moves sheet 0 hall next read .past);
+      numbered = omega (arith, hall-edition-lawful .header-moves sheet 0 hall next (begun-header hallEdition sheet read) .past);
     }
       where
         opening : openingNumber hall ≡ 0
         opening = opening-number hall reply after tells is-number ∙ none
 
         reads : reading hallEdition sheet ≡ opened hall (remainingRecords sheet (atFirst next))
-        reads = reads-by sheet short read opening
+        reads = reads-by sheet read opening
 
         leaves : after ≡ openTable hallLimits hall lentTable .after
         leaves = ap (λ (done : Result (List ℕ)). done .after) tells

@@ -11,9 +11,10 @@ use reader::Format;
 use reader::ParsedHeader;
 use reader::ParsedRecord;
 use reader::Record;
-use reader::read_header;
+use reader::Refusal;
+use reader::begin_sheet;
 use reader::read_record;
-use reader::refusal_number;
+use reader::refuse_sheet;
 use reply::Reply;
 use reply::number;
 use reply::session;
@@ -26,19 +27,12 @@ ghost use Prim.Native.Nat.{_+_, _≤_};
 ghost use lib.ListN.{length};
 ghost use Rattle.rules.specs.Bytes.{wordsOfBytes};
 ghost use Rattle.buffer.specs.Put.{Put};
-ghost use Rattle.reader.specs.Results.{recordOf};
-ghost use Rattle.rules.specs.Numbers.{refusalOf};
+ghost use Rattle.reader.specs.Results.{reasonOf, recordOf};
 ghost use Rattle.sheet_rules.specs.Lines.{endLine, refusalLine};
 ghost use Rattle.sheet_rules.specs.Sheet.{lentTable};
 ghost use Rattle.tally.specs.Counts.{toTally};
 ghost use Rattle.sheet.specs.Batch.{Batch, PartialBatch, Progress, Started, endRoom, finishedAt, recordRoom};
 ghost use Rattle.sheet.specs.Run.{Ran};
-
-// The most bytes of a sheet.
-const MAX_BYTES: usize = 65536;
-
-// The reply number for a longer sheet.
-const TOO_LONG: u16 = 18;
 
 // The most bytes of a record's line, and of the last line.
 const ROOM: usize = 84 + 67;
@@ -102,20 +96,20 @@ fn finish(out: &mut [u8], at: usize, state: State) -> Filled
     }
 }
 
-// Puts the line of what ends the reading, and the last line. The offset is that of a refused number, or else 0.
+// Puts the line of what ends the reading, and the last line.
 // Precondition: the buffer has room for the longest record's line and the longest last line.
-fn stop(out: &mut [u8], at: usize, state: State, code: u16, reason: u16, offset: usize) -> Filled
+fn stop(out: &mut [u8], at: usize, state: State, reason: Refusal) -> Filled
     requires { ⌜ at + recordRoom ≤ length (now out) ⌝ }
-    ensures bytes { λ r. ⌜ Put (now (out .entry)) (now (out .exit)) at (refusalLine (state .index) (refusalOf code reason offset) ++ endLine (toTally (state .tally))) (r .put) ⌝ }
+    ensures bytes { λ r. ⌜ Put (now (out .entry)) (now (out .exit)) at (refusalLine (state .index) (reasonOf reason) ++ endLine (toTally (state .tally))) (r .put) ⌝ }
     ensures state { λ r. ⌜ r .state ≡ finishedAt state ⌝ }
 {
     let next = put_line(
         out,
         at,
         state.index,
-        code as u64,
-        reason as u64,
-        offset as u64,
+        reason.code as u64,
+        reason.number as u64,
+        reason.offset as u64,
     );
     finish(out, next, state)
 }
@@ -134,11 +128,7 @@ fn put_record(sheet: &[u8], state: State, table: &mut [u8], out: &mut [u8], at: 
     }
     let carried = state.carried;
     match read_record(sheet, offset, Format::HALL, carried) {
-        ParsedRecord::Refused(code, fault, first) => {
-            let reason = refusal_number(fault);
-            stop(out, at, state, code, reason, first)
-        }
-        ParsedRecord::NoCode(code) => stop(out, at, state, code, number(Reply::NoCode), 0),
+        ParsedRecord::Refused(reason) => stop(out, at, state, reason),
         ParsedRecord::Whole(entry, next) => {
             let r = run_record(table, entry);
             let reply_number = number(r);
@@ -195,7 +185,7 @@ pub fn fill(sheet: &[u8], state: State, table: &mut [u8], out: &mut [u8]) -> Fil
     }
 }
 
-// The first batch: checks the sheet's length, reads the header, opens the hall in the table and puts the header's line.
+// The first batch: begins to read the sheet, opens the hall in the table and puts the header's line.
 // Precondition: the words of the table are those that the rules lend, `lentTable`, all zeros; the buffer has room for a record's line and
 // the last line.
 pub fn start(sheet: &[u8], table: &mut [u8], out: &mut [u8]) -> Filled
@@ -215,19 +205,13 @@ pub fn start(sheet: &[u8], table: &mut [u8], out: &mut [u8]) -> Filled
         tally: none,
         finished: false,
     };
-    if MAX_BYTES < sheet.len() {
-        return stop(out, 0, header_state, 0, TOO_LONG, 0);
-    }
-    match read_header(sheet, 0) {
-        ParsedHeader::Refused(fault, first) => {
-            let reason = refusal_number(fault);
-            stop(out, 0, header_state, 0, reason, first)
-        }
+    match begin_sheet(sheet, Format::HALL) {
+        ParsedHeader::Refused(reason) => stop(out, 0, header_state, reason),
         ParsedHeader::Whole(header, next) => {
             let r = open(table, header.desks, header.screens, header.positions);
             let reply_number = number(r);
             if reply_number != 0 {
-                return stop(out, 0, header_state, 0, reply_number, 0);
+                return stop(out, 0, header_state, refuse_sheet(reply_number));
             }
             let end = put_line(out, 0, 0, 0, 0, 0);
             Filled {

@@ -4,7 +4,7 @@ use mathlib.Core.Bool.{Bool, true, false, cond}
 use mathlib.Core.List.{List, [], _∷_, _++_}
 use lib.Dec.{ltb}
 use Rattle.rules.specs.Hall.{Hall, hallOf}
-use Rattle.rules.specs.Numbers.{Parsed, bind, decodeNumber, maxNumber, parsed, refusal, refused}
+use Rattle.rules.specs.Numbers.{Parsed, allowed, barred, bind, decodeNumber, maxNumber, parsed, refusal, refused}
 use Rattle.sheet_rules.specs.Sheet.{Edition, Record, deskField, follows, isCode, positionField, recordFor, screenField, sessionField}
 
 -- ---- How numbers are read.
@@ -18,9 +18,13 @@ pub record Format : Type 0 where
   pub readNumber : NumberReader
   pub maxSession : ℕ
 
--- The hall's format: zero groups at the high end are allowed, and sessions are at most 65,535.
+-- The hall's format: padded numbers are refused, and sessions are at most 65,535.
 abbrev pub hallFormat : Format
-hallFormat = record { readNumber = decodeNumber; maxSession = maxNumber }
+hallFormat = record { readNumber = decodeNumber barred; maxSession = maxNumber }
+
+-- The format of the sheets in the archive. Document 02, "Padded numbers go": "Old sheets in the archive are kept"
+abbrev pub archiveFormat : Format
+archiveFormat = record { readNumber = decodeNumber allowed; maxSession = maxNumber }
 
 -- ---- Reading.
 
@@ -99,6 +103,9 @@ edition1 format = record {
   encodeRecord = λ carried. encodeRecord;
 }
 
--- The hall's sheets are of edition 1.
+-- The hall's sheets are of edition 1, and so are those in the archive.
 abbrev pub hallEdition : Edition
 hallEdition = edition1 hallFormat
+
+abbrev pub archiveEdition : Edition
+archiveEdition = edition1 archiveFormat

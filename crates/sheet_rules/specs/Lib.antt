@@ -5,10 +5,12 @@ pub mod Lawful
 pub mod Run
 pub mod Tally
 pub mod Lines
+pub mod Rewriting
 pub mod SheetTheorems
 pub mod SheetCases
 pub mod ReadingCases
 pub mod OffsetCases
+pub mod RewritingCases
 pub mod RunCases
 pub mod SheetInstances
 pub mod SheetExamples

@@ -8,7 +8,7 @@ use mathlib.Core.Option.{none, some}
 use lib.ListN.{length, drop, length-append, replicate}
 use lib.Seq.{drop-append-seam}
 use Rattle.rules.specs.Lists.{toNat}
-use Rattle.rules.specs.Numbers.{Parsed, Refusal, decodeNumber, parsed, refusal, refusalOf, refused}
+use Rattle.rules.specs.Numbers.{Parsed, Refusal, barred, decodeNumber, parsed, refusal, refusalOf, refused}
 use Rattle.sheet_rules.specs.Edition1.{decodeHeader, decodeRecord, hallEdition, hallFormat}
 use Rattle.sheet_rules.specs.Offsets.{NumbersFill, ShowsByte, WholeLines, ending, refusesNumber}
 use Rattle.sheet_rules.specs.ReadingCases.{limitedTo999}
@@ -30,9 +30,9 @@ pub endings :
 unfolding reading decodeHeader decodeRecord decodeNumber openingNumber lentTable
 endings = refl
 
--- "When a number gives 15 or 16"
+-- "When a number gives 15 or 16", and 19 "with its offset as in Job 2"
 pub numbers-with-offset :
-    map (λ (number : ℕ). toNat (refusesNumber number)) (0 ∷ 1 ∷ 3 ∷ 14 ∷ 15 ∷ 16 ∷ 17 ∷ 18 ∷ []) ≡ 0 ∷ 0 ∷ 0 ∷ 0 ∷ 1 ∷ 1 ∷ 0 ∷ 0 ∷ []
+    map (λ (number : ℕ). toNat (refusesNumber number)) (0 ∷ 1 ∷ 3 ∷ 14 ∷ 15 ∷ 16 ∷ 17 ∷ 18 ∷ 19 ∷ 20 ∷ []) ≡ 0 ∷ 0 ∷ 0 ∷ 0 ∷ 1 ∷ 1 ∷ 0 ∷ 0 ∷ 1 ∷ 0 ∷ []
 numbers-with-offset = refl
 
 -- "offsets reach 65,536": the desk of a record whose code is the last byte of a sheet of 65,536 bytes.
@@ -58,19 +58,19 @@ no-whole-lines = (
   λ whole. (let z : _≡_ {A = ℕ} 49 10 = cc (last-newline (10 ∷ 49 ∷ []) 1 refl whole) in omega arith),
 )
 
--- ---- Numbers that fill bytes: `81 00` and `01` fill three, each alone its own, and none fills none.
+-- ---- Numbers that fill bytes: `81 02` and `01` fill three, each alone its own, and none fills none.
 abbrev twoNumbers : List ℕ
-twoNumbers = 0x81 ∷ 0x00 ∷ 0x01 ∷ 0x80 ∷ []
+twoNumbers = 0x81 ∷ 0x02 ∷ 0x01 ∷ 0x80 ∷ []
 
 pub numbers-fill :
-    NumbersFill decodeNumber twoNumbers 2 0 3
-    × NumbersFill decodeNumber twoNumbers 1 0 2
-    × NumbersFill decodeNumber twoNumbers 1 2 3
-    × NumbersFill decodeNumber twoNumbers 0 3 3
+    NumbersFill (decodeNumber barred) twoNumbers 2 0 3
+    × NumbersFill (decodeNumber barred) twoNumbers 1 0 2
+    × NumbersFill (decodeNumber barred) twoNumbers 1 2 3
+    × NumbersFill (decodeNumber barred) twoNumbers 0 3 3
 unfolding decodeNumber
 numbers-fill = (
-  record { value = 1; next = 2; read = refl; rest = record { value = 1; next = 3; read = refl; rest = refl } },
-  record { value = 1; next = 2; read = refl; rest = refl },
+  record { value = 257; next = 2; read = refl; rest = record { value = 1; next = 3; read = refl; rest = refl } },
+  record { value = 257; next = 2; read = refl; rest = refl },
   record { value = 1; next = 3; read = refl; rest = refl },
   refl,
 )
@@ -78,14 +78,14 @@ numbers-fill = (
 not-parsed : {reason : Refusal} {value next : ℕ} → _≡_ {A = Parsed ℕ} (refused reason) (parsed value next) → ⊥
 not-parsed e = let z : _≡_ {A = ℕ} 0 1 = cc in omega arith
 
--- One number fills neither three bytes nor one; from `00` on, one fills one byte, and not two; the byte `80` is no number; no numbers fill no
+-- One number fills neither three bytes nor one; from `02` on, one fills one byte, and not two; the byte `80` is no number; no numbers fill no
 -- bytes, and not one.
 pub numbers-do-not-fill :
-    (NumbersFill decodeNumber twoNumbers 1 0 3 → ⊥)
-    × (NumbersFill decodeNumber twoNumbers 1 0 1 → ⊥)
-    × (NumbersFill decodeNumber twoNumbers 1 1 3 → ⊥)
-    × (NumbersFill decodeNumber twoNumbers 1 3 4 → ⊥)
-    × (NumbersFill decodeNumber twoNumbers 0 3 4 → ⊥)
+    (NumbersFill (decodeNumber barred) twoNumbers 1 0 3 → ⊥)
+    × (NumbersFill (decodeNumber barred) twoNumbers 1 0 1 → ⊥)
+    × (NumbersFill (decodeNumber barred) twoNumbers 1 1 3 → ⊥)
+    × (NumbersFill (decodeNumber barred) twoNumbers 1 3 4 → ⊥)
+    × (NumbersFill (decodeNumber barred) twoNumbers 0 3 4 → ⊥)
 unfolding decodeNumber
 numbers-do-not-fill = (
   λ fill. (let z : _≡_ {A = ℕ} 2 3 = cc (fill .read, fill .rest) in omega arith),
@@ -104,17 +104,17 @@ unfolding decodeNumber
 shows-byte = record { before = record { count = 1; numbers = record { value = 1; next = 1; read = refl; rest = refl } }; limit = 65535; limited = inl refl; refuses = refl }
 
 -- numbers fill its first byte at most
-fill-from-1 : (count next : ℕ) → NumbersFill decodeNumber cutScreens count 1 next → next ≤ 1
+fill-from-1 : (count next : ℕ) → NumbersFill (decodeNumber barred) cutScreens count 1 next → next ≤ 1
 unfolding decodeNumber
 fill-from-1 zero next same = omega (arith, same)
 fill-from-1 (suc count) next fill = absurd (not-parsed (fill .read))
 
-fill-at-most-1 : (count next : ℕ) → NumbersFill decodeNumber cutScreens count 0 next → next ≤ 1
+fill-at-most-1 : (count next : ℕ) → NumbersFill (decodeNumber barred) cutScreens count 0 next → next ≤ 1
 unfolding decodeNumber
 fill-at-most-1 zero next same = omega (arith, same)
 fill-at-most-1 (suc count) next fill =
     let next-is : fill .next ≡ 1 = cc (fill .read) in
-    fill-from-1 count next (subst (λ (n : ℕ). NumbersFill decodeNumber cutScreens count n next) next-is (fill .rest))
+    fill-from-1 count next (subst (λ (n : ℕ). NumbersFill (decodeNumber barred) cutScreens count n next) next-is (fill .rest))
 
 -- Not the last byte of that number, where a number is refused with 15 too; nor the end of the sheet, where one is missing; nor the byte of P; and
 -- not with 16.
@@ -129,7 +129,7 @@ not-the-byte = (
   λ byte. (let z = fill-at-most-1 (byte .before .count) 3 (byte .before .numbers) in omega (arith, z)),
   λ byte. (
       let limit : byte .limit ≡ 65535 = ⊎-elim (λ same. same) (λ same. same) (byte .limited) in
-      not-parsed (sym (byte .refuses) ∙ ap (λ (n : ℕ). decodeNumber n cutScreens 0) limit)
+      not-parsed (sym (byte .refuses) ∙ ap (λ (n : ℕ). decodeNumber barred n cutScreens 0) limit)
       ),
   λ byte. (
       let same : refusalOf 0 15 1 ≡ refusalOf 0 16 1 = cc (byte .refuses) in
@@ -158,10 +158,10 @@ unfolding decodeNumber
 no-other-limits = (
   λ byte. (
       let limit : byte .limit ≡ 65535 = ⊎-elim (λ same. same) (λ same. same) (byte .limited) in
-      not-parsed (sym (byte .refuses) ∙ ap (λ (n : ℕ). decodeNumber n (0xE8 ∷ 0x07 ∷ []) 0) limit)
+      not-parsed (sym (byte .refuses) ∙ ap (λ (n : ℕ). decodeNumber barred n (0xE8 ∷ 0x07 ∷ []) 0) limit)
       ),
   λ byte.
-      ⊎-elim (λ limit. not-parsed (sym (byte .refuses) ∙ ap (λ (n : ℕ). decodeNumber n (0x01 ∷ []) 0) limit))
-      (λ limit. not-parsed (sym (byte .refuses) ∙ ap (λ (n : ℕ). decodeNumber n (0x01 ∷ []) 0) limit))
+      ⊎-elim (λ limit. not-parsed (sym (byte .refuses) ∙ ap (λ (n : ℕ). decodeNumber barred n (0x01 ∷ []) 0) limit))
+      (λ limit. not-parsed (sym (byte .refuses) ∙ ap (λ (n : ℕ). decodeNumber barred n (0x01 ∷ []) 0) limit))
       (byte .limited),
 )

@@ -23,9 +23,9 @@ abbrev pub ending : Reading → Option Refusal
 ending (unopened reason) = some reason
 ending (opened hall records) = endingIn records
 
--- "When a number gives 15 or 16"
+-- "When a number gives 15 or 16"; and "Padded numbers go": "19 for a padded number, [..] with its offset as in Job 2"
 abbrev pub refusesNumber : ℕ → Bool
-refusesNumber number = eqb number 15 || eqb number 16
+refusesNumber number = eqb number 15 || (eqb number 16 || eqb number 19)
 
 -- Bytes that are whole lines: there are none, or the last is a newline.
 abbrev pub WholeLines : List ℕ → Type 0
@@ -66,7 +66,7 @@ pub record ShowsByte (format : Format) (sheet : List ℕ) (at number offset : �
   pub limited : (limit ≡ maxNumber) ⊎ (limit ≡ format .maxSession)
   pub refuses : format .readNumber limit sheet offset ≡ refusal 0 number offset
 
--- A refusal in a sheet that is read from an offset on: 15 and 16 show the byte of a number, and no other refusal shows an offset.
+-- A refusal in a sheet that is read from an offset on: 15, 16 and 19 show the byte of a number, and no other refusal shows an offset.
 pub record Located (format : Format) (sheet : List ℕ) (at : ℕ) (reason : Refusal) : Type 0 where
   pub shows : refusesNumber (reason .number) ≡ true → ShowsByte format sheet at (reason .number) (reason .offset)
   pub no-offset : refusesNumber (reason .number) ≡ false → reason .offset ≡ 0

@@ -5,7 +5,7 @@ use mathlib.Core.List.{List, [], _∷_, map}
 use lib.ListN.{getD, length, replicate}
 use Rattle.rules.specs.Hall.{hallOf}
 use Rattle.rules.specs.Lists.{toNat}
-use Rattle.rules.specs.Numbers.{decodeNumber, parsed, refusal, refusalOf}
+use Rattle.rules.specs.Numbers.{barred, decodeNumber, parsed, refusal, refusalOf}
 use Rattle.sheet_rules.specs.Edition1.{Format, decodeHeader, decodeRecord, edition1, encodeHeader, encodeNumber, encodeRecord, hallEdition}
 use Rattle.sheet_rules.specs.Lines.{decimal, endingLine, line}
 use Rattle.sheet_rules.specs.Sheet.{Carried, Edition, Meaning, Record, Records, complete, encodeSheet, fieldTable, follows, lastDesk, lentTable, more}
@@ -117,7 +117,7 @@ small-bytes = refl
 
 -- ---- `maxSession` limits sessions alone: if it is 999, position 1,000 and session 999 are read, and session 1,000 is refused.
 abbrev pub limitedTo999 : Format
-limitedTo999 = record { readNumber = decodeNumber; maxSession = 999 }
+limitedTo999 = record { readNumber = decodeNumber barred; maxSession = 999 }
 
 pub sessions-to-999 :
     map (λ (sheet : List ℕ). edition1 limitedTo999 .decodeRecord noDesk sheet 0)
@@ -128,11 +128,11 @@ sessions-to-999 = refl
 
 -- ---- What a record leaves for the next. An edition that uses it: a record is one byte. Reading takes the byte as the code, and as the desk one more
 -- than the desk before, 1 at first; writing puts that desk.
-abbrev deskDue : Carried → ℕ
+abbrev pub deskDue : Carried → ℕ
 deskDue noDesk = 1
 deskDue (lastDesk desk) = desk + 1
 
-abbrev countsDesks : Edition
+abbrev pub countsDesks : Edition
 countsDesks = record {
   decodeHeader = λ sheet at. parsed (hallOf 1 1 1) at;
   encodeHeader = λ hall. [];

@@ -2,6 +2,8 @@ pub mod Parsing
 pub mod Numbers
 pub mod Edition1
 pub mod Sheet
+pub mod Exact
+pub mod Rewriting
 pub mod NumbersBetween
 pub mod Offsets
 pub mod Tally

@@ -6,7 +6,7 @@ use mathlib.Core.List.{[], _∷_, map}
 use lib.ListN.{replicate}
 use Rattle.buffer.specs.Put.{overwriteAt}
 use Rattle.rules.specs.Hall.{hallOf}
-use Rattle.rules.specs.Numbers.{parsed}
+use Rattle.rules.specs.Numbers.{barred, parsed}
 use Rattle.sheet_rules.specs.Edition1.{encodeHeader, encodeNumber, encodeRecord, hallEdition, hallFormat}
 use Rattle.sheet_rules.specs.Sheet.{Record, lastDesk, recordFor}
 use Rattle.sheet_rules.specs.SheetTheorems.{numbers-are-lawful}
@@ -44,6 +44,6 @@ header-written = refl
 pub swap-is-read : hallEdition .decodeRecord (lastDesk 7) (9 ∷ 3 ∷ 4 ∷ 2 ∷ 0xAC ∷ 0x02 ∷ []) 1 ≡ parsed (recordFor 3 4 0 2 300) 6
 unfolding encodeRecord encodeNumber overwriteAt
 swap-is-read =
-    written-record-is-read hallFormat numbers-are-lawful (omega arith) (replicate 6 9) 1 (9 ∷ 3 ∷ 4 ∷ 2 ∷ 0xAC ∷ 0x02 ∷ []) 6 (lastDesk 7) (recordFor 3 4 0 2 300)
+    written-record-is-read hallFormat (numbers-are-lawful barred) (omega arith) (replicate 6 9) 1 (9 ∷ 3 ∷ 4 ∷ 2 ∷ 0xAC ∷ 0x02 ∷ []) 6 (lastDesk 7) (recordFor 3 4 0 2 300)
     (record { code = refl; desk = omega arith; screen = refl; position = omega arith; session = omega arith })
     refl

@@ -1,9 +1,8 @@
 -- `sheet::put_record` meets its contract.
 use native.Mathlib.Omega.{arith}
 use mathlib.Core.Path.{_≡_, sym, ap, _∙_}
-use Prim.Native.Nat.{ℕ}
 use borrow.Author.Needs.{needs}
-use Rattle.rules.specs.Numbers.{parsed, refusalOf, refused}
+use Rattle.rules.specs.Numbers.{parsed}
 use Rattle.lines.specs.laws.Longest.{line-length}
 use Rattle.reader.specs.Results.{recordOf, recordResult}
 use Rattle.sheet.proofs.BatchLaws.{finished-progress, nextRecord, reading-stopped, record-progress, record-ran, sheet-ended}
@@ -11,7 +10,7 @@ use Rattle.sheet.proofs.put_record.Statement.{statement}
 use Rattle.sheet.proofs.put_record.Tie as tie
 
 -- the record that was read
-record-read : (c : tie.After-known-told3) →
+record-read : (c : tie.After-known-told2) →
     let a = c .before .before .before .before .before .before .before .before .args in
     nextRecord (a .sheet .now) (a .state) ≡ parsed (recordOf (c .before .entry .given .0 .0)) (c .before .entry .given .0 .1 .0)
 record-read c = sym (c .before .before .before .read-record .ensures) ∙ ap recordResult (c .before .entry .given .1)
@@ -31,23 +30,11 @@ returns c =
 read-record-requires : tie.Need-read-record-requires
 read-record-requires c κs = search needs
 
-enum-known-code : tie.Need-enum-known-code
-enum-known-code c = search needs
-
-refusal-number-requires : tie.Need-refusal-number-requires
-refusal-number-requires c κs = search needs
+enum-known-reason : tie.Need-enum-known-reason
+enum-known-reason c = search needs
 
 stop-requires : tie.Need-stop-requires
 stop-requires c κs = search needs
-
-enum-known-code-2 : tie.Need-enum-known-code-2
-enum-known-code-2 c = search needs
-
-number-requires : tie.Need-number-requires
-number-requires c κs = search needs
-
-stop-requires-2 : tie.Need-stop-requires-2
-stop-requires-2 c κs = search needs
 
 enum-known-entry : tie.Need-enum-known-entry
 enum-known-entry c = search needs
@@ -55,8 +42,8 @@ enum-known-entry c = search needs
 run-record-requires : tie.Need-run-record-requires
 run-record-requires c κs = search needs
 
-number-requires-2 : tie.Need-number-requires-2
-number-requires-2 c κs = search needs
+number-requires : tie.Need-number-requires
+number-requires c κs = search needs
 
 session-requires : tie.Need-session-requires
 session-requires c κs = search needs
@@ -73,7 +60,7 @@ cast-put-line-3 c = search needs
 put-line-requires : tie.Need-put-line-requires
 put-line-requires c κs =
     let start = c .before .before .before .before .before .before .before .before .before .before .before .before .before .before .before .before in
-    omega (arith, line-length (start .args .state .index) (c .before .before .before .before .before .before .before .before .before .entry .given .0 .0 .code) (c .before .before .before .number2 .result) (c .before .before .session .result), start .pre .2)
+    omega (arith, line-length (start .args .state .index) (c .before .before .before .before .before .before .before .before .before .entry .given .0 .0 .code) (c .before .before .before .number .result) (c .before .before .session .result), start .pre .2)
 
 add-step-lent-requires : tie.Need-add-step-lent-requires
 add-step-lent-requires c κs = search needs
@@ -88,40 +75,27 @@ same-length-2 c = search needs
 
 returns-2 : tie.Need-returns-2
 returns-2 c =
-    let after-number = c .before .before .before .before in
-    let matched = after-number .before .before in
+    let matched = c .before .before .before .before .before in
     let after-read = matched .before .before in
     let start = after-read .before .before .before .before .before in
     let last = c .before .before .stop .ensures in
-    let code = matched .code .given in
-    let read = sym (after-read .read-record .ensures) ∙ ap recordResult (code .1) ∙ ap (λ (n : ℕ). refused (refusalOf (code .0 .0) n (code .0 .1 .1 .0))) (sym (after-number .refusal-number .ensures)) in
+    let read = sym (after-read .read-record .ensures) ∙ ap recordResult (matched .reason .given .1) in
     (reading-stopped (start .pre .0) (after-read .before .if1 .left) read (last .0) (last .1), finished-progress (last .1) (start .pre .1))
 
 same-length-3 : tie.Need-same-length-3
 same-length-3 c = search needs
 
-returns-3 : tie.Need-returns-3
-returns-3 c =
-    let start = c .before .before .before .before .before .before .before .before .before .before .before .before .before in
-    let last = c .before .before .stop2 .ensures in
-    let code = c .before .before .before .before .before .before .code2 .given in
-    let read = sym (c .before .before .before .before .before .before .before .before .read-record .ensures) ∙ ap recordResult (code .1) ∙ ap (λ (n : ℕ). refused (refusalOf (code .0 .0) n 0)) (sym (c .before .before .before .number .ensures)) in
-    (reading-stopped (start .pre .0) (c .before .before .before .before .before .before .before .before .before .if1 .left) read (last .0) (last .1), finished-progress (last .1) (start .pre .1))
-
 same-length-4 : tie.Need-same-length-4
 same-length-4 c = search needs
 
-same-length-5 : tie.Need-same-length-5
-same-length-5 c = search needs
-
-returns-4 : tie.Need-returns-4
-returns-4 c =
+returns-3 : tie.Need-returns-3
+returns-3 c =
     let start = c .before .before .before .before .before .before .before .before .before .before .before .before .before .before .before .before .before .before .before .before .before .before in
     let inside = c .before .before .before .before .before .before .before .before .before .before .before .before .before .before .before .before .before .before .if1 .left in
     let read = record-read (c .before .before .before .before .before .before .before .before .before .before .before .before .before .before) in
     let ran-step = c .before .before .before .before .before .before .before .before .before .before .before .before .run-record in
-    (record-ran (start .pre .0) inside read (ran-step .result) (ran-step .ensures .words) (c .before .before .before .before .before .before .before .before .before .number2 .ensures) (c .before .before .before .before .before .before .before .before .session .ensures) (c .before .add-step-lent .ensures) (c .before .before .before .before .before .put-line .ensures), record-progress (start .pre .0) inside read (start .pre .1))
+    (record-ran (start .pre .0) inside read (ran-step .result) (ran-step .ensures .words) (c .before .before .before .before .before .before .before .before .before .number .ensures) (c .before .before .before .before .before .before .before .before .session .ensures) (c .before .add-step-lent .ensures) (c .before .before .before .before .before .put-line .ensures), record-progress (start .pre .0) inside read (start .pre .1))
 
 pub put-record-spec : {M : Type 1} → statement M
 put-record-spec =
-    tie.close (tie.spec finish-requires same-length returns read-record-requires enum-known-code refusal-number-requires stop-requires enum-known-code-2 number-requires stop-requires-2 enum-known-entry run-record-requires number-requires-2 session-requires cast-put-line cast-put-line-2 cast-put-line-3 put-line-requires add-step-lent-requires add-index same-length-2 returns-2 same-length-3 returns-3 same-length-4 same-length-5 returns-4)
+    tie.close (tie.spec finish-requires same-length returns read-record-requires enum-known-reason stop-requires enum-known-entry run-record-requires number-requires session-requires cast-put-line cast-put-line-2 cast-put-line-3 put-line-requires add-step-lent-requires add-index same-length-2 returns-2 same-length-3 same-length-4 returns-3)

@@ -77,6 +77,6 @@ output-bounded edition sheet = by-length (leb (length sheet) maxBytes) (leb-true
     by-header (refused reason) short = two-lines reason
 
     by-length : (short : Bool) → (short ≡ true → length sheet ≤ maxBytes)
-        → length (linesOf (cond short (afterHeader edition sheet (edition .decodeHeader sheet 0)) (unopened (refusalOf 0 18 0)))) ≤ 84 * 65538 + 67
+        → length (linesOf (afterHeader edition sheet (cond short (edition .decodeHeader sheet 0) (refused (refusalOf 0 18 0))))) ≤ 84 * 65538 + 67
     by-length true enough = by-header (edition .decodeHeader sheet 0) (enough refl)
     by-length false enough = two-lines (refusalOf 0 18 0)

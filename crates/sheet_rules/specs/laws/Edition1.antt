@@ -1,21 +1,24 @@
--- Edition 1 reads back what it writes, and what it reads has at least one byte and can be written.
-use Prim.Native.Nat.{ℕ, _≤_}
+-- Edition 1 reads back what it writes, and what it reads has at least one byte and can be written. If its reader of numbers is exact, it reads
+-- nothing else.
+use Prim.Native.Nat.{ℕ, _+_, _≤_}
 use native.Mathlib.Omega.{arith}
-use mathlib.Core.Path.{_≡_}
+use mathlib.Core.Path.{_≡_, refl, sym, ap, _∙_, subst}
 use mathlib.Core.Bool.{Bool, true, false}
-use mathlib.Core.List.{List}
-use lib.ListN.{length}
+use mathlib.Core.List.{List, [], _++_}
+use lib.ListN.{length, length-append}
+use Rattle.rules.specs.Bytes.{IsBytes}
 use Rattle.rules.specs.Hall.{Hall, hallLimits, hallOf}
-use Rattle.rules.specs.Numbers.{Parsed, maxNumber, parsed, refused}
+use Rattle.rules.specs.Numbers.{Parsed, allowed, barred, maxNumber, parsed, refused}
 use Rattle.rules.specs.laws.history.StepEffects.{in-range}
 use Rattle.rules.specs.laws.table.EncodedStep.{hall-opens, limits-fit}
-use Rattle.sheet_rules.specs.Edition1.{Format, decodeField, decodeFields, decodeHeader, decodeRecord, decodeRest, edition1, encodeField, encodeFields}
-use Rattle.sheet_rules.specs.Edition1.{encodeHeader, encodeNumber, encodeRecord, encodeRest, hallEdition, hallFormat, withCode}
-use Rattle.sheet_rules.specs.Lawful.{Lawful, LawfulNumbers, Moved, ReadsBack}
+use Rattle.sheet_rules.specs.Edition1.{Format, archiveEdition, archiveFormat, decodeField, decodeFields, decodeHeader, decodeRecord, decodeRest, edition1}
+use Rattle.sheet_rules.specs.Edition1.{encodeField, encodeFields, encodeHeader, encodeNumber, encodeRecord, encodeRest, hallEdition, hallFormat, withCode}
+use Rattle.sheet_rules.specs.Lawful.{Exact, ExactNumbers, Lawful, LawfulNumbers, Moved, ReadsBack, Stands}
 use Rattle.sheet_rules.specs.Sheet.{FieldHolds, GoodRecord, Record, deskField, follows, isCode, lentTable, openingNumber, positionField, recordFor}
 use Rattle.sheet_rules.specs.Sheet.{screenField, sessionField}
-use Rattle.sheet_rules.specs.laws.Numbers.{numbers-lawful}
-use Rattle.sheet_rules.specs.laws.Parsing.{asked-parsed, bind-parsed, bind-read-back, last-read-back, refused-not-parsed, same-parsed}
+use Rattle.sheet_rules.specs.laws.Numbers.{numbers-lawful, shortest-numbers-exact}
+use Rattle.sheet_rules.specs.laws.Parsing.{asked-parsed, bind-parsed, bind-read-back, last-read-back, refused-not-parsed, same-parsed, stands-join}
+use Rattle.sheet_rules.specs.laws.Parsing.{stands-none}
 
 coded-parsed : {A : Type 0} (code : ℕ) (inner : Parsed A) (value : A) (next : ℕ) → withCode code inner ≡ parsed value next
     → inner ≡ parsed value next
@@ -28,22 +31,39 @@ module _ (format : Format) (numbers : LawfulNumbers (format .readNumber)) where
     holds : FieldHolds present limit value
     past : at ≤ next
     inside : next ≤ length sheet
+    no-longer : at + length (encodeField present value) ≤ next
 
   field-parsed : (present : Bool) (limit : ℕ) (sheet : List ℕ) (at value next : ℕ) → at ≤ length sheet
       → decodeField (format .readNumber) present limit sheet at ≡ parsed value next
       → FieldParsed present limit sheet at value next
   field-parsed true limit sheet at value next h e =
       let moved = numbers .moves limit sheet at value next e in
-      record { holds = numbers .small limit sheet at value next e; past = omega (arith, moved .past); inside = moved .inside }
+      record {
+        holds = numbers .small limit sheet at value next e;
+        past = omega (arith, moved .past);
+        inside = moved .inside;
+        no-longer = numbers .no-longer limit sheet at value next e;
+      }
   field-parsed false limit sheet at value next h e =
       let offset : at ≡ next = cc in
       let none : value ≡ 0 = cc in
-      record { holds = none; past = omega arith; inside = omega arith }
+      record { holds = none; past = omega arith; inside = omega arith; no-longer = omega arith }
+
+  -- how many bytes the fields after the desk have
+  rest-length : (code screen position session : ℕ)
+      → length (encodeField (follows code screenField) screen ++ (encodeField (follows code positionField) position ++ encodeField (follows code sessionField) session))
+      ≡ length (encodeField (follows code screenField) screen) + (length (encodeField (follows code positionField) position) + length (encodeField (follows code sessionField) session))
+  rest-length code screen position session =
+      length-append (encodeField (follows code screenField) screen) _
+      ∙ ap (λ (n : ℕ). length (encodeField (follows code screenField) screen) + n) (length-append (encodeField (follows code positionField) position) _)
 
   record RestParsed (code desk : ℕ) (sheet : List ℕ) (at : ℕ) (entry : Record) (next : ℕ) : Type 0 where
     good : isCode code ≡ true → FieldHolds (follows code deskField) maxNumber desk → GoodRecord (format .maxSession) entry
     past : at ≤ next
     inside : next ≤ length sheet
+    same-code : entry .code ≡ code
+    same-desk : entry .desk ≡ desk
+    no-longer : at + length (encodeRest entry) ≤ next
 
   rest-parsed : (code desk : ℕ) (sheet : List ℕ) (at : ℕ) (entry : Record) (next : ℕ) → at ≤ length sheet
       → decodeRest format code desk sheet at ≡ parsed entry next
@@ -60,15 +80,19 @@ module _ (format : Format) (numbers : LawfulNumbers (format .readNumber)) where
         good = λ fine holds. record { code = fine; desk = holds; screen = g₁ .holds; position = g₂ .holds; session = g₃ .holds };
         past = omega (arith, g₁ .past, g₂ .past, g₃ .past);
         inside = g₃ .inside;
+        same-code = refl;
+        same-desk = refl;
+        no-longer = omega (arith, g₁ .no-longer, g₂ .no-longer, g₃ .no-longer, rest-length code (e₁ .0) (e₂ .0) (e₃ .0));
       })
 
   record RecordParsed (sheet : List ℕ) (at : ℕ) (entry : Record) (next : ℕ) : Type 0 where
     good : GoodRecord (format .maxSession) entry
     moved : Moved sheet at next
+    no-longer : at + length (encodeRecord entry) ≤ next
 
   record-parsed : (sheet : List ℕ) (at : ℕ) (entry : Record) (next : ℕ) → decodeRecord format sheet at ≡ parsed entry next
       → RecordParsed sheet at entry next
-  unfolding decodeRecord
+  unfolding decodeRecord encodeRecord
   record-parsed sheet at entry next e =
       let e₁ = bind-parsed (format .readNumber maxNumber sheet at) _ entry next e in
       let moved = numbers .moves maxNumber sheet at (e₁ .0) (e₁ .1) (e₁ .2) in
@@ -80,11 +104,24 @@ module _ (format : Format) (numbers : LawfulNumbers (format .readNumber)) where
       record {
         good = rest .good (e₂ .0) (desk .holds);
         moved = record { past = omega (arith, moved .past, desk .past, rest .past); inside = rest .inside };
+        no-longer =
+            let code-long : at + length (encodeNumber (entry .code)) ≤ e₁ .1 =
+            subst (λ (n : ℕ). at + length (encodeNumber n) ≤ e₁ .1) (sym (rest .same-code)) (numbers .no-longer maxNumber sheet at (e₁ .0) (e₁ .1) (e₁ .2)) in
+            let desk-long : e₁ .1 + length (encodeField (follows (entry .code) deskField) (entry .desk)) ≤ e₃ .1 =
+            subst (λ (n : ℕ). e₁ .1 + length (encodeField (follows n deskField) (entry .desk)) ≤ e₃ .1) (sym (rest .same-code))
+            (subst (λ (n : ℕ). e₁ .1 + length (encodeField (follows (e₁ .0) deskField) n) ≤ e₃ .1) (sym (rest .same-desk)) (desk .no-longer)) in
+            omega
+            (arith, code-long, desk-long, rest .no-longer, length-append (encodeNumber (entry .code)) (encodeFields entry),
+            length-append (encodeField (follows (entry .code) deskField) (entry .desk)) (encodeRest entry));
       }
 
+  record HeaderParsed (sheet : List ℕ) (at : ℕ) (hall : Hall) (next : ℕ) : Type 0 where
+    moved : Moved sheet at next
+    no-longer : at + length (encodeHeader hall) ≤ next
+
   header-parsed : (sheet : List ℕ) (at : ℕ) (hall : Hall) (next : ℕ) → decodeHeader (format .readNumber) sheet at ≡ parsed hall next
-      → Moved sheet at next
-  unfolding decodeHeader
+      → HeaderParsed sheet at hall next
+  unfolding decodeHeader encodeHeader
   header-parsed sheet at hall next e =
       let e₁ = bind-parsed (format .readNumber maxNumber sheet at) _ hall next e in
       let moved₁ = numbers .moves maxNumber sheet at (e₁ .0) (e₁ .1) (e₁ .2) in
@@ -92,8 +129,15 @@ module _ (format : Format) (numbers : LawfulNumbers (format .readNumber)) where
       let moved₂ = numbers .moves maxNumber sheet (e₁ .1) (e₂ .0) (e₂ .1) (e₂ .2) in
       let e₃ = bind-parsed (format .readNumber maxNumber sheet (e₂ .1)) _ hall next (e₂ .3) in
       let moved₃ = numbers .moves maxNumber sheet (e₂ .1) (e₃ .0) (e₃ .1) (e₃ .2) in
-      let offset : e₃ .1 ≡ next = cc (e₃ .3) in
-      record { past = omega (arith, moved₁ .past, moved₂ .past, moved₃ .past); inside = omega (arith, moved₃ .inside) }
+      same-parsed (HeaderParsed sheet at) (hallOf (e₁ .0) (e₂ .0) (e₃ .0)) hall (e₃ .1) next (e₃ .3)
+      (record {
+        moved = record { past = omega (arith, moved₁ .past, moved₂ .past, moved₃ .past); inside = moved₃ .inside };
+        no-longer =
+            omega
+            (arith, numbers .no-longer maxNumber sheet at (e₁ .0) (e₁ .1) (e₁ .2), numbers .no-longer maxNumber sheet (e₁ .1) (e₂ .0) (e₂ .1) (e₂ .2),
+            numbers .no-longer maxNumber sheet (e₂ .1) (e₃ .0) (e₃ .1) (e₃ .2), length-append (encodeNumber (e₁ .0)) (encodeNumber (e₂ .0) ++ encodeNumber (e₃ .0)),
+            length-append (encodeNumber (e₂ .0)) (encodeNumber (e₃ .0)));
+      })
 
   -- ---- What is written is read back.
   number-read-back : (value : ℕ) → value ≤ maxNumber → ReadsBack (format .readNumber maxNumber) (encodeNumber value) value
@@ -136,12 +180,83 @@ module _ (format : Format) (numbers : LawfulNumbers (format .readNumber)) where
     pub edition1-lawful : Lawful (edition1 format) (format .maxSession)
     edition1-lawful = record {
       header-read-back = header-read-back;
-      header-moves = header-parsed;
+      header-moves = λ sheet at hall next e. header-parsed sheet at hall next e .moved;
+      header-no-longer = λ sheet at hall next e. header-parsed sheet at hall next e .no-longer;
       record-read-back = λ carried. record-read-back;
       record-moves = λ carried sheet at entry next e. record-parsed sheet at entry next e .moved;
+      record-no-longer = λ carried sheet at entry next e. record-parsed sheet at entry next e .no-longer;
       record-code = λ carried sheet at entry next e. record-parsed sheet at entry next e .good .code;
       record-good = λ carried sheet at entry next holds e. record-parsed sheet at entry next e .good;
     }
 
 pub hall-lawful : Lawful hallEdition maxNumber
-hall-lawful = edition1-lawful hallFormat numbers-lawful (omega arith)
+hall-lawful = edition1-lawful hallFormat (numbers-lawful barred) (omega arith)
+
+pub archive-lawful : Lawful archiveEdition maxNumber
+archive-lawful = edition1-lawful archiveFormat (numbers-lawful allowed) (omega arith)
+
+-- ---- Nothing but what is written is read, if that holds of numbers.
+module _ (format : Format) (exact : ExactNumbers (format .readNumber)) where
+  field-exact : (present : Bool) (limit : ℕ) (sheet : List ℕ) (at value next : ℕ) → IsBytes sheet
+      → decodeField (format .readNumber) present limit sheet at ≡ parsed value next
+      → Stands (encodeField present value) sheet at next
+  field-exact true limit sheet at value next are e = exact limit sheet at value next are e
+  field-exact false limit sheet at value next are e = let offset : at ≡ next = cc in subst (Stands [] sheet at) offset (stands-none sheet at)
+
+  -- the fields after the desk stand there, whatever the record's desk
+  record RestExact (code desk : ℕ) (sheet : List ℕ) (at : ℕ) (entry : Record) (next : ℕ) : Type 0 where
+    same-code : entry .code ≡ code
+    same-desk : entry .desk ≡ desk
+    stands : Stands (encodeRest entry) sheet at next
+
+  rest-exact : (code desk : ℕ) (sheet : List ℕ) (at : ℕ) (entry : Record) (next : ℕ) → IsBytes sheet
+      → decodeRest format code desk sheet at ≡ parsed entry next
+      → RestExact code desk sheet at entry next
+  rest-exact code desk sheet at entry next are e =
+      let e₁ = bind-parsed (decodeField (format .readNumber) (follows code screenField) maxNumber sheet at) _ entry next e in
+      let e₂ = bind-parsed (decodeField (format .readNumber) (follows code positionField) maxNumber sheet (e₁ .1)) _ entry next (e₁ .3) in
+      let e₃ = bind-parsed (decodeField (format .readNumber) (follows code sessionField) (format .maxSession) sheet (e₂ .1)) _ entry next (e₂ .3) in
+      same-parsed (RestExact code desk sheet at) (recordFor code desk (e₁ .0) (e₂ .0) (e₃ .0)) entry (e₃ .1) next (e₃ .3)
+      (record {
+        same-code = refl;
+        same-desk = refl;
+        stands =
+            stands-join _ _ sheet (field-exact (follows code screenField) maxNumber sheet at (e₁ .0) (e₁ .1) are (e₁ .2))
+            (stands-join _ _ sheet (field-exact (follows code positionField) maxNumber sheet (e₁ .1) (e₂ .0) (e₂ .1) are (e₂ .2))
+            (field-exact (follows code sessionField) (format .maxSession) sheet (e₂ .1) (e₃ .0) (e₃ .1) are (e₃ .2)));
+      })
+
+  record-exact : (sheet : List ℕ) (at : ℕ) (entry : Record) (next : ℕ) → IsBytes sheet → decodeRecord format sheet at ≡ parsed entry next
+      → Stands (encodeRecord entry) sheet at next
+  unfolding decodeRecord encodeRecord
+  record-exact sheet at entry next are e =
+      let e₁ = bind-parsed (format .readNumber maxNumber sheet at) _ entry next e in
+      let e₂ = asked-parsed (isCode (e₁ .0)) _ _ entry next (e₁ .3) in
+      let e₃ = bind-parsed (decodeField (format .readNumber) (follows (e₁ .0) deskField) maxNumber sheet (e₁ .1)) _ entry next
+      (coded-parsed (e₁ .0) _ entry next (e₂ .1)) in
+      let rest = rest-exact (e₁ .0) (e₃ .0) sheet (e₃ .1) entry next are (e₃ .3) in
+      let code : Stands (encodeNumber (entry .code)) sheet at (e₁ .1) =
+      subst (λ (n : ℕ). Stands (encodeNumber n) sheet at (e₁ .1)) (sym (rest .same-code)) (exact maxNumber sheet at (e₁ .0) (e₁ .1) are (e₁ .2)) in
+      let desk : Stands (encodeField (follows (entry .code) deskField) (entry .desk)) sheet (e₁ .1) (e₃ .1) =
+      subst (λ (n : ℕ). Stands (encodeField (follows n deskField) (entry .desk)) sheet (e₁ .1) (e₃ .1)) (sym (rest .same-code))
+      (subst (λ (n : ℕ). Stands (encodeField (follows (e₁ .0) deskField) n) sheet (e₁ .1) (e₃ .1)) (sym (rest .same-desk))
+      (field-exact (follows (e₁ .0) deskField) maxNumber sheet (e₁ .1) (e₃ .0) (e₃ .1) are (e₃ .2))) in
+      stands-join _ _ sheet code (stands-join _ _ sheet desk (rest .stands))
+
+  header-exact : (sheet : List ℕ) (at : ℕ) (hall : Hall) (next : ℕ) → IsBytes sheet → decodeHeader (format .readNumber) sheet at ≡ parsed hall next
+      → Stands (encodeHeader hall) sheet at next
+  unfolding decodeHeader encodeHeader
+  header-exact sheet at hall next are e =
+      let e₁ = bind-parsed (format .readNumber maxNumber sheet at) _ hall next e in
+      let e₂ = bind-parsed (format .readNumber maxNumber sheet (e₁ .1)) _ hall next (e₁ .3) in
+      let e₃ = bind-parsed (format .readNumber maxNumber sheet (e₂ .1)) _ hall next (e₂ .3) in
+      same-parsed (λ (found : Hall) (after : ℕ). Stands (encodeNumber (found .desks) ++ (encodeNumber (found .screens) ++ encodeNumber (found .positions))) sheet at after)
+      (hallOf (e₁ .0) (e₂ .0) (e₃ .0)) hall (e₃ .1) next (e₃ .3)
+      (stands-join _ _ sheet (exact maxNumber sheet at (e₁ .0) (e₁ .1) are (e₁ .2))
+      (stands-join _ _ sheet (exact maxNumber sheet (e₁ .1) (e₂ .0) (e₂ .1) are (e₂ .2)) (exact maxNumber sheet (e₂ .1) (e₃ .0) (e₃ .1) are (e₃ .2))))
+
+  pub edition1-exact : Exact (edition1 format)
+  edition1-exact = record { header-exact = header-exact; record-exact = λ carried. record-exact }
+
+pub hall-exact : Exact hallEdition
+hall-exact = edition1-exact hallFormat shortest-numbers-exact

@@ -10,9 +10,9 @@ use lib.ListN.{length, take}
 use lib.Dec.{leb, ltb}
 use borrow.Author.Tests.{leb-false, leb-true, ne-eqb}
 use Rattle.rules.specs.Hall.{Hall, hallLimits}
-use Rattle.rules.specs.Numbers.{Parsed, Refusal, maxNumber, parsed, refusal, refusalOf, refused}
+use Rattle.rules.specs.Numbers.{Parsed, Refusal, allowed, maxNumber, parsed, refusal, refusalOf, refused}
 use Rattle.rules.specs.Table.{openTable}
-use Rattle.sheet_rules.specs.Edition1.{Format}
+use Rattle.sheet_rules.specs.Edition1.{Format, archiveEdition, archiveFormat}
 use Rattle.sheet_rules.specs.Lawful.{LawfulNumbers}
 use Rattle.sheet_rules.specs.Lines.{answerLine, decimal, endLine, line, linesFrom, linesOf, printed, refusalLine}
 use Rattle.sheet_rules.specs.Offsets.{EditionOfNumbers, Located, NumbersBetween, OfNumbers, PrintsRefusal, ShowsByte, WholeLines, ending, endingIn, refusesNumber}
@@ -20,14 +20,17 @@ use Rattle.sheet_rules.specs.Run.{runRecord}
 use Rattle.sheet_rules.specs.Sheet.{Carried, Edition, Reading, Record, Records, afterHeader, bindRecords, carriedAfter, complete, decodeRecords, lentTable}
 use Rattle.sheet_rules.specs.Sheet.{maxBytes, more, noDesk, opened, openedIf, openingNumber, reading, stop, unopened}
 use Rattle.sheet_rules.specs.Tally.{Tally, addStep, zeros}
-use Rattle.sheet_rules.specs.laws.NumbersBetween.{between-append, between-one, fill-inside, fill-kept, located-after, no-number, refused-past}
+use Rattle.sheet_rules.specs.laws.Numbers.{allowed-never-19, numbers-lawful}
+use Rattle.sheet_rules.specs.laws.NumbersBetween.{between-append, between-one, edition1-of-numbers, fill-inside, fill-kept, located-after, no-number}
+use Rattle.sheet_rules.specs.laws.NumbersBetween.{refused-past}
 use Rattle.sheet_rules.specs.laws.Sheet.{opening-never-four, too-long}
 
 -- ---- Readings.
 
 -- 1, 2 and 3 refuse an opening, and no number.
 opening-refuses-no-number : (n : ℕ) → n ≤ 3 → refusesNumber n ≡ false
-opening-refuses-no-number n few = simp (ne-eqb n 15 (λ same. omega (arith, same, few)), ne-eqb n 16 (λ same. omega (arith, same, few)))
+opening-refuses-no-number n few =
+    simp (ne-eqb n 15 (λ same. omega (arith, same, few)), ne-eqb n 16 (λ same. omega (arith, same, few)), ne-eqb n 19 (λ same. omega (arith, same, few)))
 
 module _ {format : Format} {edition : Edition} (of-numbers : EditionOfNumbers format edition) (sheet : List ℕ) where
   abbrev EndLocated : Option Refusal → ℕ → Type 0
@@ -67,7 +70,7 @@ module _ {format : Format} {edition : Edition} (of-numbers : EditionOfNumbers fo
       by-header (refused reason) located = located
 
       by-length : (short : Bool)
-          → EndLocated (ending (cond short (afterHeader edition sheet (edition .decodeHeader sheet 0)) (unopened (refusalOf 0 18 0)))) 0
+          → EndLocated (ending (afterHeader edition sheet (cond short (edition .decodeHeader sheet 0) (refused (refusalOf 0 18 0))))) 0
       by-length true = by-header (edition .decodeHeader sheet 0) (of-numbers .header-of-numbers sheet 0)
       by-length false = no-number format sheet 0 0 18 refl
 
@@ -140,6 +143,15 @@ module _ {format : Format} (numbers : LawfulNumbers (format .readNumber)) where
           count = byte .before .count;
           numbers = fill-kept (format .readNumber) sheet numbers mended (byte .before .count) 0 offset (byte .before .numbers) kept;
         }
+
+-- 19 ends no reading of a sheet in the archive.
+pub archive-of-numbers : EditionOfNumbers archiveFormat archiveEdition
+archive-of-numbers = edition1-of-numbers (numbers-lawful allowed) (omega arith)
+
+pub archive-never-19 : (sheet : List ℕ) (reason : Refusal) → ending (reading archiveEdition sheet) ≡ some reason → reason .number ≡ 19 → ⊥
+archive-never-19 sheet reason e is =
+    let byte = ending-located archive-of-numbers sheet reason e .shows (ap refusesNumber is) in
+    allowed-never-19 (byte .limit) sheet (reason .offset) (reason .offset) (byte .refuses ∙ ap (λ (n : ℕ). refusal 0 n (reason .offset)) is)
 
 -- ---- Its line is printed.
 line-whole : (index code number session : ℕ) → WholeLines (line index code number session)

@@ -3,7 +3,7 @@ use Prim.Native.Nat.{ℕ, _+_}
 use native.Mathlib.Omega.{arith}
 use mathlib.Core.Path.{_≡_, refl, sym, ap, _∙_, subst}
 use mathlib.Core.Bool.{Bool, true, false, cond}
-use mathlib.Core.List.{List, _++_, append-assoc, append-nil}
+use mathlib.Core.List.{List, [], _++_, append-assoc, append-nil}
 use lib.ListN.{length, drop, length-append}
 use lib.Seq.{drop-length, drop-drop, drop-append-seam}
 use Rattle.rules.specs.Numbers.{Parsed, Refusal, bind, parsed, refused}
@@ -46,6 +46,16 @@ stands-split first second sheet at next h =
 
     one : drop at sheet ≡ first ++ drop (at + length first) sheet
     one = all ∙ ap (λ (rest : List ℕ). first ++ rest) (sym two)
+
+pub stands-join : (first second sheet : List ℕ) {at middle next : ℕ} → Stands first sheet at middle → Stands second sheet middle next
+    → Stands (first ++ second) sheet at next
+stands-join first second sheet {at} {middle} {next} one two = record {
+  content = one .content ∙ ap (λ (rest : List ℕ). first ++ rest) (two .content) ∙ sym (append-assoc first second (drop next sheet));
+  end = omega (arith, one .end, two .end, length-append first second);
+}
+
+pub stands-none : (sheet : List ℕ) (at : ℕ) → Stands [] sheet at at
+stands-none sheet at = record { content = refl; end = omega arith }
 
 pub stands-whole : (sheet : List ℕ) → Stands sheet sheet 0 (length sheet)
 stands-whole sheet =
