@@ -206,7 +206,7 @@ fn admit(t: &[u8], hall: Hall, desk: u16) -> Admission
 }
 
 // What the opening of a hall asks, in order, of its three numbers and of the words that the table has.
-fn opening(desks: u16, screens: u16, positions: u16, words: usize) -> Reply
+pub fn opening(desks: u16, screens: u16, positions: u16, words: usize) -> Reply
     ensures { λ r. ⌜ OpeningAnswer (hallOf desks screens positions) words (answerOf r) ⌝ }
 {
     if !in_range(desks, Board::MAX_DESKS) {

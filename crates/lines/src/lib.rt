@@ -1,6 +1,9 @@
 use buffer::put_byte;
 ghost use mathlib.Core.List.{[], _∷_, _++_};
+ghost use mathlib.Core.Path.{_≡_};
+ghost use lib.ListN.{length};
 ghost use Rattle.sheet_rules.specs.Lines.{decimal, endLine, line};
+ghost use Rattle.sheet_rules.specs.Rewriting.{refusedLine};
 ghost use Rattle.sheet_rules.specs.Tally.{tallyOf};
 ghost use Rattle.buffer.specs.Put.{Fits, Put};
 
@@ -60,4 +63,31 @@ pub fn put_end(out: &mut [u8], at: usize, accepted: u64, refused: u64, handed_ba
     let after_accepted = put_number(out, after_end, accepted, b' ');
     let after_refused = put_number(out, after_accepted, refused, b' ');
     put_number(out, after_refused, handed_back, b'\n')
+}
+
+// How many digits a number has.
+fn decimal_length(value: u64) -> usize
+    ensures { λ r. ⌜ r ≡ length (decimal value) ⌝ }
+{
+    if value < 10 {
+        return 1;
+    }
+    decimal_length(value / 10) + 1
+}
+
+// How many bytes the line of a refused sheet has.
+pub fn refused_length(number: u64, offset: u64) -> usize
+    ensures { λ r. ⌜ r ≡ length (refusedLine number offset) ⌝ }
+{
+    decimal_length(number) + 1 + decimal_length(offset) + 1
+}
+
+// The line of a refused sheet: reply number, offset.
+// Precondition: the line fits.
+pub fn put_refused(out: &mut [u8], at: usize, number: u64, offset: u64) -> usize
+    requires { ⌜ Fits (now out) at (refusedLine number offset) ⌝ }
+    ensures { λ r. ⌜ Put (now (out .entry)) (now (out .exit)) at (refusedLine number offset) r ⌝ }
+{
+    let after_number = put_number(out, at, number, b' ');
+    put_number(out, after_number, offset, b'\n')
 }

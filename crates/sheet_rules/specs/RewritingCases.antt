@@ -51,8 +51,8 @@ pub sheets-shortened : map (λ (case : Case). shorten (case .sheet)) sheets ≡ 
 unfolding rewrite refusedLine reading decodeHeader decodeRecord decodeNumber openingNumber lentTable encodeSheet encodeHeader encodeRecord encodeNumber decimal
 sheets-shortened = refl
 
--- "the number, a space, its offset or 0"; the code is not written.
-pub refused-line : refusedLine (refusalOf 3 16 65536) ≡ text ("16 65536" ∷ [])
+-- "the number, a space, its offset or 0"
+pub refused-line : refusedLine 16 65536 ≡ text ("16 65536" ∷ [])
 unfolding refusedLine decimal
 refused-line = refl
 

@@ -3,6 +3,7 @@ pub mod Numbers
 pub mod Edition1
 pub mod Sheet
 pub mod Exact
+pub mod Longest
 pub mod Rewriting
 pub mod NumbersBetween
 pub mod Offsets

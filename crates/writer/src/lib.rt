@@ -94,7 +94,7 @@ fn put_field(out: &mut [u8], at: usize, code: u16, field: usize, value: u16) -> 
 
 // How many bytes a record has.
 // Precondition: the code is one of the five, as for `follows`.
-fn record_length(entry: Record) -> usize
+pub fn record_length(entry: Record) -> usize
     requires { ⌜ (1 ≤ entry .code) × (entry .code ≤ 5) ⌝ }
     ensures { λ r. ⌜ r ≡ length (encodeRecord (recordOf entry)) ⌝ }
 {
@@ -108,7 +108,7 @@ fn record_length(entry: Record) -> usize
 
 // Puts a record: its code, and then its fields.
 // Precondition: the code is one of the five, as for `follows`, and the buffer has room for the record.
-fn put_record(out: &mut [u8], at: usize, entry: Record) -> usize
+pub fn put_record(out: &mut [u8], at: usize, entry: Record) -> usize
     requires { ⌜ (1 ≤ entry .code) × (entry .code ≤ 5) × Fits (now out) at (encodeRecord (recordOf entry)) ⌝ }
     ensures { λ r. ⌜ Put (now (out .entry)) (now (out .exit)) at (encodeRecord (recordOf entry)) r ⌝ }
 {
@@ -137,7 +137,7 @@ pub fn write_record(out: &mut [u8], at: usize, entry: Record) -> Written
 }
 
 // How many bytes a header has.
-fn header_length(header: Header) -> usize
+pub fn header_length(header: Header) -> usize
     ensures { λ r. ⌜ r ≡ length (encodeHeader (headerOf header)) ⌝ }
 {
     number_length(header.desks) + number_length(header.screens) + number_length(header.positions)
@@ -145,7 +145,7 @@ fn header_length(header: Header) -> usize
 
 // Puts a header: P, c and L.
 // Precondition: the buffer has room for it.
-fn put_header(out: &mut [u8], at: usize, header: Header) -> usize
+pub fn put_header(out: &mut [u8], at: usize, header: Header) -> usize
     requires { ⌜ Fits (now out) at (encodeHeader (headerOf header)) ⌝ }
     ensures { λ r. ⌜ Put (now (out .entry)) (now (out .exit)) at (encodeHeader (headerOf header)) r ⌝ }
 {

@@ -1,7 +1,7 @@
 -- `sheet::finish` meets its contract.
 use native.Mathlib.Omega.{arith}
 use borrow.Author.Needs.{needs}
-use Rattle.lines.specs.laws.Longest.{end-length}
+use Rattle.sheet_rules.specs.laws.Longest.{end-length}
 use Rattle.tally.specs.Counts.{toTally}
 use Rattle.sheet.proofs.finish.Statement.{statement}
 use Rattle.sheet.proofs.finish.Tie as tie

@@ -3,7 +3,7 @@ use native.Mathlib.Omega.{arith}
 use mathlib.Core.Path.{_≡_, sym, ap, _∙_}
 use borrow.Author.Needs.{needs}
 use Rattle.rules.specs.Numbers.{parsed}
-use Rattle.lines.specs.laws.Longest.{line-length}
+use Rattle.sheet_rules.specs.laws.Longest.{line-length}
 use Rattle.reader.specs.Results.{recordOf, recordResult}
 use Rattle.sheet.proofs.BatchLaws.{finished-progress, nextRecord, reading-stopped, record-progress, record-ran, sheet-ended}
 use Rattle.sheet.proofs.put_record.Statement.{statement}

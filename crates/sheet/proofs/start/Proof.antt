@@ -6,7 +6,7 @@ use Rattle.rules.specs.Bytes.{wordsOfBytes}
 use Rattle.rules.specs.Hall.{hallLimits}
 use Rattle.rules.specs.Numbers.{parsed}
 use Rattle.rules.specs.Table.{openTable}
-use Rattle.lines.specs.laws.Longest.{line-length}
+use Rattle.sheet_rules.specs.laws.Longest.{line-length}
 use Rattle.reader.specs.Results.{headerOf, headerResult}
 use Rattle.reply.specs.Answer.{tableResult}
 use Rattle.sheet_rules.specs.Edition1.{hallEdition}

@@ -1,7 +1,7 @@
 -- `sheet::stop` meets its contract.
 use native.Mathlib.Omega.{arith}
 use borrow.Author.Needs.{needs}
-use Rattle.lines.specs.laws.Longest.{line-length}
+use Rattle.sheet_rules.specs.laws.Longest.{line-length}
 use Rattle.buffer.specs.laws.Put.{put-on}
 use Rattle.sheet.proofs.stop.Statement.{statement}
 use Rattle.sheet.proofs.stop.Tie as tie

@@ -10,7 +10,7 @@ use borrow.Author.Tests.{leb-true}
 use Rattle.rules.specs.Hall.{Hall, hallLimits}
 use Rattle.rules.specs.Numbers.{Parsed, Refusal, parsed, refusalOf, refused}
 use Rattle.rules.specs.Table.{openTable}
-use Rattle.lines.specs.laws.Longest.{end-length, line-length}
+use Rattle.sheet_rules.specs.laws.Longest.{end-length, line-length}
 use Rattle.sheet_rules.specs.Lines.{endLine, line, linesFrom, linesOf, printed, refusalLine}
 use Rattle.sheet_rules.specs.Run.{runRecord}
 use Rattle.sheet_rules.specs.Sheet.{Carried, Edition, Record, afterHeader, bindRecords, carriedAfter, complete, decodeRecords, lentTable, maxBytes, more}

@@ -1,25 +1,24 @@
 -- A sheet that is written anew: it is accepted with the same meaning, or the line of what ended its reading is written.
-use Prim.Native.Nat.{ℕ, zero, suc, _+_, _/_, _%_, _≤_}
+use Prim.Native.Nat.{ℕ, _≤_}
 use native.Mathlib.Omega.{arith}
 use mathlib.Core.Path.{_≡_, refl, sym, ap, _∙_, subst}
-use mathlib.Core.Bool.{Bool, true, false, cond}
 use mathlib.Core.List.{List, [], _∷_, _++_}
 use mathlib.Core.Logic.{inl, inr, ⊎-elim}
 use mathlib.Core.Option.{Option, none, some}
-use lib.ListN.{length, length-append}
-use lib.Dec.{ltb}
+use lib.ListN.{length}
 use Rattle.rules.specs.Bytes.{IsBytes}
 use Rattle.rules.specs.Hall.{Hall}
 use Rattle.rules.specs.Numbers.{Refusal}
 use Rattle.sheet_rules.specs.Edition1.{Format, archiveEdition, archiveFormat, edition1, hallEdition, hallFormat}
-use Rattle.sheet_rules.specs.Lines.{decimal, digits, linesOf, printed, spaced}
+use Rattle.sheet_rules.specs.Lines.{linesOf, printed}
 use Rattle.sheet_rules.specs.Offsets.{endingIn}
-use Rattle.sheet_rules.specs.Rewriting.{RefusedSheet, Shortened, ShortenedOrRefused, entriesIn, meaningOf, refusedLine, rewrite, shorten, writeReading}
+use Rattle.sheet_rules.specs.Rewriting.{RefusedSheet, Shortened, ShortenedOrRefused, entriesIn, meaningOf, rewrite, shorten, writeReading}
 use Rattle.sheet_rules.specs.Rewriting.{writeUnless}
 use Rattle.sheet_rules.specs.Sheet.{Accepted, Carried, Edition, Meaning, Reading, Record, Records, carriedAfter, complete, encodeRecords, encodeSheet}
 use Rattle.sheet_rules.specs.Sheet.{maxBytes, more, noDesk, opened, reading, stop, unopened, whole}
 use Rattle.sheet_rules.specs.laws.Edition1.{archive-lawful, hall-exact, hall-lawful}
 use Rattle.sheet_rules.specs.laws.Exact.{accepted-bytes, accepted-no-longer}
+use Rattle.sheet_rules.specs.laws.Longest.{refused-length}
 use Rattle.sheet_rules.specs.laws.Sheet.{accepted-good, opened-from, reading-back}
 
 -- ---- Records that nothing ended are whole.
@@ -105,21 +104,6 @@ unfolding printed
 prints-the-same sheet meaning e = let is = shortened sheet meaning e in ap linesOf (is .is-accepted ∙ sym (is .was-accepted))
 
 -- ---- The output fits into 65,536 bytes.
-digits-length : (most value : ℕ) → length (digits most value) ≤ most
-digits-length zero value = omega arith
-digits-length (suc most) value = by-size (ltb value 10) (digits-length most (value / 10))
-  where
-    by-size : (small : Bool) → length (digits most (value / 10)) ≤ most → length (cond small ((48 + value) ∷ []) (digits most (value / 10) ++ ((48 + value % 10) ∷ []))) ≤ suc most
-    by-size true shorter = omega arith
-    by-size false shorter = omega (arith, shorter, length-append (digits most (value / 10)) ((48 + value % 10) ∷ []))
-
-line-length : (reason : Refusal) → length (refusedLine reason) ≤ 42
-unfolding refusedLine decimal
-line-length reason =
-    omega
-    (arith, digits-length 20 (reason .number), digits-length 20 (reason .offset),
-    length-append (digits 20 (reason .number)) (32 ∷ (digits 20 (reason .offset) ++ (10 ∷ []))), length-append (digits 20 (reason .offset)) (10 ∷ []))
-
 pub shortened-fits : (sheet : List ℕ) → length (shorten sheet) ≤ maxBytes
 shortened-fits sheet = ⊎-elim accepted refused (shortened-or-refused sheet)
   where
@@ -129,4 +113,4 @@ shortened-fits sheet = ⊎-elim accepted refused (shortened-or-refused sheet)
         omega (arith, is .no-longer, was .short)
 
     refused : RefusedSheet sheet (shorten sheet) → length (shorten sheet) ≤ maxBytes
-    refused is = omega (arith, line-length (is .reason), ap length (is .line))
+    refused is = omega (arith, refused-length (is .reason .number) (is .reason .offset), ap length (is .line))

@@ -5,8 +5,9 @@ use mathlib.Core.Bool.{Bool, true, false, cond}
 use mathlib.Core.List.{List, [], _∷_, _++_}
 use lib.ListN.{length, length-append}
 use lib.Dec.{ltb}
 use Rattle.sheet_rules.specs.Lines.{decimal, digits, endLine, line, spaced}
+use Rattle.sheet_rules.specs.Rewriting.{refusedLine}
 use Rattle.sheet_rules.specs.Tally.{Tally}
 
 digits-length : (most value : ℕ) → length (digits most value) ≤ most
 digits-length zero value = omega arith
@@ -17,11 +18,14 @@ digits-length (suc most) value = by-size (ltb value 10) (digits-length most (val
     by-size true few = omega arith
     by-size false few = omega (arith, length-append (digits most (value / 10)) ((48 + value % 10) ∷ []))
 
+pub decimal-length : (value : ℕ) → length (decimal value) ≤ 20
+unfolding decimal
+decimal-length value = digits-length 20 value
+
 -- a number and what follows it
 number-length : (value after : ℕ) (rest : List ℕ) (most : ℕ) → length rest ≤ most → length (decimal value ++ (after ∷ rest)) ≤ 21 + most
-unfolding decimal
 number-length value after rest most few =
-    omega (arith, digits-length 20 value, length-append (decimal value) (after ∷ rest))
+    omega (arith, decimal-length value, length-append (decimal value) (after ∷ rest))
 
 pub line-length : (index code number session : ℕ) → length (line index code number session) ≤ 84
 unfolding line
@@ -38,3 +42,7 @@ end-length tally =
       number-length (tally .accepted) 32 (spaced (tally .refused ∷ tally .handedBack ∷ [])) 42
           (number-length (tally .refused) 32 (spaced (tally .handedBack ∷ [])) 21 (number-length (tally .handedBack) 10 [] 0 (omega arith))),
     )
+
+pub refused-length : (number offset : ℕ) → length (refusedLine number offset) ≤ 42
+unfolding refusedLine
+refused-length number offset = number-length number 32 (spaced (offset ∷ [])) 21 (number-length offset 10 [] 0 (omega arith))

@@ -1,2 +1,0 @@
--- The laws that callers use.
-pub mod laws

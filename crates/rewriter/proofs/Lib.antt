@@ -1,0 +1,3 @@
+-- Laws that the proofs cite.
+pub mod RecordLaws
+pub mod SheetLaws
