@@ -1,25 +1,18 @@
 // The sheet program: reads a day sheet from standard input and prints its lines. If it cannot read or write, it says why on
 // standard error. After a failed read it prints no lines.
+use arguments::Request;
+use arguments::asked;
 use input::Input;
 use input::read_to_end;
 use libc::STDERR_FILENO;
 use libc::STDIN_FILENO;
 use libc::STDOUT_FILENO;
 use printing::print;
-
-// One byte more than a sheet may have: a sheet of so many bytes is too long.
-const BYTES: usize = 65537;
+use reader::TOO_MANY_BYTES;
 
 // Says on standard error why the last write to standard output failed.
 fn report_output() {
     os::fail(b"day_sheet: cannot write standard output");
-}
-
-// Whether the program's only argument is `--help`. (A longer argument does not fit, and is read as none.)
-fn asks_for_help(arguments: usize) -> bool {
-    let mut argument = [0u8; 8];
-    let n = os::arg(1, &mut argument);
-    arguments == 2 && check::same(&argument[..n], b"--help")
 }
 
 // Prints the help, and returns whether it could be written.
@@ -31,7 +24,7 @@ fn print_help() -> bool {
         )
         && io::write_all(
             STDOUT_FILENO,
-            b"record number, step code, reply number, session. With 15 and 16 the last number is\n",
+            b"record number, step code, reply number, session. With 15, 16 and 19 the last number is\n",
         )
         && io::write_all(
             STDOUT_FILENO,
@@ -47,37 +40,33 @@ fn print_help() -> bool {
         )
 }
 
-// Answers a call with arguments: the help, or a line on standard error.
-fn answer_arguments(arguments: usize) {
-    if !asks_for_help(arguments) {
-        io::write_all(
-            STDERR_FILENO,
-            b"usage: day_sheet < SHEET, or day_sheet --help\n",
-        );
-        return;
-    }
-    if !print_help() {
-        report_output();
-    }
-}
-
-// Prints the lines of a sheet.
-fn print_sheet(sheet: &[u8]) {
-    let printed = print(sheet);
-    if !printed.complete {
-        report_output();
+// Prints the lines of the sheet on standard input.
+fn run() {
+    let mut bytes = [0u8; TOO_MANY_BYTES];
+    match read_to_end(STDIN_FILENO, &mut bytes) {
+        Input::Failed => os::fail(b"day_sheet: cannot read standard input"),
+        Input::Bytes(n) => {
+            let printed = print(&bytes[..n]);
+            if !printed.complete {
+                report_output();
+            }
+        }
     }
 }
 
 fn main() {
-    let arguments = os::arg_count();
-    if 1 < arguments {
-        answer_arguments(arguments);
-        return;
-    }
-    let mut bytes = [0u8; BYTES];
-    match read_to_end(STDIN_FILENO, &mut bytes) {
-        Input::Failed => os::fail(b"day_sheet: cannot read standard input"),
-        Input::Bytes(n) => print_sheet(&bytes[..n]),
+    match asked() {
+        Request::Run => run(),
+        Request::Help => {
+            if !print_help() {
+                report_output();
+            }
+        }
+        Request::Unknown => {
+            io::write_all(
+                STDERR_FILENO,
+                b"usage: day_sheet < SHEET, or day_sheet --help\n",
+            );
+        }
     }
 }

@@ -13,6 +13,9 @@ ghost use Rattle.reader.specs.Results.{carriedOf, formatOf, headerResult
 // The most bytes of a sheet.
 pub const MAX_BYTES: usize = 65536;
 
+// One byte more: a program that has read so many bytes knows that the sheet is too long.
+pub const TOO_MANY_BYTES: usize = MAX_BYTES + 1;
+
 // The largest number of a sheet.
 const MAX_NUMBER: u16 = 65535;
 

@@ -12,7 +12,7 @@ use Rattle.sheet_rules.specs.Offsets.{endingIn}
 use Rattle.sheet_rules.specs.Rewriting.{entriesIn}
 use Rattle.sheet_rules.specs.Sheet.{Edition, Records, beginSheet, decodeRecords, encodeRecords, noDesk, openingNumber}
 use Rattle.rewriter.specs.declared.Measured.{Measured}
-use Rattle.rewriter.specs.declared.Measured.the-variants.{Bytes, Refused}
+use Rattle.rewriter.specs.declared.Measured.the-variants.{Length, Refused}
 
 -- The header and the offset after it, if the hall opens.
 abbrev pub ifOpens : ℕ → Hall → ℕ → Parsed Hall
@@ -41,7 +41,7 @@ pub data Size : Type 0 where
   endedBy : Refusal → Size
 
 abbrev pub sizeOf : Measured → Size
-sizeOf (Bytes n) = bytes n
+sizeOf (Length n) = bytes n
 sizeOf (Refused reason) = endedBy (reasonOf reason)
 
 abbrev pub measure : Option Refusal → List ℕ → Size

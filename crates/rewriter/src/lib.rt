@@ -15,7 +15,6 @@ use reader::begin_sheet;
 use reader::read_record;
 use reader::refuse_sheet;
 use reply::number;
-use writer::Written;
 use writer::header_length;
 use writer::put_header;
 use writer::put_record;
@@ -29,8 +28,16 @@ ghost use Rattle.reader.specs.Results.{headerOf, headerResult};
 ghost use Rattle.sheet_rules.specs.Edition1.{archiveEdition, encodeHeader};
 ghost use Rattle.sheet_rules.specs.Rewriting.{refusedLine, shorten as shortened};
 ghost use Rattle.sheet_rules.specs.Sheet.{maxBytes};
-ghost use Rattle.writer.specs.Output.{outputOf, writeAt};
 ghost use Rattle.rewriter.specs.Measure.{NothingEnds, openSheet, recordsFrom, recordsSize, sizeOf, writtenFrom};
+ghost use Rattle.rewriter.specs.Output.{outputOf, writeWhole};
+
+// The result of writing, which writes all bytes or none.
+pub enum Written {
+    // So many bytes, from the start of the buffer.
+    Bytes(usize),
+    // They do not fit.
+    NoRoom,
+}
 
 // Reads the header of a sheet, and asks the opening's questions.
 fn open_sheet(sheet: &[u8]) -> ParsedHeader
@@ -56,7 +63,7 @@ fn open_sheet(sheet: &[u8]) -> ParsedHeader
 
 // How many bytes records have when they are written, or what ends their reading.
 pub enum Measured {
-    Bytes(usize),
+    Length(usize),
     Refused(Refusal),
 }
 
@@ -77,7 +84,7 @@ fn measure_records(sheet: &[u8], first: usize) -> Measured
             }
         }
     }
-    Measured::Bytes(bytes)
+    Measured::Length(bytes)
 }
 
 // Puts the records from an offset on; the result is the offset after them in the buffer.
@@ -106,36 +113,36 @@ fn put_records(sheet: &[u8], first: usize, out: &mut [u8], start: usize) -> usiz
 // Precondition: nothing ends the reading of the records, they have so many bytes, and all bytes are at most 65,536.
 fn write_sheet(sheet: &[u8], header: Header, first: usize, bytes: usize, out: &mut [u8]) -> Written
     requires { ⌜ NothingEnds (now sheet) first × (bytes ≡ length (writtenFrom (now sheet) first)) × (length (encodeHeader (headerOf header)) + bytes ≤ maxBytes) ⌝ }
-    ensures { λ r. ⌜ outputOf r (now (out .exit)) ≡ writeAt (now (out .entry)) 0 (encodeHeader (headerOf header) ++ writtenFrom (now (sheet .entry)) first) ⌝ }
+    ensures { λ r. ⌜ outputOf r (now (out .exit)) ≡ writeWhole (now (out .entry)) (encodeHeader (headerOf header) ++ writtenFrom (now (sheet .entry)) first) ⌝ }
 {
     if fits(out.len(), 0, header_length(header) + bytes) {
         let start = put_header(out, 0, header);
-        return Written::Next(put_records(sheet, first, out, start));
+        return Written::Bytes(put_records(sheet, first, out, start));
     }
     Written::NoRoom
 }
 
 // Writes the line of a refused sheet, if the buffer has room for it.
 fn write_refused(out: &mut [u8], reason: Refusal) -> Written
-    ensures { λ r. ⌜ outputOf r (now (out .exit)) ≡ writeAt (now (out .entry)) 0 (refusedLine (reason .number) (reason .offset)) ⌝ }
+    ensures { λ r. ⌜ outputOf r (now (out .exit)) ≡ writeWhole (now (out .entry)) (refusedLine (reason .number) (reason .offset)) ⌝ }
 {
     let reply_number = reason.number as u64;
     let offset = reason.offset as u64;
     if fits(out.len(), 0, refused_length(reply_number, offset)) {
-        return Written::Next(put_refused(out, 0, reply_number, offset));
+        return Written::Bytes(put_refused(out, 0, reply_number, offset));
     }
     Written::NoRoom
 }
 
 // Writes a sheet anew, if the buffer has room for it; or the line of a refused sheet, if the buffer has room for that.
 pub fn shorten(sheet: &[u8], out: &mut [u8]) -> Written
-    ensures { λ r. ⌜ outputOf r (now (out .exit)) ≡ writeAt (now (out .entry)) 0 (shortened (now (sheet .entry))) ⌝ }
+    ensures { λ r. ⌜ outputOf r (now (out .exit)) ≡ writeWhole (now (out .entry)) (shortened (now (sheet .entry))) ⌝ }
 {
     match open_sheet(sheet) {
         ParsedHeader::Refused(reason) => write_refused(out, reason),
         ParsedHeader::Whole(header, first) => match measure_records(sheet, first) {
             Measured::Refused(reason) => write_refused(out, reason),
-            Measured::Bytes(bytes) => write_sheet(sheet, header, first, bytes, out),
+            Measured::Length(bytes) => write_sheet(sheet, header, first, bytes, out),
         },
     }
 }

@@ -3,9 +3,7 @@
 use libc::STDIN_FILENO;
 use libc::STDOUT_FILENO;
 use printing::print;
-
-// One byte more than a sheet may have, as in the sheet program, which reads no more bytes of a longer sheet.
-const BYTES: usize = 65537;
+use reader::TOO_MANY_BYTES;
 
 // The most cases.
 const MAX_CASES: u64 = 1000;
@@ -42,7 +40,7 @@ fn print_next(case: u64, bytes: &mut [u8]) -> bool {
 }
 
 fn main() {
-    let mut bytes = [0u8; BYTES];
+    let mut bytes = [0u8; TOO_MANY_BYTES];
     for case in 1..=MAX_CASES {
         if !print_next(case, &mut bytes) {
             return;

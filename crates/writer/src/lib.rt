@@ -1,5 +1,4 @@
-// Writes the numbers, the records and the header of a day sheet, each number in its shortest form, into a buffer that the caller lends.
-use buffer::fits;
+// Puts the records and the header of a day sheet into a buffer that the caller lends, each number in its shortest form.
 use buffer::put_byte;
 use fields::DESK;
 use fields::POSITION;
@@ -15,17 +14,6 @@ ghost use Rattle.buffer.specs.Put.{Fits, Put};
 ghost use Rattle.reader.specs.Results.{headerOf, recordOf};
 ghost use Rattle.sheet_rules.specs.Edition1.{encodeField, encodeHeader, encodeNumber, encodeRecord};
 ghost use Rattle.sheet_rules.specs.Sheet.{follows as followsCode};
-ghost use Rattle.writer.specs.Output.{outputOf, writeAt, writeRecordAt};
-
-// The result of a writer, which writes all bytes or none.
-pub enum Written {
-    // The offset after the bytes.
-    Next(usize),
-    // They do not fit.
-    NoRoom,
-    // 17: no step has this code.
-    NoCode,
-}
 
 // How many bytes a number has in its shortest form.
 fn number_length(value: u16) -> usize
@@ -41,7 +29,7 @@ fn number_length(value: u16) -> usize
 }
 
 // Puts a number: groups of seven bits, lowest first; the top bit of a byte (128) says that another follows.
-// Precondition: the buffer has room for it (the callers have tested that).
+// Precondition: the buffer has room for it.
 fn put_number(out: &mut [u8], at: usize, value: u16) -> usize
     requires { ⌜ Fits (now out) at (encodeNumber value) ⌝ }
     ensures { λ r. ⌜ Put (now (out .entry)) (now (out .exit)) at (encodeNumber value) r ⌝ }
@@ -56,16 +44,6 @@ fn put_number(out: &mut [u8], at: usize, value: u16) -> usize
     }
     let third = put_byte(out, second, (high % 128 + 128) as u8);
     put_byte(out, third, (high / 128) as u8)
-}
-
-// Writes a number, if the buffer has room for it.
-pub fn write_number(out: &mut [u8], at: usize, value: u16) -> Written
-    ensures { λ r. ⌜ outputOf r (now (out .exit)) ≡ writeAt (now (out .entry)) at (encodeNumber value) ⌝ }
-{
-    if fits(out.len(), at, number_length(value)) {
-        return Written::Next(put_number(out, at, value));
-    }
-    Written::NoRoom
 }
 
 // How many bytes a field has: none, if it does not follow the code.
@@ -120,22 +98,6 @@ pub fn put_record(out: &mut [u8], at: usize, entry: Record) -> usize
     put_field(out, after_position, code, SESSION, entry.session)
 }
 
-// Writes a record, if its code is one of the five and the buffer has room for it.
-pub fn write_record(out: &mut [u8], at: usize, entry: Record) -> Written
-    ensures { λ r. ⌜ outputOf r (now (out .exit)) ≡ writeRecordAt (now (out .entry)) at (recordOf entry) ⌝ }
-{
-    if entry.code < 1 {
-        return Written::NoCode;
-    }
-    if 5 < entry.code {
-        return Written::NoCode;
-    }
-    if fits(out.len(), at, record_length(entry)) {
-        return Written::Next(put_record(out, at, entry));
-    }
-    Written::NoRoom
-}
-
 // How many bytes a header has.
 pub fn header_length(header: Header) -> usize
     ensures { λ r. ⌜ r ≡ length (encodeHeader (headerOf header)) ⌝ }
@@ -152,14 +114,4 @@ pub fn put_header(out: &mut [u8], at: usize, header: Header) -> usize
     let after_desks = put_number(out, at, header.desks);
     let after_screens = put_number(out, after_desks, header.screens);
     put_number(out, after_screens, header.positions)
-}
-
-// Writes a header, if the buffer has room for it.
-pub fn write_header(out: &mut [u8], at: usize, header: Header) -> Written
-    ensures { λ r. ⌜ outputOf r (now (out .exit)) ≡ writeAt (now (out .entry)) at (encodeHeader (headerOf header)) ⌝ }
-{
-    if fits(out.len(), at, header_length(header)) {
-        return Written::Next(put_header(out, at, header));
-    }
-    Written::NoRoom
 }

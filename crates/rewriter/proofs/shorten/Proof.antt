@@ -4,7 +4,7 @@ use borrow.Author.Needs.{needs}
 use Rattle.rules.specs.Numbers.{parsed}
 use Rattle.reader.specs.Results.{headerOf, headerResult}
 use Rattle.sheet_rules.specs.Edition1.{archiveEdition}
-use Rattle.writer.specs.Output.{writeAt}
+use Rattle.rewriter.specs.Output.{writeWhole}
 use Rattle.rewriter.specs.Measure.{bytes, openSheet, recordsFrom, recordsSize, sizeOf}
 use Rattle.rewriter.proofs.SheetLaws.{nothing-ends, records-counted, sheet-fits, writes-later-refusal, writes-refusal, writes-sheet}
 use Rattle.rewriter.proofs.shorten.Statement.{statement}
@@ -60,7 +60,7 @@ returns : tie.Need-returns
 returns c =
     let start = c .before .before .before .before .before .before .before .before .before .before in
     let is = sym (ap headerResult (c .before .before .before .before .before .reason .given .1)) ∙ c .before .before .before .before .before .before .before .open-sheet .ensures in
-    c .before .before .write-refused .ensures ∙ ap (writeAt (start .args .out .now) 0) (writes-refusal (start .args .sheet .now) is)
+    c .before .before .write-refused .ensures ∙ ap (writeWhole (start .args .out .now)) (writes-refusal (start .args .sheet .now) is)
 
 same-length-2 : tie.Need-same-length-2
 same-length-2 c = search needs
@@ -70,7 +70,7 @@ returns-2 c =
     let after-open = c .before .before .before .before .before .before .before .before in
     let start = after-open .before .before .before .before .before .before in
     let size = sym (ap sizeOf (c .before .before .before .before .before .reason2 .given .1)) ∙ c .before .before .before .before .before .before .before .measure-records .ensures in
-    c .before .before .write-refused2 .ensures ∙ ap (writeAt (start .args .out .now) 0) (writes-later-refusal (start .args .sheet .now) (opens after-open) size)
+    c .before .before .write-refused2 .ensures ∙ ap (writeWhole (start .args .out .now)) (writes-later-refusal (start .args .sheet .now) (opens after-open) size)
 
 same-length-3 : tie.Need-same-length-3
 same-length-3 c = search needs
@@ -80,7 +80,7 @@ returns-3 c =
     let measured = c .before .before .before .before in
     let after-open = measured .before .before .before .before in
     let start = after-open .before .before .before .before .before .before in
-    c .before .before .write-sheet .ensures ∙ ap (writeAt (start .args .out .now) 0) (writes-sheet (start .args .sheet .now) (opens after-open) (sized measured))
+    c .before .before .write-sheet .ensures ∙ ap (writeWhole (start .args .out .now)) (writes-sheet (start .args .sheet .now) (opens after-open) (sized measured))
 
 pub shorten-spec : {M : Type 1} → statement M
 shorten-spec =

@@ -3,7 +3,7 @@ use mathlib.Core.List.{List}
 use Prim.Native.Nat.{ℕ}
 use borrow.Author.Needs.{needs}
 use Rattle.sheet_rules.specs.Rewriting.{refusedLine}
-use Rattle.writer.proofs.OutputLaws.{bytes-written, nothing-written, room-found}
+use Rattle.rewriter.proofs.OutputLaws.{bytes-written, nothing-written, room-found}
 use Rattle.rewriter.proofs.write_refused.Statement.{statement}
 use Rattle.rewriter.proofs.write_refused.Tie as tie
 
@@ -22,7 +22,7 @@ fits-requires c κs = search needs
 put-refused-requires : tie.Need-put-refused-requires
 put-refused-requires c κs =
     let start = c .before .before .before .before .before .before in
-    room-found (start .args .out .now) 0 (lineOf start) (c .before .before .before .refused-length .ensures) (c .before .before .fits2 .ensures) (c .before .if1 .taken)
+    room-found (start .args .out .now) (lineOf start) (c .before .before .before .refused-length .ensures) (c .before .before .fits2 .ensures) (c .before .if1 .taken)
 
 same-length : tie.Need-same-length
 same-length c = search needs
@@ -30,12 +30,12 @@ same-length c = search needs
 returns : tie.Need-returns
 returns c =
     let start = c .before .before .before .before .before .before .before .before .before in
-    bytes-written (start .args .out .now) 0 (lineOf start) (c .before .before .before .before .before .before .refused-length .ensures) (c .before .before .before .before .before .fits2 .ensures) (c .before .before .before .before .if1 .taken) (c .before .before .put-refused .ensures)
+    bytes-written (start .args .out .now) (lineOf start) (c .before .before .before .before .before .before .refused-length .ensures) (c .before .before .before .before .before .fits2 .ensures) (c .before .before .before .before .if1 .taken) (c .before .before .put-refused .ensures)
 
 returns-2 : tie.Need-returns-2
 returns-2 c =
     let start = c .before .before .before .before .before in
-    nothing-written (start .args .out .now) 0 (lineOf start) (c .before .before .refused-length .ensures) (c .before .fits2 .ensures) (c .if1 .left)
+    nothing-written (start .args .out .now) (lineOf start) (c .before .before .refused-length .ensures) (c .before .fits2 .ensures) (c .if1 .left)
 
 pub write-refused-spec : {M : Type 1} → statement M
 write-refused-spec =

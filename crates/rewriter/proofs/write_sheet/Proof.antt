@@ -9,7 +9,7 @@ use Rattle.buffer.specs.Put.{Fits}
 use Rattle.buffer.specs.laws.Put.{put-on}
 use Rattle.reader.specs.Results.{headerOf}
 use Rattle.sheet_rules.specs.Edition1.{encodeHeader}
-use Rattle.writer.proofs.OutputLaws.{bytes-written, nothing-written, room-found}
+use Rattle.rewriter.proofs.OutputLaws.{bytes-written, nothing-written, room-found}
 use Rattle.rewriter.specs.Measure.{writtenFrom}
 use Rattle.rewriter.proofs.write_sheet.Statement.{statement}
 use Rattle.rewriter.proofs.write_sheet.Tie as tie
@@ -31,7 +31,7 @@ room : (c : tie.Then1) →
     Fits (start .args .out .now) 0 (bytesOf start)
 room c =
     let start = c .before .before .before .before .before in
-    room-found (start .args .out .now) 0 (bytesOf start) (counted (c .before .before)) (c .before .fits2 .ensures) (c .if1 .taken)
+    room-found (start .args .out .now) (bytesOf start) (counted (c .before .before)) (c .before .fits2 .ensures) (c .if1 .taken)
 
 header-length-requires : tie.Need-header-length-requires
 header-length-requires c κs = search needs
@@ -58,12 +58,12 @@ returns : tie.Need-returns
 returns c =
     let then1 = c .before .before .before .before .before .before .before .before in
     let start = then1 .before .before .before .before .before in
-    bytes-written (start .args .out .now) 0 (bytesOf start) (counted (then1 .before .before)) (then1 .before .fits2 .ensures) (then1 .if1 .taken) (put-on (c .before .before .before .before .before .before .put-header .ensures) (c .before .before .put-records .ensures))
+    bytes-written (start .args .out .now) (bytesOf start) (counted (then1 .before .before)) (then1 .before .fits2 .ensures) (then1 .if1 .taken) (put-on (c .before .before .before .before .before .before .put-header .ensures) (c .before .before .put-records .ensures))
 
 returns-2 : tie.Need-returns-2
 returns-2 c =
     let start = c .before .before .before .before .before in
-    nothing-written (start .args .out .now) 0 (bytesOf start) (counted (c .before .before)) (c .before .fits2 .ensures) (c .if1 .left)
+    nothing-written (start .args .out .now) (bytesOf start) (counted (c .before .before)) (c .before .fits2 .ensures) (c .if1 .left)
 
 pub write-sheet-spec : {M : Type 1} → statement M
 write-sheet-spec =

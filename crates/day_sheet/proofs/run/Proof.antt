@@ -1,26 +1,17 @@
--- `day_sheet::main` meets its contract: it is safe, and it ends.
+-- `day_sheet::run` is safe, and it ends.
 use mathlib.Core.Path.{subst}
 use borrow.Author.Needs.{needs}
 use Rattle.io.specs.Counts.{Counts}
 use Rattle.input.specs.Input.{ReadInto}
 use Rattle.input.specs.declared.Input.{Input as Answer}
-use Rattle.day_sheet.proofs.main.Statement.{statement}
-use Rattle.day_sheet.proofs.main.Tie as tie
+use Rattle.day_sheet.proofs.run.Statement.{statement}
+use Rattle.day_sheet.proofs.run.Tie as tie
 
 -- the bytes that were read are within the buffer
 bytes-read : (c : tie.After-known-told) → Counts (c .before .n .given .0 .0) (c .before .before .before .before .read-to-end .last .1 .0)
 bytes-read c =
     let read = c .before .before .before .before .read-to-end in
     subst (λ (answer : Answer). ReadInto answer (read .last .1 .0)) (c .before .n .given .1) (read .ensures)
-
-arg-count-requires : tie.Need-arg-count-requires
-arg-count-requires c κs = search needs
-
-answer-arguments-requires : tie.Need-answer-arguments-requires
-answer-arguments-requires c κs = search needs
-
-returns : tie.Need-returns
-returns c = search needs
 
 slice-aggregate-read-to-end : tie.Need-slice-aggregate-read-to-end
 slice-aggregate-read-to-end c = search needs
@@ -43,11 +34,17 @@ enum-known-n c = search needs
 array-share-prefix-bytes : tie.Need-array-share-prefix-bytes
 array-share-prefix-bytes c = bytes-read c .0
 
-slice-aggregate-print-sheet : tie.Need-slice-aggregate-print-sheet
-slice-aggregate-print-sheet c = bytes-read (c .before) .1
+slice-aggregate-print : tie.Need-slice-aggregate-print
+slice-aggregate-print c = bytes-read (c .before) .1
 
-print-sheet-requires : tie.Need-print-sheet-requires
-print-sheet-requires c κs = search needs
+print-requires : tie.Need-print-requires
+print-requires c κs = search needs
+
+report-output-requires : tie.Need-report-output-requires
+report-output-requires c κs = search needs
+
+returns : tie.Need-returns
+returns c = search needs
 
 returns-2 : tie.Need-returns-2
 returns-2 c = search needs
@@ -55,21 +52,6 @@ returns-2 c = search needs
 returns-3 : tie.Need-returns-3
 returns-3 c = search needs
 
-pub main-spec : {M : Type 1} → statement M
-main-spec =
-    tie.close
-    (tie.spec
-    arg-count-requires
-    answer-arguments-requires
-    returns
-    slice-aggregate-read-to-end
-    read-to-end-requires
-    enum-told
-    slice-aggregate-fail
-    fail-requires
-    enum-known-n
-    array-share-prefix-bytes
-    slice-aggregate-print-sheet
-    print-sheet-requires
-    returns-2
-    returns-3)
+pub run-spec : {M : Type 1} → statement M
+run-spec =
+    tie.close (tie.spec slice-aggregate-read-to-end read-to-end-requires enum-told slice-aggregate-fail fail-requires enum-known-n array-share-prefix-bytes slice-aggregate-print print-requires report-output-requires returns returns-2 returns-3)

@@ -1,0 +1,78 @@
+// Reads a sheet of the archive from standard input and writes it in shortest form to standard output, or, if it is refused, one line. If it
+// cannot read or write, it says why on standard error. After a failed read it writes nothing.
+use arguments::Request;
+use arguments::asked;
+use input::Input;
+use input::read_to_end;
+use libc::STDERR_FILENO;
+use libc::STDIN_FILENO;
+use libc::STDOUT_FILENO;
+use reader::TOO_MANY_BYTES;
+use rewriter::Written;
+use rewriter::shorten;
+
+// Says on standard error why the last write to standard output failed.
+fn report_output() {
+    os::fail(b"shorten_sheet: cannot write standard output");
+}
+
+// Prints the help, and returns whether it could be written.
+fn print_help() -> bool {
+    io::write_all(STDOUT_FILENO, b"usage: shorten_sheet < OLD > NEW\n\n")
+        && io::write_all(
+            STDOUT_FILENO,
+            b"Rewrites a day sheet of the archive: each number in its shortest form, the same records.\n",
+        )
+        && io::write_all(
+            STDOUT_FILENO,
+            b"A sheet that is refused gives one line instead: the reply number, a space, and the\n",
+        )
+        && io::write_all(
+            STDOUT_FILENO,
+            b"offset of the number that could not be read (15 and 16), or 0.\n\n",
+        )
+        && io::write_all(
+            STDOUT_FILENO,
+            b"An error of reading or writing is a line on standard error; the exit status stays 0.\n",
+        )
+}
+
+// Writes a sheet in shortest form, or the line of a refused sheet, and returns whether it could be written.
+fn write_shortened(sheet: &[u8]) -> bool {
+    let mut out = io::large_buffer();
+    match shorten(sheet, &mut out) {
+        Written::Bytes(n) => io::write_all(STDOUT_FILENO, &out[..n]),
+        // Not reached: the buffer has 65,536 bytes, and no output is longer.
+        Written::NoRoom => false,
+    }
+}
+
+// Shortens the sheet on standard input.
+fn run() {
+    let mut bytes = [0u8; TOO_MANY_BYTES];
+    match read_to_end(STDIN_FILENO, &mut bytes) {
+        Input::Failed => os::fail(b"shorten_sheet: cannot read standard input"),
+        Input::Bytes(n) => {
+            if !write_shortened(&bytes[..n]) {
+                report_output();
+            }
+        }
+    }
+}
+
+fn main() {
+    match asked() {
+        Request::Run => run(),
+        Request::Help => {
+            if !print_help() {
+                report_output();
+            }
+        }
+        Request::Unknown => {
+            io::write_all(
+                STDERR_FILENO,
+                b"usage: shorten_sheet < OLD > NEW, or shorten_sheet --help\n",
+            );
+        }
+    }
+}
