@@ -44,31 +44,36 @@ def listed():
     return cases
 
 
-# In a hall of 1, 1, 1: a swap to 65,535, a swap to 0, a retire, a collect. Every number has three bytes.
-ONE, NONE = '81 80 00', '80 80 00'
-SWAP, RETIRE, COLLECT = f'83 80 00 {ONE} {ONE}', f'84 80 00 {ONE}', f'85 80 00 {ONE}'
-TURN = bytes.fromhex(f'{SWAP} FF FF 03 {SWAP} {NONE} {RETIRE} {COLLECT}')
+# In a hall of 1, 1, 1: a swap to 65,535, a swap to 0, a retire and a collect, which are accepted; then six takes with numbers of three
+# bytes, and a collect of desk 128. There are no such desks.
+SWAP, RETIRE, COLLECT = '03 01 01', '04 01', '05 01'
+TAKE_65535, COLLECT_128 = '01' + 3 * ' FF FF 03', '05 80 01'
+TURN = bytes.fromhex(f'{SWAP} FF FF 03 {SWAP} 00 {RETIRE} {COLLECT}' + 6 * TAKE_65535 + COLLECT_128)
+TURN_LINES = ['3 0 0', '3 0 65535', '4 0 65535', '5 0 65535', *6 * ['1 6 0'], '5 6 0']
+TURNS = 851
 
 
-def turned(header, turns, rest):
-    """A sheet of a header, turns and a rest, and the lines of its header and of its turns."""
-    lines = ['0 0 0 0']
-    for record in range(0, 4 * turns, 4):
-        lines += [f'{record + 1} 3 0 0', f'{record + 2} 3 0 65535', f'{record + 3} 4 0 65535', f'{record + 4} 5 0 65535']
-    return bytes.fromhex(header) + turns * TURN + bytes.fromhex(rest), lines
+def turned(rest, *more):
+    """The sheet of a header, the turns and a rest, and its lines. The last ones, those of the rest and the end, are given."""
+    sheet = bytes.fromhex('01 01 01') + TURNS * TURN + bytes.fromhex(rest)
+    assert len(sheet) == MAX_BYTES
+    lines = [f'{record} {line}' for record, line in enumerate(TURNS * TURN_LINES, 1)]
+    return sheet, ['0 0 0 0', *lines, *more]
 
 
 def longest():
     """The cases of 65,536 bytes and of one more."""
-    sheet, lines = turned('81 00 01 01', 1820, f'{SWAP} FF FF 03')
-    cut, before = turned('81 80 00 81 80 00 01', 1820, SWAP)
-    assert len(sheet) == len(cut) == MAX_BYTES
+    sheet, lines = turned(f'{SWAP} FF FF 03', '9362 3 0 0', 'end 3405 5957 851')
+    cut, cut_lines = turned(f'{COLLECT_128} {SWAP}', '9362 5 6 0', '9363 3 15 65536', 'end 3404 5958 851')
+    padded, padded_lines = turned(f'{COLLECT_128} 05 81 00', '9362 5 6 0', '9363 5 19 65534', 'end 3404 5958 851')
     return [
-        Case('the longest sheet, read to its end', sheet, [*lines, '7281 3 0 0', 'end 7281 0 1820']),
+        Case('the longest sheet, read to its end', sheet, lines),
         Case('one byte more: nothing is run', sheet + b'\x05', ['0 0 18 0', 'end 0 0 0']),
         Case('65,536 zeros: P is 0', bytes(MAX_BYTES), ['0 0 1 0', 'end 0 0 0']),
         Case('65,537 zeros: 18 is asked before P', bytes(MAX_BYTES + 1), ['0 0 18 0', 'end 0 0 0']),
-        Case('the longest sheet, its last session missing', cut, [*before, '7281 3 15 65536', 'end 7280 0 1820']),
+        Case('65,537 bytes, and P is padded: 18 is asked before 19', b'\x81' + bytes(MAX_BYTES), ['0 0 18 0', 'end 0 0 0']),
+        Case('the longest sheet, its last session missing', cut, cut_lines),
+        Case('the longest sheet, its last desk padded', padded, padded_lines),
     ]
 
 
