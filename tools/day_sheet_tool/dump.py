@@ -14,7 +14,7 @@ def around(data, number):
     last = number.end + AFTER
     parts = [
         in_hex(data[first : number.start]),
-        f"[{in_hex(data[number.start : number.end]) or 'end'}]",
+        f"[{in_hex(number.data) or 'end'}]",
         in_hex(data[number.end : last]),
         ".." if last < len(data) else "",
     ]

@@ -41,7 +41,7 @@ def reason(fault):
     number = fault.number
     if fault.reply in OPENING:
         return f"{number.value:,}, but {REASONS[fault.reply]}"
-    length = number.end - number.start
+    length = len(number.data)
     if fault.reply == 15:
         return f"cut off after {plural(length, 'byte')}" if length else "missing"
     if fault.reply == 17:

@@ -19,7 +19,7 @@ def find_record(data, sheet, record):
     if record > 0 and sheet.refusal:
         lines.append(where_and_why(sheet.refusal))
     lines.append(text_line(sheet, record))
-    return "\n".join(lines + number_lines(data, sheet, record)) + "\n"
+    return "\n".join(lines + number_lines(sheet, record)) + "\n"
 
 
 def text_line(sheet, record):
@@ -28,10 +28,10 @@ def text_line(sheet, record):
     return f"text: {record_text(sheet, record)}"
 
 
-def number_lines(data, sheet, record):
+def number_lines(sheet, record):
     """For each number of a record its offset, its bytes and its meaning."""
     rows = [
-        (f"byte {number.start}:", in_hex(data[number.start : number.end]) or "[end]", meaning(sheet, number))
+        (f"byte {number.start}:", in_hex(number.data) or "[end]", meaning(sheet, number))
         for number in sheet.numbers[record]
     ]
     widths = [max(len(row[column]) for row in rows) for column in (0, 1)]
@@ -71,7 +71,7 @@ def belongs(byte, number):
 
 def byte_in_words(byte, sheet, record, number):
     name = number_in_words(record, sheet.numbers[record][0].value, number.field)
-    length = number.end - number.start
+    length = len(number.data)
     if length == 0:
         return f"byte {byte}: the sheet ends here; {name} is missing"
     part = "" if length == 1 else f"the {ORDINALS[byte - number.start]} of the {length} bytes of "

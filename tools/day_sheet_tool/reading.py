@@ -5,12 +5,18 @@ from collections import namedtuple
 from .board import opening
 from .steps import HALL_FIELDS, MAX_BYTES, MAX_NUMBER, STEPS, Record
 
-# A number of a sheet: its field ("code" for a step code), the offset of its first byte, the offset after its last
-# byte, and its value, which is None for a number that does not end.
-Number = namedtuple("Number", "field start end value")
-
 MAX_GROUPS = 3
 WITH_OFFSET = (15, 16)
+
+
+class Number(namedtuple("Number", "field start data value")):
+    """A number of a sheet: its field ("code" for a step code), the offset of its first byte, its bytes, and its value,
+    which is None for a number that does not end."""
+
+    @property
+    def end(self):
+        """The offset after its last byte."""
+        return self.start + len(self.data)
 
 
 class Fault(namedtuple("Fault", "reply record code number")):
@@ -53,11 +59,12 @@ class Reader:
         self.numbers.append([])
 
     def number(self, field):
-        """The value of the record's next number. The number is recorded with its offsets, also if it is refused."""
+        """The value of the record's next number. The number is recorded with its bytes, also if it is refused."""
         start = self.at
         value = self.value()
-        self.numbers[-1].append(Number(field, start, self.at, value))
-        if value is None and self.at - start < MAX_GROUPS:
+        number = Number(field, start, self.data[start : self.at], value)
+        self.numbers[-1].append(number)
+        if value is None and len(number.data) < MAX_GROUPS:
             raise Refused(15)
         if value is None or value > MAX_NUMBER:
             raise Refused(16)
