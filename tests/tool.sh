@@ -1,11 +1,29 @@
 #!/bin/sh
 # Tests tools/sheet from the command line, with valid and invalid input:
 #
-#     tests/tool.sh PROGRAM      PROGRAM is a sheet program
+#     tests/tool.sh PROGRAM [SHORTEN]
+#
+# PROGRAM is a sheet program. SHORTEN rewrites sheets of the archive; if it is not given, it is the shorten_sheet beside PROGRAM.
 set -eu
 
-[ $# -eq 1 ] && [ -x "$1" ] || { echo "usage: $0 PROGRAM"; exit 2; }
-program=$(cd "$(dirname "$1")" && pwd)/$(basename "$1")
+usage() {
+    echo "tool: $1"
+    echo "usage: $0 PROGRAM [SHORTEN]"
+    exit 2
+}
+
+# program_at FILE: prints its absolute path.
+program_at() {
+    echo "$(cd "$(dirname "$1")" && pwd)/$(basename "$1")"
+}
+
+[ $# -eq 1 ] || [ $# -eq 2 ] || usage "one or two programs are needed"
+shorten=${2:-$(dirname "$1")/shorten_sheet}
+for file in "$1" "$shorten"; do
+    [ -f "$file" ] && [ -x "$file" ] || usage "$file is not a program"
+done
+program=$(program_at "$1")
+shorten=$(program_at "$shorten")
 root=$(cd "$(dirname "$0")/.." && pwd)
 work=$(mktemp -d)
 trap 'rm -rf "$work"' EXIT
@@ -185,21 +203,34 @@ sheet encode loose.txt >loose.sheet
 printf '\001\001\001\003\001\001\254\002' >loose.bytes
 same "encode: a loose text" loose.bytes loose.sheet
 
-# 'decode' gives the offsets of the sheet at hand: here numbers are padded, and the text encodes to fewer bytes. It writes the part that
-# could be read.
-printf '\201\000\001\001\203\000\001\001\254\202\000\204\200\000\001\005\200' >padded.sheet
-cat >padded.offsets <<'END'
+# 'decode' gives the offset of each record, also after numbers of several bytes, and writes the part that could be read.
+printf '\001\001\001\003\001\001\254\002\004\377\377\003\005\200' >wide.sheet
+cat >wide.offsets <<'END'
 hall 1 1 1     # header, byte 0
-swap 1 1 300   # record 1, byte 4
-retire 1       # record 2, byte 11
+swap 1 1 300   # record 1, byte 3
+retire 65535   # record 2, byte 8
 END
-sheet decode padded.sheet >padded.again 2>err && fail "decode: a cut sheet"
-same "decode: padded numbers, and a cut record" padded.offsets padded.again
-echo "sheet: padded.sheet: the reading ends at byte 16: the desk of record 3 (collect) is cut off after 1 byte (reply number 15)" >expected
+sheet decode wide.sheet >wide.again 2>err && fail "decode: a cut sheet"
+same "decode: numbers of several bytes, and a cut record" wide.offsets wide.again
+echo "sheet: wide.sheet: the reading ends at byte 13: the desk of record 3 (collect) is cut off after 1 byte (reply number 15)" >expected
 same "decode: where it is cut" expected err
-printf '\001\001\001\003\001\001\254\002\004\001' >expected
-sheet encode padded.again >out
-same "encode: in shortest form" expected out
+
+# 'encode' writes every number in shortest form: each length's ends, and numbers with zeros before them.
+cat >short.txt <<'END'
+hall 1 1 01
+swap 0 1 127
+swap 1 128 16383
+swap 1 16384 65535
+swap 00001 001 0000000
+END
+sheet encode short.txt >short.sheet
+printf '\001\001\001\003\000\001\177\003\001\200\001\377\177\003\001\200\200\001\377\377\003\003\001\001\000' >expected
+same "encode: in shortest form" expected short.sheet
+printf '0 0 0 0\n1 3 6 0\n2 3 8 0\n3 3 8 0\n4 3 0 0\nend 1 3 0\n' >expected
+"$program" <short.sheet >out
+same "the program reads what 'encode' writes" expected out
+"$shorten" <short.sheet >out
+same "shorten_sheet leaves what 'encode' writes" short.sheet out
 
 # The examples, encoded and decoded, and their pictures, compared with the gallery.
 for text in "$root"/examples/*.txt; do
@@ -267,12 +298,33 @@ ends "1 2 16 5 the reading ends at byte 5: the screen of record 1 (drop) is long
     "from byte 0: 01 01 01 02 01 [ff ff ff] 01 offset 5 (0x5)" '\001\001\001\002\001\377\377\377\001'
 ends "1 1 16 6 the reading ends at byte 6: the position of record 1 (take) is 2,097,151, over 65,535 (reply number 16)" \
     "from byte 0: 01 01 01 01 01 01 [ff ff 7f] offset 6 (0x6)" '\001\001\001\001\001\001\377\377\177'
-# Padded numbers before it: the header has seven bytes, the swap's code, desk and position have eight.
-ends "1 3 15 15 the reading ends at byte 15: the session of record 1 (swap) is cut off after 1 byte (reply number 15)" \
-    "from byte 7: 83 80 00 81 00 81 80 00 [ac] offset 15 (0xf)" \
-    '\201\000\201\000\201\200\000\203\200\000\201\000\201\200\000\254'
+# Numbers of two and three bytes before it.
+ends "2 3 15 13 the reading ends at byte 13: the session of record 2 (swap) is cut off after 1 byte (reply number 15)" \
+    "from byte 5: ff 03 03 80 80 01 ff 7f [ac] offset 13 (0xd)" '\001\001\001\004\377\377\003\003\200\200\001\377\177\254'
 ends "2 9 17 0 the reading ends at byte 5: the code of record 2 is 9, but the codes are 1 to 5 (reply number 17)" \
     "from byte 0: 01 01 01 05 01 [09] 01 offset 5 (0x5)" '\001\001\001\005\001\011\001'
+# A padded number: its value, its bytes, and those of its shortest form.
+ends "0 0 19 0 the reading ends at byte 0: number P of the header (desks) is 1, padded: 81 00 instead of 01 (reply number 19)" \
+    "from byte 0: [81 00] 01 01 05 01 offset 0 (0x0)" '\201\000\001\001\005\001'
+ends "0 0 19 1 the reading ends at byte 1: number c of the header (screens per desk) is 128, padded: 80 81 00 instead of 80 01 (reply number 19)" \
+    "from byte 0: 01 [80 81 00] 01 offset 1 (0x1)" '\001\200\201\000\001'
+ends "0 0 19 2 the reading ends at byte 2: number L of the header (positions) is 0, padded: 80 80 00 instead of 00 (reply number 19)" \
+    "from byte 0: 11 01 [80 80 00] offset 2 (0x2)" '\021\001\200\200\000'
+ends "2 0 19 5 the reading ends at byte 5: the code of record 2 is 6, padded: 86 00 instead of 06 (reply number 19)" \
+    "from byte 0: 01 01 01 05 01 [86 00] 05 01 offset 5 (0x5)" '\001\001\001\005\001\206\000\005\001'
+ends "1 4 19 4 the reading ends at byte 4: the desk of record 1 (retire) is 127, padded: ff 00 instead of 7f (reply number 19)" \
+    "from byte 0: 01 01 01 04 [ff 00] offset 4 (0x4)" '\001\001\001\004\377\000'
+ends "1 2 19 5 the reading ends at byte 5: the screen of record 1 (drop) is 1, padded: 81 80 00 instead of 01 (reply number 19)" \
+    "from byte 0: 01 01 01 02 01 [81 80 00] 05 01 offset 5 (0x5)" '\001\001\001\002\001\201\200\000\005\001'
+ends "1 1 19 6 the reading ends at byte 6: the position of record 1 (take) is 0, padded: 80 00 instead of 00 (reply number 19)" \
+    "from byte 0: 01 01 01 01 01 01 [80 00] offset 6 (0x6)" '\001\001\001\001\001\001\200\000'
+ends "1 3 19 6 the reading ends at byte 6: the session of record 1 (swap) is 16,383, padded: ff ff 00 instead of ff 7f (reply number 19)" \
+    "from byte 0: 01 01 01 03 01 01 [ff ff 00] offset 6 (0x6)" '\001\001\001\003\001\001\377\377\000'
+# 15 and 16 are asked before 19.
+ends "1 5 15 4 the reading ends at byte 4: the desk of record 1 (collect) is cut off after 2 bytes (reply number 15)" \
+    "from byte 0: 01 01 01 05 [81 80] offset 4 (0x4)" '\001\001\001\005\201\200'
+ends "1 5 16 4 the reading ends at byte 4: the desk of record 1 (collect) is longer than three bytes (reply number 16)" \
+    "from byte 0: 01 01 01 05 [81 80 80] 00 offset 4 (0x4)" '\001\001\001\005\201\200\200\000'
 # The greatest offset: 65,536 bytes, and the desk of the last collect should follow them.
 "$python" -c 'import sys; sys.stdout.buffer.write(b"\1\1\1" + 32766 * b"\5\1" + b"\5")' >full.sheet
 cat >full.meaning <<'END'
@@ -332,22 +384,20 @@ text: retire 1
 byte 25: 04   code: 4 (retire)
 byte 26: 01   desk: 1
 END
-# Padded numbers, and the number that ends the reading.
-found --byte 10 padded.sheet <<'END'
-byte 10: the third of the 3 bytes of the session of record 1 (swap)
-record 1: byte 4 (0x4), 7 bytes: 83 00 01 01 ac 82 00
-text: swap 1 1 300
-byte 4: 83 00      code: 3 (swap)
-byte 6: 01         desk: 1
-byte 7: 01         position: 1
-byte 8: ac 82 00   session: 300
+# A number of three bytes, and the number that ends the reading.
+found --byte 11 wide.sheet <<'END'
+byte 11: the third of the 3 bytes of the desk of record 2 (retire)
+record 2: byte 8 (0x8), 4 bytes: 04 ff ff 03
+text: retire 65535
+byte 8: 04         code: 4 (retire)
+byte 9: ff ff 03   desk: 65535
 END
-found --byte 16 padded.sheet <<'END'
-byte 16: the desk of record 3 (collect)
-record 3: byte 15 (0xf), 2 bytes: 05 80
+found --byte 13 wide.sheet <<'END'
+byte 13: the desk of record 3 (collect)
+record 3: byte 12 (0xc), 2 bytes: 05 80
 no text: the reading ends here
-byte 15: 05   code: 5 (collect)
-byte 16: 80   desk: cut off after 1 byte (reply number 15)
+byte 12: 05   code: 5 (collect)
+byte 13: 80   desk: cut off after 1 byte (reply number 15)
 END
 found --record 1 unknown.sheet <<'END'
 record 1: byte 3 (0x3), 1 byte: 09
@@ -372,10 +422,10 @@ END
 no_record="the hall is refused and the program reads no record"
 bad_desks="$no_record: number P of the header (desks) is 17, but a hall has 1 to 16 desks (reply number 1)"
 bad_screens="$no_record: number c of the header (screens per desk) is 5, but a desk has 1 to 4 screens (reply number 2)"
-bad_positions="$no_record: number L of the header (positions) is 0, but a hall has 1 to 64 positions (reply number 3)"
+bad_positions="$no_record: number L of the header (positions) is 128, but a hall has 1 to 64 positions (reply number 3)"
 printf '\021\001\001\005\200' >desks.sheet
 printf '\001\005\001\005\001\011\001' >screens.sheet
-printf '\001\001\200\000\005\001' >positions.sheet
+printf '\001\001\200\001\005\001' >positions.sheet
 
 # decoded MESSAGE SHEET: 'decode' writes the lines of standard input and this message; its status is 2.
 decoded() {
@@ -397,8 +447,8 @@ hall 1 5 1   # header, byte 0
 collect 1    # record 1, byte 3
 END
 decoded "$bad_positions" positions.sheet <<'END'
-hall 1 1 0   # header, byte 0
-collect 1    # record 1, byte 4
+hall 1 1 128   # header, byte 0
+collect 1      # record 1, byte 4
 END
 found --byte 4 desks.sheet <<END
 byte 4: the desk of record 1 (collect)
@@ -424,22 +474,90 @@ byte 4: 05   code: 5 (collect)
 byte 5: 01   desk: 1
 END
 found --record 0 positions.sheet <<'END'
-header: byte 0 (0x0), 4 bytes: 01 01 80 00
-text: hall 1 1 0
+header: byte 0 (0x0), 4 bytes: 01 01 80 01
+text: hall 1 1 128
 byte 0: 01      P (desks): 1
 byte 1: 01      c (screens per desk): 1
-byte 2: 80 00   L (positions): 0, but a hall has 1 to 64 positions (reply number 3)
+byte 2: 80 01   L (positions): 128, but a hall has 1 to 64 positions (reply number 3)
 END
 refused 2 "desks.sheet: record 2 is not read; $bad_desks; $cut_off" find desks.sheet --record 2
 refused 2 "screens.sheet: byte 6 is not read; $bad_screens; $bad_code" find screens.sheet --byte 6
 refused 2 "positions.sheet: no record 2; the sheet has 1 record, and the header is record 0" find positions.sheet --record 2
 
+# Padded numbers: 'decode' and 'find' stop where the program does, and say whether shorten_sheet accepts the sheet.
+
+# shortened LINE SHEET: shorten_sheet refuses this sheet, and its whole output is this line.
+shortened() {
+    echo "$1" >expected
+    "$shorten" <"$2" >out
+    same "shorten_sheet <$2" expected out
+}
+rewritten="if the sheet is from the archive, 'shorten_sheet' rewrites it in shortest form"
+refused_too="'shorten_sheet' refuses the sheet too"
+ends_at="the reading ends at byte 8: the code of record 2 is 5, padded: 85 00 instead of 05 (reply number 19)"
+printf '\001\001\001\003\001\001\254\002\205\000\201\200\000' >padded.sheet
+decoded "$ends_at; $rewritten" padded.sheet <<'END'
+hall 1 1 1     # header, byte 0
+swap 1 1 300   # record 1, byte 3
+END
+printf '\001\001\001\003\001\001\254\002\005\001' >expected
+"$shorten" <padded.sheet >shortest.sheet
+same "shorten_sheet <padded.sheet" expected shortest.sheet
+found --byte 9 padded.sheet <<'END'
+byte 9: the second of the 2 bytes of the code of record 2
+record 2: byte 8 (0x8), 2 bytes: 85 00
+no text: the reading ends here
+byte 8: 85 00   code: 5, padded: 85 00 instead of 05 (reply number 19)
+END
+refused 2 "padded.sheet: byte 10 is not read; $ends_at; $rewritten" find padded.sheet --byte 10
+refused 2 "padded.sheet: record 3 is not read; $ends_at; $rewritten" find padded.sheet --record 3
+sheet picture padded.sheet padded.svg --program "$program"
+grep -q ">number 19<" padded.svg && grep -q ">byte 8<" padded.svg || fail "the picture of a padded sheet does not show its end"
+passed
+# Lines from the time when padded numbers were read are those of the rewritten sheet.
+printf '0 0 0 0\n1 3 0 0\n2 5 0 0\nend 2 0 0\n' >padded.lines
+sheet explain shortest.sheet --lines padded.lines >out
+sheet explain shortest.sheet --program "$program" >expected
+same "explain: the lines of a sheet before it was rewritten" expected out
+
+# Sheets that shorten_sheet refuses too: with 15, 16, 17, and 1.
+padded_desks="the reading ends at byte 0: number P of the header (desks) is 1, padded: 81 00 instead of 01 (reply number 19)"
+ends_at="the reading ends at byte 15: the desk of record 3 (collect) is missing (reply number 15)"
+printf '\201\000\001\001\003\001\001\254\202\000\204\200\000\001\005' >padded.sheet
+decoded "$padded_desks; $refused_too: $ends_at" padded.sheet </dev/null
+shortened "15 15" padded.sheet
+padded_desk="the reading ends at byte 4: the desk of record 1 (collect) is 1, padded: 81 00 instead of 01 (reply number 19)"
+ends_at="the reading ends at byte 7: the desk of record 2 (collect) is 65,536, over 65,535 (reply number 16)"
+printf '\001\001\001\005\201\000\005\200\200\004' >padded.sheet
+decoded "$padded_desk; $refused_too: $ends_at" padded.sheet <<'END'
+hall 1 1 1   # header, byte 0
+END
+refused 2 "padded.sheet: byte 7 is not read; $padded_desk; $refused_too: $ends_at" find padded.sheet --byte 7
+shortened "16 7" padded.sheet
+padded_code="the reading ends at byte 3: the code of record 1 is 6, padded: 86 00 instead of 06 (reply number 19)"
+ends_at="the reading ends at byte 3: the code of record 1 is 6, but the codes are 1 to 5 (reply number 17)"
+printf '\001\001\001\206\000\001' >padded.sheet
+decoded "$padded_code; $refused_too: $ends_at" padded.sheet <<'END'
+hall 1 1 1   # header, byte 0
+END
+shortened "17 0" padded.sheet
+padded_screens="the reading ends at byte 1: number c of the header (screens per desk) is 1, padded: 81 00 instead of 01 (reply number 19)"
+printf '\021\201\000\001\005\001' >padded.sheet
+decoded "$padded_screens; $refused_too: $bad_desks" padded.sheet </dev/null
+shortened "1 0" padded.sheet
+# The hall is refused: neither program reads the padded number after it.
+printf '\021\001\001\005\201\000' >padded.sheet
+decoded "$bad_desks; with a valid hall, $padded_desk" padded.sheet <<'END'
+hall 17 1 1   # header, byte 0
+END
+shortened "1 0" padded.sheet
+
 # Records and bytes that are not there, or after the end of the reading.
-ends_at="the reading ends at byte 16: the desk of record 3 (collect) is cut off after 1 byte (reply number 15)"
+ends_at="the reading ends at byte 13: the desk of record 3 (collect) is cut off after 1 byte (reply number 15)"
 refused 2 "d.sheet: no record 9; the sheet has 8 records, and the header is record 0" find d.sheet --record 9
 refused 2 "d.sheet: no byte 27; the sheet has 27 bytes, counted from 0" find d.sheet --byte 27
-refused 2 "padded.sheet: record 4 is not read; $ends_at" find padded.sheet --record 4
-refused 2 "padded.sheet: no byte 17; the sheet has 17 bytes, counted from 0" find padded.sheet --byte 17
+refused 2 "wide.sheet: record 4 is not read; $ends_at" find wide.sheet --record 4
+refused 2 "wide.sheet: no byte 14; the sheet has 14 bytes, counted from 0" find wide.sheet --byte 14
 refused 2 "unknown.sheet: byte 4 is not read; the reading ends at byte 3: the code of record 1 is 9, but the codes are 1 to 5 (reply number 17)" \
     find unknown.sheet --byte 4
 refused 2 "empty.sheet: no byte 1; the sheet has 0 bytes, counted from 0" find empty.sheet --byte 1
@@ -503,6 +621,10 @@ corrected "2 1 0 0     the reply number is 0, but it should be 15; $ends_at" cut
 corrected "2 1 15 6    the last column is 6, but it should be 7; $ends_at" cut.sheet '0 0 0 0\n1 5 0 0\n2 1 15 6\nend 1 0 0\n'
 refused 2 "record 2: the program printed 15 6, but by documents 01 and 02 it is 15 7; nothing is drawn" \
     picture cut.sheet wrong.svg --lines wrong.lines
+printf '\001\001\001\005\001\205\000\001' >padded.sheet
+ends_at="the reading ends at byte 5: the code of record 2 is 5, padded: 85 00 instead of 05 (reply number 19)"
+corrected "2 0 17 0    the reply number is 17, but it should be 19; $ends_at" padded.sheet '0 0 0 0\n1 5 0 0\n2 0 17 0\nend 1 0 0\n'
+corrected "2 0 19 0    the last column is 0, but it should be 5; $ends_at" padded.sheet '0 0 0 0\n1 5 0 0\n2 0 19 0\nend 1 0 0\n'
 
 # The worked repair of docs/SHEETS.md: its commands print what it shows.
 awk '/^## / { on = /A worked repair/ } on && sub(/^    /, "")' "$root/docs/SHEETS.md" >repair.shown

@@ -109,11 +109,12 @@ def to_bytes(options):
 
 
 def to_text(options):
-    sheet = read(read_sheet(options.sheet))
+    data = read_sheet(options.sheet)
+    sheet = read(data)
     sys.stdout.write(decode(sheet))
     sys.stdout.flush()
-    if ending(sheet):
-        raise UserError(f"{options.sheet}: {ending(sheet)}")
+    if sheet.end:
+        raise UserError(f"{options.sheet}: {ending(data, sheet)}")
 
 
 def explain(options):

@@ -1,16 +1,27 @@
 """Where and why a reading ends, in words."""
 
+from .dump import in_hex
 from .errors import plural
+from .reading import number_bytes, read
 from .steps import HALL_FIELDS, MAX_NUMBER, REASONS, STEPS
 
 HALL_LETTERS = dict(zip(HALL_FIELDS, "PcL"))
 OPENING = (1, 2, 3)  # the reply numbers of a hall that is refused
 
 
-def ending(sheet):
-    """Where and why the reading of a sheet ends; empty if it is read to its end."""
+def ending(data, sheet):
+    """Where and why the reading of a sheet ends; after a padded number also what shorten_sheet does."""
     faults = filter(None, (sheet.refusal, sheet.fault))
-    return "; with a valid hall, ".join(map(where_and_why, faults))
+    words = "; with a valid hall, ".join(map(where_and_why, faults))
+    return f"{words}; {shortened(data)}" if sheet.end.reply == 19 else words
+
+
+def shortened(data):
+    """What shorten_sheet does with a sheet that has a padded number."""
+    end = read(data, archived=True).end
+    if end:
+        return f"'shorten_sheet' refuses the sheet too: {where_and_why(end)}"
+    return "if the sheet is from the archive, 'shorten_sheet' rewrites it in shortest form"
 
 
 def where_and_why(fault):
@@ -46,6 +57,8 @@ def reason(fault):
         return f"cut off after {plural(length, 'byte')}" if length else "missing"
     if fault.reply == 17:
         return f"{fault.code}, but the codes are 1 to 5"
+    if fault.reply == 19:
+        return f"{number.value:,}, padded: {in_hex(number.data)} instead of {in_hex(number_bytes(number.value))}"
     if number.value is None:
         return "longer than three bytes"
     return f"{number.value:,}, over {MAX_NUMBER:,}"

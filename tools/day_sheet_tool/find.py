@@ -12,7 +12,7 @@ ORDINALS = ("first", "second", "third")
 def find_record(data, sheet, record):
     """The bytes of a record, its text, and the offset of each of its numbers."""
     if record >= len(sheet.numbers):
-        raise UserError(no_record(sheet, record))
+        raise UserError(no_record(data, sheet, record))
     first, end = sheet.numbers[record][0].start, sheet.numbers[record][-1].end
     head = f"{record_name(record)}: byte {first} ({first:#x}), {plural(end - first, 'byte')}"
     lines = [f"{head}: {in_hex(data[first:end]) or 'none'}"]
@@ -49,9 +49,9 @@ def meaning(sheet, number):
     return f"{name}: {number.value}{step}"
 
 
-def no_record(sheet, record):
+def no_record(data, sheet, record):
     if sheet.fault:
-        return f"record {record} is not read; {ending(sheet)}"
+        return f"record {record} is not read; {ending(data, sheet)}"
     return f"no record {record}; the sheet has {plural(len(sheet.records), 'record')}, and the header is record 0"
 
 
@@ -70,7 +70,7 @@ def belongs(byte, number):
 
 
 def byte_in_words(byte, sheet, record, number):
-    name = number_in_words(record, sheet.numbers[record][0].value, number.field)
+    name = number_in_words(record, code_of(sheet, record), number.field)
     length = len(number.data)
     if length == 0:
         return f"byte {byte}: the sheet ends here; {name} is missing"
@@ -78,7 +78,14 @@ def byte_in_words(byte, sheet, record, number):
     return f"byte {byte}: {part}{name}"
 
 
+def code_of(sheet, record):
+    """The code of a record; 0 if it was not read."""
+    if sheet.fault and record == sheet.fault.record:
+        return sheet.fault.code
+    return sheet.numbers[record][0].value
+
+
 def no_byte(data, sheet, byte):
     if sheet.fault and byte < len(data):
-        return f"byte {byte} is not read; {ending(sheet)}"
+        return f"byte {byte} is not read; {ending(data, sheet)}"
     return f"no byte {byte}; the sheet has {plural(len(data), 'byte')}, counted from 0"

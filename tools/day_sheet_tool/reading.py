@@ -6,7 +6,7 @@ from .board import opening
 from .steps import HALL_FIELDS, MAX_BYTES, MAX_NUMBER, STEPS, Record
 
 MAX_GROUPS = 3
-WITH_OFFSET = (15, 16)
+WITH_OFFSET = (15, 16, 19)
 
 
 class Number(namedtuple("Number", "field start data value")):
@@ -18,6 +18,11 @@ class Number(namedtuple("Number", "field start data value")):
         """The offset after its last byte."""
         return self.start + len(self.data)
 
+    @property
+    def padded(self):
+        """Does it have a zero group at the high end? 0 in one byte does not."""
+        return len(self.data) > 1 and self.data[-1] == 0
+
 
 class Fault(namedtuple("Fault", "reply record code number")):
     """Why a reading ends: the reply number, the record being read (0 is the header), its code (0 if it was not read)
@@ -25,7 +30,7 @@ class Fault(namedtuple("Fault", "reply record code number")):
 
     @property
     def session(self):
-        """The last column of its line: for 15 and 16 the offset of the number's first byte, else 0."""
+        """The last column of its line: for 15, 16 and 19 the offset of the number's first byte, else 0."""
         return self.number.start if self.reply in WITH_OFFSET else 0
 
 
@@ -41,14 +46,20 @@ class Sheet(namedtuple("Sheet", "hall records numbers fault")):
         reply = opening(self.hall) if self.hall else 0
         return Fault(reply, 0, 0, self.numbers[0][reply - 1]) if reply else None
 
+    @property
+    def end(self):
+        """What ends the program's reading. None if it reads the whole sheet."""
+        return self.refusal or self.fault
+
 
 class Refused(Exception):
-    """The number just read ends the reading: 15, 16 or 17."""
+    """The number just read ends the reading: 15, 16, 17 or 19."""
 
 
 class Reader:
-    def __init__(self, data):
+    def __init__(self, data, archived):
         self.data = data
+        self.archived = archived
         self.at = 0
         self.numbers = []
 
@@ -68,6 +79,8 @@ class Reader:
             raise Refused(15)
         if value is None or value > MAX_NUMBER:
             raise Refused(16)
+        if number.padded and not self.archived:
+            raise Refused(19)
         return value
 
     def value(self):
@@ -84,11 +97,12 @@ class Reader:
         return None
 
 
-def read(data):
-    """The sheet of these bytes."""
+def read(data, archived=False):
+    """The sheet of these bytes: as day_sheet reads it, or an archived one, as shorten_sheet reads it, with padded
+    numbers."""
     if len(data) > MAX_BYTES:
         return Sheet(None, [], [], Fault(18, 0, 0, None))
-    reader = Reader(data)
+    reader = Reader(data, archived)
     hall, records, code = None, [], 0
     try:
         reader.start_record()

@@ -40,6 +40,7 @@ REASONS = {
     16: "a number must end within three bytes and be at most 65,535",
     17: "no step has this code; the codes are 1 to 5",
     18: "a sheet has at most 65,536 bytes",
+    19: "a number must be in shortest form",
 }
 
 
