@@ -552,6 +552,12 @@ hall 17 1 1   # header, byte 0
 END
 shortened "1 0" padded.sheet
 
+# The line of a refused sheet, where the rewritten one was expected.
+printf '\001\001\001\005\200\200\004' | "$shorten" >line.sheet
+no_sheet="line.sheet: this is not a sheet; 'shorten_sheet' refused one and wrote the line '16 4' instead"
+refused 2 "$no_sheet" decode line.sheet
+refused 2 "$no_sheet" explain line.sheet --program "$program"
+
 # Records and bytes that are not there, or after the end of the reading.
 ends_at="the reading ends at byte 13: the desk of record 3 (collect) is cut off after 1 byte (reply number 15)"
 refused 2 "d.sheet: no record 9; the sheet has 8 records, and the header is record 0" find d.sheet --record 9

@@ -29,6 +29,9 @@ def read_sheet(name):
     words = (line.split(b"#", 1)[0].split() for line in data.split(b"\n"))
     if next(filter(None, words), [b""])[0] == b"hall":  # as bytes, these letters would mean 104 desks
         raise UserError(f"{name}: this is the text of a sheet; 'encode' makes the sheet")
+    if re.fullmatch(rb"[0-9]{1,2} [0-9]{1,5}\n", data):  # as bytes, the first digit would mean 48 desks or more
+        line = data.decode().strip()
+        raise UserError(f"{name}: this is not a sheet; 'shorten_sheet' refused one and wrote the line '{line}' instead")
     return data
 
 
