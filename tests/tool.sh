@@ -632,17 +632,41 @@ ends_at="the reading ends at byte 5: the code of record 2 is 5, padded: 85 00 in
 corrected "2 0 17 0    the reply number is 17, but it should be 19; $ends_at" padded.sheet '0 0 0 0\n1 5 0 0\n2 0 17 0\nend 1 0 0\n'
 corrected "2 0 19 0    the last column is 0, but it should be 5; $ends_at" padded.sheet '0 0 0 0\n1 5 0 0\n2 0 19 0\nend 1 0 0\n'
 
-# The worked repair of docs/SHEETS.md: its commands print what it shows.
-awk '/^## / { on = /A worked repair/ } on && sub(/^    /, "")' "$root/docs/SHEETS.md" >repair.shown
-sed -n 's/^\$ //p' repair.shown >repair.commands
-[ "$(wc -l <repair.commands)" -ge 10 ] || fail "docs/SHEETS.md: no worked repair"
-while IFS= read -r command; do
-    printf '$ %s\n' "$command"
-    here=$(printf '%s\n' "$command" |
-        sed 's|target/bin/day_sheet|"$program"|; s|tools/sheet|sheet|; s|sheet explain|& --program "$program"|')
-    eval "$here" 2>&1 || true # 'decode' of a broken sheet ends with status 2
-done <repair.commands >repair.printed
-same "the worked repair of docs/SHEETS.md" repair.shown repair.printed
+# worked SECTION COUNT: the commands of this section of docs/SHEETS.md, at least so many, print what it shows.
+worked() {
+    awk -v section="## $1" '/^## / { on = $0 == section } on && sub(/^    /, "")' "$root/docs/SHEETS.md" >worked.shown
+    sed -n 's/^\$ //p' worked.shown >worked.commands
+    [ "$(wc -l <worked.commands)" -ge "$2" ] || fail "docs/SHEETS.md: too few commands in '$1'"
+    while IFS= read -r command; do
+        printf '$ %s\n' "$command"
+        here=$(printf '%s\n' "$command" | sed 's|target/bin/day_sheet|"$program"|; s|target/bin/shorten_sheet|"$shorten"|
+            s|tools/sheet|sheet|; s|sheet explain|& --program "$program"|')
+        eval "$here" 2>&1 || true # 'decode' of a broken sheet ends with status 2
+    done <worked.commands >worked.printed
+    same "docs/SHEETS.md: '$1'" worked.shown worked.printed
+}
+worked "A worked repair" 10
+worked "Padded numbers" 6
+
+# The lines for scripts in docs/SHEETS.md that find out whether shorten_sheet wrote a sheet.
+awk 'sub(/^    /, "") && /shorten_sheet < OLD.sheet/ { on = 1 } /^$/ { on = 0 } on' "$root/docs/SHEETS.md" |
+    sed 's|target/bin/shorten_sheet|"$1"|' >script
+[ "$(wc -l <script)" -eq 2 ] || fail "docs/SHEETS.md: no lines for scripts"
+# scripted MESSAGE: what they print if OLD.sheet is the input.
+scripted() {
+    printf "$1" >expected
+    sh script "$shorten" >out 2>&1
+    same "the lines for scripts: '$1'" expected out
+}
+cp d.sheet OLD.sheet
+scripted ''
+printf '\012\001\001' >OLD.sheet # the number of desks is a newline
+scripted ''
+printf '\061\001\001' >OLD.sheet # it is a digit: no hall has so many
+scripted 'NEW.sheet is not a sheet\n'
+rm OLD.sheet
+mkdir OLD.sheet
+scripted 'NEW.sheet is not a sheet\n'
 
 # Random bytes: a message, never a Python traceback.
 for at in 1 2 3; do
