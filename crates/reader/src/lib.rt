@@ -69,8 +69,8 @@ const TOO_LONG: u16 = 18;
 // 19: the number is padded.
 const PADDED: u16 = 19;
 
-// The refusal of a sheet by a question that is not about a number.
-pub fn refuse_sheet(number: u16) -> Refusal
+// The refusal by a question that is not about a number of the sheet: it shows no offset.
+pub fn refuse_with(number: u16) -> Refusal
     ensures { λ r. ⌜ reasonOf r ≡ refusalOf 0 number 0 ⌝ }
 {
     Refusal {
@@ -108,14 +108,7 @@ fn takes(padding: Padding, padded: bool) -> bool
 }
 
 // A number whose last byte was read: refused if it is over the limit, and then if it is padded and that is barred.
-fn judge(
-    value: u32,
-    padded: bool,
-    at: usize,
-    next: usize,
-    padding: Padding,
-    limit: u16,
-) -> Number
+fn judge(value: u32, padded: bool, at: usize, next: usize, padding: Padding, limit: u16) -> Number
     ensures { λ r. ⌜ numberResult r ≡ judged (paddingOf padding) limit at value padded next ⌝ }
 {
     if (limit as u32) < value {
@@ -232,11 +225,7 @@ fn refuse_record(code: u16, reason: Refusal) -> ParsedRecord
 fn refuse_code(code: u16) -> ParsedRecord
     ensures { λ r. ⌜ recordResult r ≡ refusal code 17 0 ⌝ }
 {
-    ParsedRecord::Refused(Refusal {
-        code: code,
-        number: NO_CODE,
-        offset: 0,
-    })
+    refuse_record(code, refuse_with(NO_CODE))
 }
 
 // Reads the fields after the desk.
@@ -361,7 +350,7 @@ pub fn begin_sheet(sheet: &[u8], format: Format) -> ParsedHeader
     ensures { λ r. ⌜ headerResult r ≡ beginSheet (edition1 (formatOf format)) (now (sheet .entry)) ⌝ }
 {
     if MAX_BYTES < sheet.len() {
-        return ParsedHeader::Refused(refuse_sheet(TOO_LONG));
+        return ParsedHeader::Refused(refuse_with(TOO_LONG));
     }
     read_header(sheet, 0, format)
 }

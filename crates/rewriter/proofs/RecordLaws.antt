@@ -124,10 +124,15 @@ module _ {sheet out : List ℕ} {first start from : ℕ} {carried : Carried} {ou
 
     pub putting-fits : Fits out start (writtenFrom sheet first) → Fits outNow at (hallEdition .encodeRecord carried entry)
     putting-fits room =
-        omega
-        (arith, room, was .same, was .put .offset, ap length entry-then-rest,
-        length-append (was .done ++ hallEdition .encodeRecord carried entry) (writtenAfter (carriedAfter entry) (leftFrom sheet (carriedAfter entry) next)),
-        length-append (was .done) (hallEdition .encodeRecord carried entry))
+        omega (
+          arith,
+          room,
+          was .same,
+          was .put .offset,
+          ap length entry-then-rest,
+          length-append (was .done ++ hallEdition .encodeRecord carried entry) (writtenAfter (carriedAfter entry) (leftFrom sheet (carriedAfter entry) next)),
+          length-append (was .done) (hallEdition .encodeRecord carried entry),
+        )
 
     pub putting-next : {outNext : List ℕ} {after : ℕ} → Put outNow outNext at (hallEdition .encodeRecord carried entry) after → length outNext ≡ length outNow
         → Putting sheet out first start next (carriedAfter entry) outNext after

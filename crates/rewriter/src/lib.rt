@@ -13,7 +13,7 @@ use reader::ParsedRecord;
 use reader::Refusal;
 use reader::begin_sheet;
 use reader::read_record;
-use reader::refuse_sheet;
+use reader::refuse_with;
 use reply::number;
 use writer::header_length;
 use writer::put_header;
@@ -54,7 +54,7 @@ fn open_sheet(sheet: &[u8]) -> ParsedHeader
             );
             let reply_number = number(r);
             if reply_number != 0 {
-                return ParsedHeader::Refused(refuse_sheet(reply_number));
+                return ParsedHeader::Refused(refuse_with(reply_number));
             }
             ParsedHeader::Whole(header, next)
         }

@@ -14,7 +14,7 @@ use reader::Record;
 use reader::Refusal;
 use reader::begin_sheet;
 use reader::read_record;
-use reader::refuse_sheet;
+use reader::refuse_with;
 use reply::Reply;
 use reply::number;
 use reply::session;
@@ -211,7 +211,7 @@ pub fn start(sheet: &[u8], table: &mut [u8], out: &mut [u8]) -> Filled
             let r = open(table, header.desks, header.screens, header.positions);
             let reply_number = number(r);
             if reply_number != 0 {
-                return stop(out, 0, header_state, refuse_sheet(reply_number));
+                return stop(out, 0, header_state, refuse_with(reply_number));
             }
             let end = put_line(out, 0, 0, 0, 0, 0);
             Filled {

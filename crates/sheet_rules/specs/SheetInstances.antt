@@ -5,15 +5,18 @@ use mathlib.Core.Path.{_≡_, refl, sym}
 use mathlib.Core.Bool.{true, true≢false}
 use mathlib.Core.List.{List, [], _∷_, _++_}
 use mathlib.Core.Logic.{_⊎_}
+use mathlib.Core.Option.{some}
 use lib.ListN.{length, take, drop}
+use Rattle.rules.specs.Bytes.{IsBytes}
 use Rattle.rules.specs.Hall.{hallOf}
 use Rattle.rules.specs.Numbers.{Parsed, Refusal, parsed, refusal, refusalOf, refused}
-use Rattle.sheet_rules.specs.Edition1.{Format, NumberReader, encodeNumber}
-use Rattle.sheet_rules.specs.Lawful.{CarriedHolds, Lawful, LawfulNumbers, Moved, ReadsBack, RefusedAt, Stands}
+use Rattle.sheet_rules.specs.Edition1.{Format, NumberReader, archiveEdition, encodeNumber, hallEdition}
+use Rattle.sheet_rules.specs.Lawful.{CarriedHolds, Exact, ExactNumbers, Lawful, LawfulNumbers, Moved, ReadsBack, RefusedAt, Stands}
 use Rattle.sheet_rules.specs.Lines.{endLine, line}
-use Rattle.sheet_rules.specs.Offsets.{EditionOfNumbers, Located, NumberThen, NumbersBetween, NumbersFill, OfNumbers, PrintsRefusal, ShowsByte, WholeLines, refusesNumber}
+use Rattle.sheet_rules.specs.Offsets.{EditionOfNumbers, Located, NumberThen, NumbersBetween, NumbersFill, OfNumbers, PrintsRefusal, ShowsByte, WholeLines, ending, refusesNumber}
+use Rattle.sheet_rules.specs.Rewriting.{RefusedSheet, Shortened, ShortenedOrRefused, refusedLine}
 use Rattle.sheet_rules.specs.Sheet.{Accepted, EachGood, Edition, GoodMeaning, GoodRecord, Meaning, Record, isCode, lastDesk, noDesk, opened, openingNumber}
-use Rattle.sheet_rules.specs.Sheet.{reading, recordFor, whole}
+use Rattle.sheet_rules.specs.Sheet.{Written, encodeSheet, reading, recordFor, whole}
 
 -- ---- Records that a sheet can have, where sessions are at most 999: a take has no session, a swap has no screen, and a retire
 -- has no screen, position or session.
@@ -83,6 +86,9 @@ module _ (edition : Edition) (lawful : Lawful edition 999) (sheet : List ℕ) wh
   pub says-header-moves : edition .decodeHeader sheet 5 ≡ parsed (hallOf 2 3 4) 8 → Moved sheet 5 8
   says-header-moves = lawful .header-moves sheet 5 (hallOf 2 3 4) 8
 
+  pub says-header-no-longer : edition .decodeHeader sheet 5 ≡ parsed (hallOf 2 3 4) 8 → 5 + length (edition .encodeHeader (hallOf 2 3 4)) ≤ 8
+  says-header-no-longer = lawful .header-no-longer sheet 5 (hallOf 2 3 4) 8
+
   module _ (entry : Record) where
     pub says-record-read-back : GoodRecord 999 entry → ReadsBack (edition .decodeRecord (lastDesk 3)) (edition .encodeRecord (lastDesk 3) entry) entry
     says-record-read-back = lawful .record-read-back (lastDesk 3) entry
@@ -90,11 +96,31 @@ module _ (edition : Edition) (lawful : Lawful edition 999) (sheet : List ℕ) wh
     pub says-record-moves : edition .decodeRecord (lastDesk 3) sheet 5 ≡ parsed entry 8 → Moved sheet 5 8
     says-record-moves = lawful .record-moves (lastDesk 3) sheet 5 entry 8
 
+    pub says-record-no-longer : edition .decodeRecord (lastDesk 3) sheet 5 ≡ parsed entry 8 → 5 + length (edition .encodeRecord (lastDesk 3) entry) ≤ 8
+    says-record-no-longer = lawful .record-no-longer (lastDesk 3) sheet 5 entry 8
+
     pub says-record-code : edition .decodeRecord (lastDesk 3) sheet 5 ≡ parsed entry 8 → isCode (entry .code) ≡ true
     says-record-code = lawful .record-code (lastDesk 3) sheet 5 entry 8
 
     pub says-record-good : CarriedHolds (lastDesk 3) → edition .decodeRecord (lastDesk 3) sheet 5 ≡ parsed entry 8 → GoodRecord 999 entry
     says-record-good = lawful .record-good (lastDesk 3) sheet 5 entry 8
+
+-- An edition that is exact.
+module _ (edition : Edition) (exact : Exact edition) (sheet : List ℕ) where
+  pub says-header-exact : IsBytes sheet → edition .decodeHeader sheet 5 ≡ parsed (hallOf 2 3 4) 8 → Stands (edition .encodeHeader (hallOf 2 3 4)) sheet 5 8
+  says-header-exact = exact .header-exact sheet 5 (hallOf 2 3 4) 8
+
+  pub says-record-exact : (entry : Record) → IsBytes sheet → edition .decodeRecord (lastDesk 3) sheet 5 ≡ parsed entry 8
+      → Stands (edition .encodeRecord (lastDesk 3) entry) sheet 5 8
+  says-record-exact entry = exact .record-exact (lastDesk 3) sheet 5 entry 8
+
+pub says-exact-numbers : (readNumber : NumberReader) (sheet : List ℕ) → ExactNumbers readNumber → IsBytes sheet → readNumber 999 sheet 5 ≡ parsed 7 8
+    → Stands (encodeNumber 7) sheet 5 8
+says-exact-numbers readNumber sheet exact = exact 999 sheet 5 7 8
+
+pub says-written : (edition : Edition) (sheet : List ℕ) (meaning : Meaning) → Written edition 999 sheet meaning
+    → GoodMeaning 999 meaning × (length sheet ≤ 65536) × (sheet ≡ encodeSheet edition meaning)
+says-written edition sheet meaning written = (written .good, written .short, written .bytes)
 
 -- Numbers that are at most 999: 7, from offset 5 up to offset 8.
 module _ (readNumber : NumberReader) (lawful : LawfulNumbers readNumber) (sheet : List ℕ) where
@@ -106,6 +132,9 @@ module _ (readNumber : NumberReader) (lawful : LawfulNumbers readNumber) (sheet 
 
   pub says-number-moves : readNumber 999 sheet 5 ≡ parsed 7 8 → Moved sheet 5 8
   says-number-moves = lawful .moves 999 sheet 5 7 8
+
+  pub says-number-no-longer : readNumber 999 sheet 5 ≡ parsed 7 8 → 5 + length (encodeNumber 7) ≤ 8
+  says-number-no-longer = lawful .no-longer 999 sheet 5 7 8
 
   -- another sheet with the same first eight bytes
   pub says-number-bytes-after : (other : List ℕ) → readNumber 999 sheet 5 ≡ parsed 7 8 → take 8 other ≡ take 8 sheet → readNumber 999 other 5 ≡ parsed 7 8
@@ -155,3 +184,18 @@ module _ (format : Format) (sheet : List ℕ) where
 pub says-prints-refusal : (text : List ℕ) (prints : PrintsRefusal text (refusalOf 3 15 8))
     → WholeLines (prints .before) × (text ≡ prints .before ++ (line (prints .index) 3 15 8 ++ endLine (prints .tally)))
 says-prints-refusal text prints = (prints .whole, prints .printed)
+
+-- ---- A sheet of the archive that is written anew, or refused.
+pub says-shortened : (sheet output : List ℕ) (short : Shortened sheet output)
+    → Accepted archiveEdition sheet (short .meaning)
+    × (output ≡ encodeSheet hallEdition (short .meaning))
+    × Accepted hallEdition output (short .meaning)
+    × (length output ≤ length sheet)
+says-shortened sheet output short = (short .was-accepted, short .written, short .is-accepted, short .no-longer)
+
+pub says-refused-sheet : (sheet output : List ℕ) (refusal : RefusedSheet sheet output)
+    → (ending (reading archiveEdition sheet) ≡ some (refusal .reason)) × (output ≡ refusedLine (refusal .reason .number) (refusal .reason .offset))
+says-refused-sheet sheet output refusal = (refusal .ends, refusal .line)
+
+pub says-shortened-or-refused : (sheet output : List ℕ) → ShortenedOrRefused sheet output → Shortened sheet output ⊎ RefusedSheet sheet output
+says-shortened-or-refused sheet output is = is

@@ -7,13 +7,13 @@ use Rattle.rules.specs.Numbers.{refused}
 use Rattle.reader.proofs.begin_sheet.Statement.{statement}
 use Rattle.reader.proofs.begin_sheet.Tie as tie
 
-refuse-sheet-requires : tie.Need-refuse-sheet-requires
-refuse-sheet-requires c κs = search needs
+refuse-with-requires : tie.Need-refuse-with-requires
+refuse-with-requires c κs = search needs
 
 returns : tie.Need-returns
 returns c =
     let sheet = c .before .before .before .args .sheet .now in
-    ap refused (c .refuse-sheet .ensures) ∙ sym (simp (lt-leb (length sheet) 65536 (c .before .if1 .taken)))
+    ap refused (c .refuse-with .ensures) ∙ sym (simp (lt-leb (length sheet) 65536 (c .before .if1 .taken)))
 
 read-header-requires : tie.Need-read-header-requires
 read-header-requires c κs = search needs
@@ -25,4 +25,4 @@ returns-2 c =
 
 pub begin-sheet-spec : {M : Type 1} → statement M
 begin-sheet-spec =
-    tie.close (tie.spec refuse-sheet-requires returns read-header-requires returns-2)
+    tie.close (tie.spec refuse-with-requires returns read-header-requires returns-2)

@@ -33,13 +33,13 @@ opening-requires c κs = search needs
 number-requires : tie.Need-number-requires
 number-requires c κs = search needs
 
-refuse-sheet-requires : tie.Need-refuse-sheet-requires
-refuse-sheet-requires c κs = search needs
+refuse-with-requires : tie.Need-refuse-with-requires
+refuse-with-requires c κs = search needs
 
 returns : tie.Need-returns
 returns c =
     let after-number = c .before .before in
-    ap refused (c .refuse-sheet .ensures) ∙ sheet-refused (after-number .before .before .before .before .before .before .before .args .sheet .now) (header-read (after-number .before .before)) (opening-is after-number) (c .before .if1 .taken)
+    ap refused (c .refuse-with .ensures) ∙ sheet-refused (after-number .before .before .before .before .before .before .before .args .sheet .now) (header-read (after-number .before .before)) (opening-is after-number) (c .before .if1 .taken)
 
 returns-2 : tie.Need-returns-2
 returns-2 c = not-begun (c .before .before .before .before .before .args .sheet .now) (sym (c .before .before .before .begin-sheet .ensures) ∙ ap headerResult (c .before .reason .given .1))
@@ -49,4 +49,4 @@ returns-3 c = sheet-opens (c .before .before .before .before .before .before .be
 
 pub open-sheet-spec : {M : Type 1} → statement M
 open-sheet-spec =
-    tie.close (tie.spec begin-sheet-requires enum-known-reason enum-known-header opening-requires number-requires refuse-sheet-requires returns returns-2 returns-3)
+    tie.close (tie.spec begin-sheet-requires enum-known-reason enum-known-header opening-requires number-requires refuse-with-requires returns returns-2 returns-3)

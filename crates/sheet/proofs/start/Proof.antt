@@ -44,8 +44,8 @@ open-requires c κs = search needs
 number-requires : tie.Need-number-requires
 number-requires c κs = search needs
 
-refuse-sheet-requires : tie.Need-refuse-sheet-requires
-refuse-sheet-requires c κs = search needs
+refuse-with-requires : tie.Need-refuse-with-requires
+refuse-with-requires c κs = search needs
 
 stop-requires-2 : tie.Need-stop-requires-2
 stop-requires-2 c κs = search needs
@@ -60,7 +60,7 @@ returns : tie.Need-returns
 returns c =
     let last = c .before .before .stop2 .ensures in
     let after-number = c .before .before .before .before .before .before in
-    started-refused (after-number .before .before .before .«open» .result) (header-read (after-number .before .before .before .before .before)) (opening after-number) (after-number .number .ensures) (c .before .before .before .before .before .if1 .taken) (c .before .before .before .refuse-sheet .ensures) (last .0) (last .1)
+    started-refused (after-number .before .before .before .«open» .result) (header-read (after-number .before .before .before .before .before)) (opening after-number) (after-number .number .ensures) (c .before .before .before .before .before .if1 .taken) (c .before .before .before .refuse-with .ensures) (last .0) (last .1)
 
 put-line-requires : tie.Need-put-line-requires
 put-line-requires c κs = omega (arith, line-length 0 0 0 0, c .before .before .before .before .before .before .before .before .before .before .before .before .before .before .pre .1)
@@ -90,4 +90,4 @@ returns-3 c =
 
 pub start-spec : {M : Type 1} → statement M
 start-spec =
-    tie.close (tie.spec begin-sheet-requires enum-known-reason stop-requires enum-known-header open-requires number-requires refuse-sheet-requires stop-requires-2 same-length same-length-2 returns put-line-requires same-length-3 returns-2 same-length-4 same-length-5 returns-3)
+    tie.close (tie.spec begin-sheet-requires enum-known-reason stop-requires enum-known-header open-requires number-requires refuse-with-requires stop-requires-2 same-length same-length-2 returns put-line-requires same-length-3 returns-2 same-length-4 same-length-5 returns-3)

@@ -110,9 +110,14 @@ module _ (format : Format) (numbers : LawfulNumbers (format .readNumber)) where
             let desk-long : e₁ .1 + length (encodeField (follows (entry .code) deskField) (entry .desk)) ≤ e₃ .1 =
             subst (λ (n : ℕ). e₁ .1 + length (encodeField (follows n deskField) (entry .desk)) ≤ e₃ .1) (sym (rest .same-code))
             (subst (λ (n : ℕ). e₁ .1 + length (encodeField (follows (e₁ .0) deskField) n) ≤ e₃ .1) (sym (rest .same-desk)) (desk .no-longer)) in
-            omega
-            (arith, code-long, desk-long, rest .no-longer, length-append (encodeNumber (entry .code)) (encodeFields entry),
-            length-append (encodeField (follows (entry .code) deskField) (entry .desk)) (encodeRest entry));
+            omega (
+              arith,
+              code-long,
+              desk-long,
+              rest .no-longer,
+              length-append (encodeNumber (entry .code)) (encodeFields entry),
+              length-append (encodeField (follows (entry .code) deskField) (entry .desk)) (encodeRest entry),
+            );
       }
 
   record HeaderParsed (sheet : List ℕ) (at : ℕ) (hall : Hall) (next : ℕ) : Type 0 where
@@ -133,10 +138,14 @@ module _ (format : Format) (numbers : LawfulNumbers (format .readNumber)) where
       (record {
         moved = record { past = omega (arith, moved₁ .past, moved₂ .past, moved₃ .past); inside = moved₃ .inside };
         no-longer =
-            omega
-            (arith, numbers .no-longer maxNumber sheet at (e₁ .0) (e₁ .1) (e₁ .2), numbers .no-longer maxNumber sheet (e₁ .1) (e₂ .0) (e₂ .1) (e₂ .2),
-            numbers .no-longer maxNumber sheet (e₂ .1) (e₃ .0) (e₃ .1) (e₃ .2), length-append (encodeNumber (e₁ .0)) (encodeNumber (e₂ .0) ++ encodeNumber (e₃ .0)),
-            length-append (encodeNumber (e₂ .0)) (encodeNumber (e₃ .0)));
+            omega (
+              arith,
+              numbers .no-longer maxNumber sheet at (e₁ .0) (e₁ .1) (e₁ .2),
+              numbers .no-longer maxNumber sheet (e₁ .1) (e₂ .0) (e₂ .1) (e₂ .2),
+              numbers .no-longer maxNumber sheet (e₂ .1) (e₃ .0) (e₃ .1) (e₃ .2),
+              length-append (encodeNumber (e₁ .0)) (encodeNumber (e₂ .0) ++ encodeNumber (e₃ .0)),
+              length-append (encodeNumber (e₂ .0)) (encodeNumber (e₃ .0)),
+            );
       })
 
   -- ---- What is written is read back.

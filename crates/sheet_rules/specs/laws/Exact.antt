@@ -30,19 +30,24 @@ module _ {edition : Edition} {maxSession : ℕ} (lawful : Lawful edition maxSess
   records-no-longer (suc most) (entry ∷ entries) carried sheet at inside e =
       let first = first-record edition most carried sheet at entry (whole entries) e in
       let later = records-no-longer most entries (carriedAfter entry) sheet (first .next) (lawful .record-moves carried sheet at entry (first .next) (first .read) .inside) (first .later) in
-      omega
-      (arith, later, lawful .record-no-longer carried sheet at entry (first .next) (first .read),
-      length-append (edition .encodeRecord carried entry) (encodeRecords edition (carriedAfter entry) entries))
+      omega (
+        arith,
+        later,
+        lawful .record-no-longer carried sheet at entry (first .next) (first .read),
+        length-append (edition .encodeRecord carried entry) (encodeRecords edition (carriedAfter entry) entries),
+      )
 
   pub accepted-no-longer : (sheet : List ℕ) (meaning : Meaning) → Accepted edition sheet meaning → length (encodeSheet edition meaning) ≤ length sheet
   unfolding encodeSheet
   accepted-no-longer sheet meaning e =
       let was = opened-from edition sheet (meaning .header) (whole (meaning .records)) e in
       let moved = lawful .header-moves sheet 0 (meaning .header) (was .next) (was .read) in
-      omega
-      (arith, lawful .header-no-longer sheet 0 (meaning .header) (was .next) (was .read),
-      records-no-longer (length sheet) (meaning .records) noDesk sheet (was .next) (moved .inside) (sym (was .are)),
-      length-append (edition .encodeHeader (meaning .header)) (encodeRecords edition noDesk (meaning .records)))
+      omega (
+        arith,
+        lawful .header-no-longer sheet 0 (meaning .header) (was .next) (was .read),
+        records-no-longer (length sheet) (meaning .records) noDesk sheet (was .next) (moved .inside) (sym (was .are)),
+        length-append (edition .encodeHeader (meaning .header)) (encodeRecords edition noDesk (meaning .records)),
+      )
 
 -- ---- Nothing but what is written is accepted.
 
