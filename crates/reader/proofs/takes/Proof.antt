@@ -1,0 +1,20 @@
+-- `reader::takes` meets its contract.
+use borrow.Author.Needs.{needs}
+use Rattle.reader.proofs.takes.Statement.{statement}
+use Rattle.reader.proofs.takes.Tie as tie
+
+enum-told : tie.Need-enum-told
+enum-told c = search needs
+
+enum-told-2 : tie.Need-enum-told-2
+enum-told-2 c = search needs
+
+returns : tie.Need-returns
+returns c = search needs
+
+returns-2 : tie.Need-returns-2
+returns-2 c = search needs
+
+pub takes-spec : {M : Type 1} → statement M
+takes-spec =
+    tie.close (tie.spec enum-told enum-told-2 returns returns-2)
