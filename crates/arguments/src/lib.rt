@@ -1,4 +1,5 @@
-// What a program's arguments ask for; the same for every program that reads a sheet from standard input. No contract can say what they are.
+// What a program's arguments ask for; the same for every program that reads a sheet from standard input.
+ghost use Rattle.arguments.specs.Asks.{Asks};
 
 pub enum Request {
     // There are no arguments.
@@ -9,19 +10,17 @@ pub enum Request {
     Unknown,
 }
 
-// Whether the first argument is `--help`. (A longer argument does not fit, and is read as none.)
-fn is_help() -> bool {
-    let mut argument = [0u8; 8];
-    let n = os::arg(1, &mut argument);
-    check::same(&argument[..n], b"--help")
-}
-
-pub fn asked() -> Request {
-    let arguments = os::arg_count();
+// The request of so many arguments, the program's own name among them, of which this is the first after the name.
+pub fn request_for(arguments: usize, first: &[u8]) -> Request
+    ensures { λ r. ⌜ Asks r arguments (now (first .entry)) ⌝ }
+{
     if arguments < 2 {
         return Request::Run;
     }
-    if arguments == 2 && is_help() {
+    if 2 < arguments {
+        return Request::Unknown;
+    }
+    if check::same(first, b"--help") {
         return Request::Help;
     }
     Request::Unknown

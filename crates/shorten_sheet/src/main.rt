@@ -1,7 +1,7 @@
 // Reads a sheet of the archive from standard input and writes it in shortest form to standard output, or, if it is refused, one line. If it
 // cannot read or write, it says why on standard error. After a failed read it writes nothing.
 use arguments::Request;
-use arguments::asked;
+use arguments::request_for;
 use input::Input;
 use input::read_to_end;
 use libc::STDERR_FILENO;
@@ -61,7 +61,10 @@ fn run() {
 }
 
 fn main() {
-    match asked() {
+    // A longer argument does not fit, and is read as none.
+    let mut first = [0u8; 8];
+    let n = os::arg(1, &mut first);
+    match request_for(os::arg_count(), &first[..n]) {
         Request::Run => run(),
         Request::Help => {
             if !print_help() {

@@ -1,0 +1,3 @@
+-- The definition that the contract of this crate cites, and computed cases of it.
+pub mod Asks
+pub mod Cases
