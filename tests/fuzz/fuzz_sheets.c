@@ -26,7 +26,7 @@ enum {
     MAX_MILLISECONDS = 10000, /* far more than any sheet needs */
     MAX_PRINTED = 4 << 20,    /* five times the lines of the longest sheet */
     PIPE_BYTES = 1 << 20,
-    NUMBERS = 19
+    NUMBERS = 20
 };
 
 static void require(bool good, const char *what)

@@ -1,32 +1,14 @@
 //! The day sheet of documents 01 and 02: whole case D, case L, the empty sheet,
 //! each way in which a reading can end, and the offset that its line prints.
 
-use reference::sheet::Fault::{BadNumber, SheetShort};
-use reference::sheet::{printed, Reader, MAX_BYTES};
+mod sheet;
 
-const CASE_D: [u8; 27] = [
-    0x01, 0x01, 0x01, 0x03, 0x01, 0x01, 0xAC, 0x02, 0x01, 0x01, 0x01, 0x01, 0x03, 0x01, 0x01, 0x07,
-    0x04, 0x01, 0x05, 0x01, 0x02, 0x01, 0x01, 0x05, 0x01, 0x04, 0x01,
-];
-
-/// A hall of 1, 1, 1 with nothing after it.
-const SMALLEST: [u8; 3] = [1, 1, 1];
-
-fn lines(sheet: &[u8]) -> String {
-    String::from_utf8(printed(sheet)).expect("plain text")
-}
-
-/// The lines of a sheet that opens the smallest hall and continues with these
-/// bytes.
-fn lines_after_opening(rest: &[u8]) -> String {
-    let lines = lines(&[&SMALLEST, rest].concat());
-    lines.strip_prefix("0 0 0 0\n").expect("an accepted opening").to_string()
-}
-
-/// The line that ends the reading: the last but one.
-fn stopping_line(sheet: &[u8]) -> String {
-    lines(sheet).lines().rev().nth(1).expect("two lines").to_string()
-}
+use reference::sheet::Fault::{BadNumber, Padded, SheetShort};
+use reference::sheet::Format::{self, Archive, Shortest};
+use reference::sheet::{Reader, MAX_BYTES};
+use sheet::{
+    lines, lines_after_opening, number_in, stopping_line, stopping_line_in, CASE_D, SMALLEST,
+};
 
 #[test]
 fn case_d_whole() {
@@ -40,28 +22,34 @@ fn the_empty_sheet() {
     assert_eq!(lines(&[]), "0 0 15 0\nend 0 0 0\n");
 }
 
+/// Document 02, Job 3: "`81 00` in case L becomes 19 in the new reader only."
 #[test]
 fn case_l() {
-    assert_eq!(Reader::new(&[0xFF, 0xFF, 0x03]).number(), Ok(65_535));
-    assert_eq!(Reader::new(&[0x80, 0x80, 0x04]).number(), Err(BadNumber { offset: 0 }));
-    assert_eq!(Reader::new(&[0x81, 0x00]).number(), Ok(1));
-    assert_eq!(Reader::new(&[0x80]).number(), Err(SheetShort { offset: 0 }));
+    for format in [Shortest, Archive] {
+        assert_eq!(number_in(format, &[0xFF, 0xFF, 0x03]), Ok(65_535));
+        assert_eq!(number_in(format, &[0x80, 0x80, 0x04]), Err(BadNumber { offset: 0 }));
+        assert_eq!(number_in(format, &[0x80]), Err(SheetShort { offset: 0 }));
+    }
+    assert_eq!(number_in(Shortest, &[0x81, 0x00]), Err(Padded { offset: 0 }));
+    assert_eq!(number_in(Archive, &[0x81, 0x00]), Ok(1));
 }
 
 /// A sheet that stops before a third byte is 15, also where it could only
 /// have become too large.
 #[test]
 fn numbers_that_stop() {
-    assert_eq!(Reader::new(&[]).number(), Err(SheetShort { offset: 0 }));
-    assert_eq!(Reader::new(&[0xFF, 0xFF]).number(), Err(SheetShort { offset: 0 }));
-    assert_eq!(Reader::new(&[0xFF, 0xFF, 0x83]).number(), Err(BadNumber { offset: 0 }));
-    assert_eq!(Reader::new(&[0x80, 0x80, 0x80, 0x00]).number(), Err(BadNumber { offset: 0 }));
+    for format in [Shortest, Archive] {
+        assert_eq!(number_in(format, &[]), Err(SheetShort { offset: 0 }));
+        assert_eq!(number_in(format, &[0xFF, 0xFF]), Err(SheetShort { offset: 0 }));
+        assert_eq!(number_in(format, &[0xFF, 0xFF, 0x83]), Err(BadNumber { offset: 0 }));
+        assert_eq!(number_in(format, &[0x80, 0x80, 0x80, 0x00]), Err(BadNumber { offset: 0 }));
+    }
 }
 
 #[test]
 fn zero_groups_at_the_high_end() {
-    assert_eq!(Reader::new(&[0x81, 0x80, 0x00]).number(), Ok(1));
-    let mut reader = Reader::new(&[0x80, 0x80, 0x00, 0xAC, 0x82, 0x00]);
+    assert_eq!(number_in(Archive, &[0x81, 0x80, 0x00]), Ok(1));
+    let mut reader = Reader::new(&[0x80, 0x80, 0x00, 0xAC, 0x82, 0x00], Archive);
     assert_eq!((reader.number(), reader.number()), (Ok(0), Ok(300)));
     assert!(reader.at_end());
 }
@@ -193,12 +181,28 @@ const BAD_NUMBERS: [(&[u8], u32); 6] = [
     (&[0x80, 0x80, 0x80, 0x00], 16),
 ];
 
+/// 0, 1, 0 and 300 with zero groups at the high end.
+const PADDED_NUMBERS: [&[u8]; 4] =
+    [&[0x80, 0x00], &[0x81, 0x00], &[0x80, 0x80, 0x00], &[0xAC, 0x82, 0x00]];
+
 /// Each bad number after these bytes prints the same offset, in the line that
 /// begins like this.
-fn assert_offset(before: &[u8], line: &str, offset: usize) {
+fn assert_offset_in(format: Format, before: &[u8], line: &str, offset: usize) {
     for (bad, number) in BAD_NUMBERS {
         let expected = format!("{line} {number} {offset}");
-        assert_eq!(stopping_line(&[before, bad].concat()), expected, "{before:?}, {bad:?}");
+        let found = stopping_line_in(format, &[before, bad].concat());
+        assert_eq!(found, expected, "{before:?}, {bad:?}");
+    }
+}
+
+/// The same in both formats; and so does each padded number, with 19, in
+/// shortest form.
+fn assert_offset(before: &[u8], line: &str, offset: usize) {
+    assert_offset_in(Shortest, before, line, offset);
+    assert_offset_in(Archive, before, line, offset);
+    for padded in PADDED_NUMBERS {
+        let expected = format!("{line} 19 {offset}");
+        assert_eq!(stopping_line(&[before, padded].concat()), expected, "{before:?}, {padded:?}");
     }
 }
 
@@ -216,6 +220,9 @@ fn the_offset_of_a_code() {
     assert_eq!(lines_after_opening(&[0x81, 0x80]), "1 0 15 3\nend 0 0 0\n");
     assert_eq!(lines_after_opening(&[0xFF, 0xFF, 0x04]), "1 0 16 3\nend 0 0 0\n");
     assert_eq!(lines_after_opening(&[0x81, 0x80, 0x80, 0]), "1 0 16 3\nend 0 0 0\n");
+    for padded in PADDED_NUMBERS {
+        assert_eq!(lines_after_opening(padded), "1 0 19 3\nend 0 0 0\n");
+    }
 }
 
 #[test]
@@ -238,9 +245,19 @@ fn the_offset_in_a_later_record() {
     assert_offset(&[&first[..], &[5, 1, 1, 1]].concat(), "3 1", 11);
 }
 
-/// All bytes before it count, also those of zero groups.
+/// All bytes of a number before it count.
+#[test]
+fn the_offset_after_long_numbers() {
+    assert_offset(&[0x80, 0x01], "0 0", 2);
+    assert_offset(&[0x80, 0x01, 0xFF, 0xFF, 0x03], "0 0", 5);
+    assert_offset(&[1, 1, 1, 3, 1, 1, 0xAC, 0x02, 5], "2 5", 9);
+    assert_offset(&[1, 1, 1, 1, 0xFF, 0xFF, 0x03, 1], "1 1", 8);
+}
+
+/// So do zero groups, in a sheet of the archive.
 #[test]
 fn the_offset_after_zero_groups() {
+    let assert_offset = |before: &[u8], line, at| assert_offset_in(Archive, before, line, at);
     assert_offset(&[0x81, 0x00], "0 0", 2);
     assert_offset(&[0x81, 0x00, 0x81, 0x80, 0x00], "0 0", 5);
     assert_offset(&[0x81, 0x00, 0x81, 0x80, 0x00, 1, 5], "1 5", 7);
@@ -273,4 +290,6 @@ fn the_largest_offsets() {
     assert_eq!(stopping_line(&ends_with(&[0x85])), "32767 0 15 65535");
     assert_eq!(stopping_line(&ends_with(&[4, 0x80, 0x80])), "32766 4 15 65534");
     assert_eq!(stopping_line(&ends_with(&[0x80, 0x80, 0x04])), "32766 0 16 65533");
+    assert_eq!(stopping_line(&ends_with(&[0x81, 0x00])), "32766 5 19 65534");
+    assert_eq!(stopping_line(&ends_with(&[0x81, 0x80, 0x00])), "32766 0 19 65533");
 }

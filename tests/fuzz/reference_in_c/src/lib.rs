@@ -43,7 +43,7 @@ pub unsafe extern "C" fn reference_lines(
     static mut LINES: Vec<u8> = Vec::new();
     let sheet = if bytes == 0 { &[] } else { slice::from_raw_parts(sheet, bytes) };
     let lines = &mut *(&raw mut LINES);
-    *lines = sheet::printed(sheet);
+    *lines = sheet::printed(sheet, sheet::Format::Shortest);
     *length = lines.len();
     lines.as_ptr()
 }

@@ -5,8 +5,8 @@ use super::number::Fault;
 use super::tally::Tally;
 
 /// What a line says of its record: reply number and session. Where a number
-/// cannot be read, its offset stands in place of the session; that can be
-/// 65,536, which is more than a session can be.
+/// is refused, its offset stands in place of the session; that can be 65,536,
+/// which is more than a session can be.
 #[derive(Clone, Copy)]
 pub struct Columns {
     number: u32,
@@ -35,6 +35,7 @@ impl From<Fault> for Columns {
             Fault::BadNumber { offset } => (16, offset),
             Fault::BadCode => (17, 0),
             Fault::SheetLong => (18, 0),
+            Fault::Padded { offset } => (19, offset),
         };
         Columns { number, session: offset as u32 }
     }

@@ -3,14 +3,17 @@
 //!
 //! Document 02, Job 2: "When a number gives 15 or 16, the number reader's reply
 //! must carry the offset of that number's first byte, and the session column
-//! prints it".
+//! prints it". Job 3: "19 for a padded number, asked after 15 and 16, with its
+//! offset as in Job 2".
 
 mod line;
 mod number;
+mod program;
 mod record;
 mod tally;
 
-pub use self::number::{Fault, Reader};
+pub use self::number::{Fault, Format, Reader};
+pub use self::program::run_program;
 pub use self::tally::Tally;
 
 use self::line::{print_end, print_line, Columns};
@@ -25,9 +28,9 @@ pub const MAX_BYTES: usize = 65_536;
 const TABLE_BYTES: usize = 2 * 2387;
 
 /// All lines of a sheet, the last one included.
-pub fn printed(sheet: &[u8]) -> Vec<u8> {
+pub fn printed(sheet: &[u8], format: Format) -> Vec<u8> {
     let mut run = Run::new();
-    if let Err(Stop { code, columns }) = run.whole(sheet) {
+    if let Err(Stop { code, columns }) = run.whole(sheet, format) {
         run.line(code, columns);
     }
     print_end(&mut run.text, &run.tally);
@@ -60,11 +63,11 @@ impl Run {
         Run { table: [0; TABLE_BYTES], record: 0, tally: Tally::default(), text: Vec::new() }
     }
 
-    fn whole(&mut self, sheet: &[u8]) -> Result<(), Stop> {
+    fn whole(&mut self, sheet: &[u8], format: Format) -> Result<(), Stop> {
         if sheet.len() > MAX_BYTES {
             return Err(stop_at(0)(Fault::SheetLong));
         }
-        let mut reader = Reader::new(sheet);
+        let mut reader = Reader::new(sheet, format);
         self.header(&mut reader)?;
         while !reader.at_end() {
             self.record += 1;

@@ -1,0 +1,65 @@
+//! Sheets of bytes, and their lines.
+
+#![allow(dead_code)] // each test file uses its own part of this
+
+use reference::sheet::Format::{self, Shortest};
+use reference::sheet::{printed, Fault, Reader};
+
+pub const CASE_D: [u8; 27] = [
+    0x01, 0x01, 0x01, 0x03, 0x01, 0x01, 0xAC, 0x02, 0x01, 0x01, 0x01, 0x01, 0x03, 0x01, 0x01, 0x07,
+    0x04, 0x01, 0x05, 0x01, 0x02, 0x01, 0x01, 0x05, 0x01, 0x04, 0x01,
+];
+
+/// A hall of 1, 1, 1 with nothing after it.
+pub const SMALLEST: [u8; 3] = [1, 1, 1];
+
+pub fn lines_in(format: Format, sheet: &[u8]) -> String {
+    String::from_utf8(printed(sheet, format)).expect("plain text")
+}
+
+pub fn lines(sheet: &[u8]) -> String {
+    lines_in(Shortest, sheet)
+}
+
+/// The lines of a sheet that opens the smallest hall and continues with these
+/// bytes.
+pub fn lines_after_opening(rest: &[u8]) -> String {
+    let lines = lines(&[&SMALLEST, rest].concat());
+    lines.strip_prefix("0 0 0 0\n").expect("an accepted opening").to_string()
+}
+
+/// The line that ends the reading: the last but one.
+pub fn stopping_line_in(format: Format, sheet: &[u8]) -> String {
+    lines_in(format, sheet).lines().rev().nth(1).expect("two lines").to_string()
+}
+
+pub fn stopping_line(sheet: &[u8]) -> String {
+    stopping_line_in(Shortest, sheet)
+}
+
+/// The first number of a sheet.
+pub fn number_in(format: Format, sheet: &[u8]) -> Result<u16, Fault> {
+    Reader::new(sheet, format).number()
+}
+
+/// The groups that a number needs.
+pub fn needed_groups(number: u16) -> usize {
+    match number {
+        0..=127 => 1,
+        128..=16_383 => 2,
+        _ => 3,
+    }
+}
+
+/// The bytes of a number in so many groups, at least those that it needs.
+pub fn in_groups(number: u16, groups: usize) -> Vec<u8> {
+    let last = groups - 1;
+    let group = |at| (u32::from(number) >> (7 * at)) as u8 & 0x7F;
+    (0..groups).map(|at| if at < last { group(at) | 0x80 } else { group(at) }).collect()
+}
+
+/// A sheet of these numbers, each in at least so many groups.
+pub fn encoded(numbers: &[u16], least_groups: usize) -> Vec<u8> {
+    let groups = |number| needed_groups(number).max(least_groups);
+    numbers.iter().flat_map(|&number| in_groups(number, groups(number))).collect()
+}
