@@ -7,10 +7,10 @@ use super::tally::Tally;
 /// What a line says of its record: reply number and session. Where a number
 /// is refused, its offset stands in place of the session; that can be 65,536,
 /// which is more than a session can be.
-#[derive(Clone, Copy)]
+#[derive(Clone, Copy, Debug, PartialEq, Eq)]
 pub struct Columns {
-    number: u32,
-    session: u32,
+    pub number: u32,
+    pub session: u32,
 }
 
 impl From<Reply> for Columns {
@@ -45,6 +45,11 @@ impl From<Fault> for Columns {
 pub fn print_line(text: &mut Vec<u8>, record: u32, code: u16, columns: Columns) {
     print(text, record, b' ');
     print(text, u32::from(code), b' ');
+    print_columns(text, columns);
+}
+
+/// Reply number, session.
+pub fn print_columns(text: &mut Vec<u8>, columns: Columns) {
     print(text, columns.number, b' ');
     print(text, columns.session, b'\n');
 }

@@ -10,13 +10,16 @@ mod line;
 mod number;
 mod program;
 mod record;
+mod shorten;
 mod tally;
 
+pub use self::line::Columns;
 pub use self::number::{Fault, Format, Reader};
 pub use self::program::run_program;
+pub use self::shorten::{shortened, shortest};
 pub use self::tally::Tally;
 
-use self::line::{print_end, print_line, Columns};
+use self::line::{print_end, print_line};
 use self::record::{read_fields, step};
 use super::open;
 
@@ -35,6 +38,18 @@ pub fn printed(sheet: &[u8], format: Format) -> Vec<u8> {
     }
     print_end(&mut run.text, &run.tally);
     run.text
+}
+
+/// A reader at the start of a sheet that is not too long.
+fn begin(sheet: &[u8], format: Format) -> Result<Reader<'_>, Fault> {
+    if sheet.len() > MAX_BYTES {
+        return Err(Fault::SheetLong);
+    }
+    Ok(Reader::new(sheet, format))
+}
+
+fn read_header(reader: &mut Reader) -> Result<[u16; 3], Fault> {
+    Ok([reader.number()?, reader.number()?, reader.number()?])
 }
 
 /// The line that ends a reading before the end of the sheet. The code is that
@@ -64,10 +79,7 @@ impl Run {
     }
 
     fn whole(&mut self, sheet: &[u8], format: Format) -> Result<(), Stop> {
-        if sheet.len() > MAX_BYTES {
-            return Err(stop_at(0)(Fault::SheetLong));
-        }
-        let mut reader = Reader::new(sheet, format);
+        let mut reader = begin(sheet, format).map_err(stop_at(0))?;
         self.header(&mut reader)?;
         while !reader.at_end() {
             self.record += 1;
@@ -78,8 +90,7 @@ impl Run {
 
     /// All three numbers are read before the opening asks its questions.
     fn header(&mut self, reader: &mut Reader) -> Result<(), Stop> {
-        let mut number = || reader.number().map_err(stop_at(0));
-        let (desks, screens, positions) = (number()?, number()?, number()?);
+        let [desks, screens, positions] = read_header(reader).map_err(stop_at(0))?;
         let reply = open(desks, screens, positions, &mut self.table);
         reply.map_err(stop_at(0))?;
         self.line(0, reply.into());

@@ -71,3 +71,13 @@ impl<'a> Reader<'a> {
         Some(byte)
     }
 }
+
+/// Appends a number in its shortest form.
+pub fn write_number(sheet: &mut Vec<u8>, number: u16) {
+    let mut rest = number;
+    while rest > 0x7F {
+        sheet.push(rest as u8 | 0x80);
+        rest >>= 7;
+    }
+    sheet.push(rest as u8);
+}

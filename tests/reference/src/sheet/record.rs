@@ -1,7 +1,7 @@
 //! A record: the code of a step, and the fields that follow it.
 
 use super::super::{collect, drop, retire, swap, take, Reply};
-use super::number::{Fault, Reader};
+use super::number::{write_number, Fault, Reader};
 
 pub const TAKE: u16 = 1;
 pub const DROP: u16 = 2;
@@ -21,17 +21,32 @@ const FOLLOWS: [[bool; 4]; 5] = [
     [true, false, false, false],
 ];
 
+/// Precondition: the code is 1 to 5.
+fn follows(code: u16) -> [bool; 4] {
+    FOLLOWS[usize::from(code - TAKE)]
+}
+
 pub fn read_fields(code: u16, reader: &mut Reader) -> Result<Fields, Fault> {
     if !(TAKE..=COLLECT).contains(&code) {
         return Err(Fault::BadCode);
     }
     let mut fields = [0; 4];
-    for (field, follows) in fields.iter_mut().zip(FOLLOWS[usize::from(code - TAKE)]) {
+    for (field, follows) in fields.iter_mut().zip(follows(code)) {
         if follows {
             *field = reader.number()?;
         }
     }
     Ok(fields)
+}
+
+/// Appends a record. Precondition: the code is 1 to 5.
+pub fn write_record(sheet: &mut Vec<u8>, code: u16, fields: Fields) {
+    write_number(sheet, code);
+    for (field, follows) in fields.into_iter().zip(follows(code)) {
+        if follows {
+            write_number(sheet, field);
+        }
+    }
 }
 
 /// Does the step on the board. Precondition: the code is 1 to 5.
