@@ -1,9 +1,9 @@
 //! Many sheets, distributed among threads.
 
-use crate::pair::{differ, Pair};
-use crate::program::InputMode;
-use crate::tally::Tally;
-use crate::{fixed, make};
+use crate::comparison::{Comparison, Tally};
+use crate::fixed;
+use crate::program::{InputMode, Runner};
+use std::path::Path;
 use std::sync::atomic::{AtomicU64, Ordering::Relaxed};
 use std::thread;
 
@@ -11,17 +11,18 @@ use std::thread;
 pub struct Sheets {
     pub seed: u64,
     fixed: Vec<Vec<u8>>,
+    make: fn(u64, u64) -> Vec<u8>,
 }
 
 impl Sheets {
-    pub fn new(seed: u64) -> Sheets {
-        Sheets { seed, fixed: fixed::sheets() }
+    pub fn of<C: Comparison>(seed: u64) -> Sheets {
+        Sheets { seed, fixed: fixed::sheets(), make: C::make_sheet }
     }
 
     pub fn sheet(&self, number: u64) -> Vec<u8> {
         match self.fixed.get(number as usize) {
             Some(sheet) => sheet.clone(),
-            None => make::sheet(self.seed, number),
+            None => (self.make)(self.seed, number),
         }
     }
 }
@@ -36,17 +37,22 @@ pub fn input_mode(number: u64) -> InputMode {
 }
 
 /// Compares sheets 0 to count - 1. The error is the first that differs.
-pub fn run_all(pair: &Pair, all: &Sheets, count: u64) -> Result<Tally, u64> {
+pub fn compare_all<C: Comparison>(
+    comparison: &C,
+    all: &Sheets,
+    count: u64,
+    folder: &Path,
+) -> Result<C::Tally, u64> {
     let next = AtomicU64::new(0);
     let differs = AtomicU64::new(u64::MAX);
     let (next, differs) = (&next, &differs);
-    let mut tally = Tally::default();
+    let mut tally = C::Tally::default();
     thread::scope(|threads| {
         // Two per core: one waits while the program of the other runs.
         let cores = thread::available_parallelism().map_or(1, usize::from);
         let share = |at: usize| {
-            let pair = pair.for_thread(at);
-            threads.spawn(move || run_share(&pair, all, count, next, differs))
+            let runner = Runner::new(folder.join(at.to_string()));
+            threads.spawn(move || compare_share(comparison, all, count, next, differs, &runner))
         };
         let shares: Vec<_> = (0..2 * cores).map(share).collect();
         shares.into_iter().for_each(|share| tally.add(&share.join().expect("a thread's tally")));
@@ -58,24 +64,23 @@ pub fn run_all(pair: &Pair, all: &Sheets, count: u64) -> Result<Tally, u64> {
 }
 
 /// Takes the next sheet and the next, until all are taken or one differs.
-fn run_share(
-    pair: &Pair,
+fn compare_share<C: Comparison>(
+    comparison: &C,
     all: &Sheets,
     count: u64,
     next: &AtomicU64,
     differs: &AtomicU64,
-) -> Tally {
-    let mut tally = Tally::default();
+    runner: &Runner,
+) -> C::Tally {
+    let mut tally = C::Tally::default();
     loop {
         let number = next.fetch_add(1, Relaxed);
         if number >= count || number > differs.load(Relaxed) {
             return tally;
         }
-        let (program, reference) = pair.run(&all.sheet(number), input_mode(number));
-        if differ(&program, &reference) {
+        let (sheet, mode) = (all.sheet(number), input_mode(number));
+        if !comparison.differences(&sheet, mode, runner, &mut tally).is_empty() {
             differs.fetch_min(number, Relaxed);
-        } else if let Ok(lines) = reference {
-            tally.count(&lines);
         }
     }
 }

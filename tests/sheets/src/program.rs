@@ -1,5 +1,6 @@
 //! A sheet program, run once on one sheet.
 
+use std::fmt;
 use std::fs::{self, File};
 use std::io::{self, Write};
 use std::path::{Path, PathBuf};
@@ -11,7 +12,7 @@ use std::time::{Duration, Instant};
 const MAX_TIME: Duration = Duration::from_secs(10);
 
 /// The lines of the longest sheet are less than a fifth of this.
-const MAX_PRINTED: u64 = 4 << 20;
+const MAX_WRITTEN: u64 = 4 << 20;
 
 /// Between the pieces of a sheet: by then the program waits for more.
 const PAUSE: Duration = Duration::from_millis(3);
@@ -27,49 +28,66 @@ pub enum InputMode {
 
 pub const INPUT_MODES: [InputMode; 3] = [InputMode::File, InputMode::Pipe, InputMode::Pieces];
 
-/// What the program printed, or how else it ended.
-pub type Printed = Result<Vec<u8>, String>;
-
-pub fn run(program: &Path, sheet: &[u8], mode: InputMode, folder: &Path) -> Printed {
-    start_and_wait(program, sheet, mode, folder)
-        .unwrap_or_else(|error| Err(format!("cannot be run: {error}")))
+impl fmt::Display for InputMode {
+    fn fmt(&self, out: &mut fmt::Formatter) -> fmt::Result {
+        out.write_str(match self {
+            InputMode::File => "from a file",
+            InputMode::Pipe => "by a pipe",
+            InputMode::Pieces => "by a pipe, in two pieces",
+        })
+    }
 }
 
-/// The lines go to a file, so that the program never waits for a reader.
-fn start_and_wait(
-    program: &Path,
-    sheet: &[u8],
-    mode: InputMode,
-    folder: &Path,
-) -> io::Result<Printed> {
-    let lines = folder.join("lines");
-    let stdin = match mode {
-        InputMode::File => Stdio::from(File::open(written(sheet, folder)?)?),
-        InputMode::Pipe | InputMode::Pieces => Stdio::piped(),
-    };
-    let mut child = Command::new(program)
-        .stdin(stdin)
-        .stdout(File::create(&lines)?)
-        .stderr(Stdio::null())
-        .spawn()?;
-    let ended = match child.stdin.take() {
-        None => wait(&mut child, &lines)?,
-        // In a thread: a program that does not read must not block the wait.
-        Some(pipe) => scope(|threads| {
-            threads.spawn(|| feed(pipe, sheet, mode));
-            wait(&mut child, &lines)
-        })?,
-    };
-    Ok(match ended {
-        Ok(()) => Ok(fs::read(&lines)?),
-        Err(how) => Err(how),
-    })
+/// What the program wrote, or how else it ended.
+pub type Output = Result<Vec<u8>, String>;
+
+/// Runs programs, one at a time: the files of a run are in its folder.
+pub struct Runner {
+    folder: PathBuf,
 }
 
-fn written(sheet: &[u8], folder: &Path) -> io::Result<PathBuf> {
-    let path = folder.join("sheet");
-    fs::write(&path, sheet)?;
-    Ok(path)
+impl Runner {
+    pub fn new(folder: PathBuf) -> Runner {
+        fs::create_dir_all(&folder).expect("a folder for the sheets");
+        Runner { folder }
+    }
+
+    pub fn run(&self, program: &Path, sheet: &[u8], mode: InputMode) -> Output {
+        self.start_and_wait(program, sheet, mode)
+            .unwrap_or_else(|error| Err(format!("cannot be run: {error}")))
+    }
+
+    /// The output goes to a file, so that the program never waits for a reader.
+    fn start_and_wait(&self, program: &Path, sheet: &[u8], mode: InputMode) -> io::Result<Output> {
+        let output = self.folder.join("output");
+        let stdin = match mode {
+            InputMode::File => Stdio::from(File::open(self.written(sheet)?)?),
+            InputMode::Pipe | InputMode::Pieces => Stdio::piped(),
+        };
+        let mut child = Command::new(program)
+            .stdin(stdin)
+            .stdout(File::create(&output)?)
+            .stderr(Stdio::null())
+            .spawn()?;
+        let ended = match child.stdin.take() {
+            None => wait(&mut child, &output)?,
+            // In a thread: a program that does not read must not block the wait.
+            Some(pipe) => scope(|threads| {
+                threads.spawn(|| feed(pipe, sheet, mode));
+                wait(&mut child, &output)
+            })?,
+        };
+        Ok(match ended {
+            Ok(()) => Ok(fs::read(&output)?),
+            Err(how) => Err(how),
+        })
+    }
+
+    fn written(&self, sheet: &[u8]) -> io::Result<PathBuf> {
+        let path = self.folder.join("sheet");
+        fs::write(&path, sheet)?;
+        Ok(path)
+    }
 }
 
 /// A program need not read a sheet that is too long to its end, so it may close
@@ -83,8 +101,8 @@ fn feed(mut pipe: ChildStdin, sheet: &[u8], mode: InputMode) {
     }
 }
 
-/// Kills a program that does not end, or that prints without end.
-fn wait(child: &mut Child, lines: &Path) -> io::Result<Result<(), String>> {
+/// Kills a program that does not end, or that writes without end.
+fn wait(child: &mut Child, output: &Path) -> io::Result<Result<(), String>> {
     let begun = Instant::now();
     let mut pause = Duration::from_micros(200);
     loop {
@@ -95,9 +113,9 @@ fn wait(child: &mut Child, lines: &Path) -> io::Result<Result<(), String>> {
             end(child)?;
             return Ok(Err(format!("did not end within {} s", MAX_TIME.as_secs())));
         }
-        if fs::metadata(lines)?.len() > MAX_PRINTED {
+        if fs::metadata(output)?.len() > MAX_WRITTEN {
             end(child)?;
-            return Ok(Err(format!("printed more than {MAX_PRINTED} bytes")));
+            return Ok(Err(format!("wrote more than {MAX_WRITTEN} bytes")));
         }
         sleep(pause);
         pause = (pause * 5 / 4).min(Duration::from_millis(2));

@@ -1,7 +1,5 @@
 //! The smallest sheet that still differs: fewest bytes, then the smallest.
 
-use crate::pair::Pair;
-use crate::program::InputMode;
 use std::time::{Duration, Instant};
 
 /// A sheet that differs only because of its length cannot be made shorter; the
@@ -9,8 +7,8 @@ use std::time::{Duration, Instant};
 const MAX_TIME: Duration = Duration::from_secs(20);
 
 /// Tries smaller and smaller sheets until none of them differs.
-pub fn shrink(pair: &Pair, sheet: Vec<u8>, mode: InputMode) -> Vec<u8> {
-    let mut search = Search { pair, mode, smallest: sheet, begun: Instant::now() };
+pub fn shrink(sheet: Vec<u8>, differs: impl Fn(&[u8]) -> bool) -> Vec<u8> {
+    let mut search = Search { differs, smallest: sheet, begun: Instant::now() };
     loop {
         let before = size(&search.smallest);
         search.shorter_end();
@@ -27,23 +25,21 @@ fn size(sheet: &[u8]) -> (usize, u64) {
     (sheet.len(), sheet.iter().map(|&byte| u64::from(byte)).sum())
 }
 
-struct Search<'a> {
-    pair: &'a Pair,
-    mode: InputMode,
+struct Search<Differs> {
+    differs: Differs,
     smallest: Vec<u8>,
     begun: Instant,
 }
 
-impl Search<'_> {
+impl<Differs: Fn(&[u8]) -> bool> Search<Differs> {
     fn is_late(&self) -> bool {
         self.begun.elapsed() > MAX_TIME
     }
 
     /// Takes the other sheet if it is smaller and still differs.
     fn try_other(&mut self, other: Vec<u8>) -> bool {
-        let better = !self.is_late()
-            && size(&other) < size(&self.smallest)
-            && self.pair.differs(&other, self.mode);
+        let better =
+            !self.is_late() && size(&other) < size(&self.smallest) && (self.differs)(&other);
         if better {
             self.smallest = other;
         }

@@ -6,17 +6,11 @@
 //! both. Every sheet that does not is printed, with the first difference.
 
 mod case;
-#[path = "../../folder.rs"]
-mod folder;
-#[allow(dead_code)]
-#[path = "../../program.rs"]
-mod program;
 #[path = "../../../../compare/src/vector_bytes.rs"]
 mod vector_bytes;
 
 use case::{cases, Case};
-use folder::with_folder;
-use program::{run, InputMode};
+use sheets::{with_folder, InputMode, Runner};
 use std::path::{Path, PathBuf};
 use std::process::ExitCode;
 use std::{env, fs};
@@ -39,8 +33,9 @@ fn main() -> ExitCode {
     };
     let (mut sheets, mut faults) = (0, Vec::new());
     with_folder(|folder| {
+        let runner = Runner::new(folder.to_path_buf());
         for file in &files {
-            match run_file(file, &pairs, folder, &mut faults) {
+            match run_file(file, &pairs, &runner, &mut faults) {
                 Ok(of_file) => sheets += of_file,
                 Err(fault) => faults.push(fault),
             }
@@ -78,26 +73,26 @@ fn options(arguments: impl Iterator<Item = String>) -> Result<(Vec<Pair>, Vec<St
 fn run_file(
     file: &str,
     pairs: &[Pair],
-    folder: &Path,
+    runner: &Runner,
     faults: &mut Vec<String>,
 ) -> Result<usize, String> {
     let text = fs::read_to_string(file).map_err(|error| format!("{file}: {error}"))?;
     let cases = cases(file, &text)?;
     for case in &cases {
         let Case { place, program, .. } = case;
-        let of_case = case_faults(case, pairs, folder);
+        let of_case = case_faults(case, pairs, runner);
         faults.extend(of_case.iter().map(|fault| format!("{place}: {program}: {fault}")));
     }
     Ok(cases.len())
 }
 
 /// Where the program or the reference differs from the case.
-fn case_faults(case: &Case, pairs: &[Pair], folder: &Path) -> Vec<String> {
+fn case_faults(case: &Case, pairs: &[Pair], runner: &Runner) -> Vec<String> {
     let Some(pair) = pairs.iter().find(|pair| pair.name == case.program) else {
         return vec!["no such program".into()];
     };
     let of = |which: &str, program: &Path| {
-        let printed = run(program, &case.sheet, InputMode::File, folder);
+        let printed = runner.run(program, &case.sheet, InputMode::File);
         let fault = printed.map_or_else(Some, |printed| case.difference(&printed));
         fault.map(|fault| format!("{which}: {fault}"))
     };

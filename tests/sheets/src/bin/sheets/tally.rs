@@ -1,6 +1,7 @@
 //! What was compared: the lines, by reply number and by what they answer, and
 //! the offsets that they print.
 
+use sheets::Tally;
 use std::fmt;
 
 const NUMBERS: usize = 19;
@@ -32,17 +33,15 @@ const WIDTHS: [usize; 5] = [0, 1, 256, 32_768, 65_536];
 type Counts<const KINDS: usize> = [[u64; KINDS]; COLUMNS.len()];
 
 #[derive(Default)]
-pub struct Tally {
+pub struct Lines {
     lines: Counts<NUMBERS>,
     offsets: [Counts<{ WIDTHS.len() }>; WITH_OFFSET.len()],
-    pub sheets: u64,
 }
 
-impl Tally {
+impl Lines {
     /// Counts the lines of the reference. Other output leaves a column empty,
     /// which is a failure.
     pub fn count(&mut self, printed: &[u8]) {
-        self.sheets += 1;
         for line in printed.split(|&byte| byte == b'\n') {
             let words: Option<Vec<usize>> =
                 line.split(|&byte| byte == b' ').map(plain_number).collect();
@@ -58,9 +57,10 @@ impl Tally {
             self.offsets[at][column][width_of(session)] += 1;
         }
     }
+}
 
-    pub fn add(&mut self, other: &Tally) {
-        self.sheets += other.sheets;
+impl Tally for Lines {
+    fn add(&mut self, other: &Lines) {
         add(&mut self.lines, &other.lines);
         for (offsets, of_other) in self.offsets.iter_mut().zip(&other.offsets) {
             add(offsets, of_other);
@@ -68,7 +68,7 @@ impl Tally {
     }
 
     /// The replies and offsets that a sheet can get, but that never occurred.
-    pub fn missing(&self) -> Vec<String> {
+    fn missing(&self) -> Vec<String> {
         let mut missing = Vec::new();
         for (column, (name, numbers)) in COLUMNS.iter().enumerate() {
             let never = numbers.iter().filter(|&&number| self.lines[column][number] == 0);
@@ -118,7 +118,7 @@ fn required_widths(column: usize, number: usize) -> &'static [usize] {
     }
 }
 
-impl fmt::Display for Tally {
+impl fmt::Display for Lines {
     fn fmt(&self, out: &mut fmt::Formatter) -> fmt::Result {
         table(out, "reply", &(0..NUMBERS).collect::<Vec<_>>(), &self.lines)?;
         for (number, offsets) in WITH_OFFSET.iter().zip(&self.offsets) {
