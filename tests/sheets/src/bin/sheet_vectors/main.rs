@@ -2,14 +2,15 @@
 //!
 //!     sheet_vectors [--NAME PROGRAM REFERENCE]... FILE...
 //!
-//! NAME is what the files call the program. Each sheet must get its lines from
-//! both. Every sheet that does not is printed, with the first difference.
+//! NAME is what the files call the program. Each sheet must get its output from
+//! both. Every sheet that does not is printed, with the first difference. Where
+//! two files have the same sheet for a program, the later one holds.
 
 mod case;
 #[path = "../../../../compare/src/vector_bytes.rs"]
 mod vector_bytes;
 
-use case::{cases, Case};
+use case::{add_later, cases, Case};
 use sheets::{with_folder, InputMode, Runner};
 use std::path::{Path, PathBuf};
 use std::process::ExitCode;
@@ -31,16 +32,17 @@ fn main() -> ExitCode {
             return ExitCode::from(2);
         }
     };
-    let (mut sheets, mut faults) = (0, Vec::new());
+    let mut faults = Vec::new();
+    let cases = cases_in_force(&files, &mut faults);
     with_folder(|folder| {
         let runner = Runner::new(folder.to_path_buf());
-        for file in &files {
-            match run_file(file, &pairs, &runner, &mut faults) {
-                Ok(of_file) => sheets += of_file,
-                Err(fault) => faults.push(fault),
-            }
+        for case in &cases {
+            let Case { place, program, .. } = case;
+            let of_case = case_faults(case, &pairs, &runner);
+            faults.extend(of_case.iter().map(|fault| format!("{place}: {program}: {fault}")));
         }
     });
+    let sheets = cases.len();
     faults.iter().for_each(|fault| println!("{fault}"));
     if faults.is_empty() {
         println!("sheet vectors: {sheets} sheets agree, program and reference");
@@ -69,21 +71,17 @@ fn options(arguments: impl Iterator<Item = String>) -> Result<(Vec<Pair>, Vec<St
     Ok((pairs, files))
 }
 
-/// How many sheets a file has. The error is a fault of the file.
-fn run_file(
-    file: &str,
-    pairs: &[Pair],
-    runner: &Runner,
-    faults: &mut Vec<String>,
-) -> Result<usize, String> {
-    let text = fs::read_to_string(file).map_err(|error| format!("{file}: {error}"))?;
-    let cases = cases(file, &text)?;
-    for case in &cases {
-        let Case { place, program, .. } = case;
-        let of_case = case_faults(case, pairs, runner);
-        faults.extend(of_case.iter().map(|fault| format!("{place}: {program}: {fault}")));
+/// The cases of all files, the later ones in place of the earlier.
+fn cases_in_force(files: &[String], faults: &mut Vec<String>) -> Vec<Case> {
+    let mut all = Vec::new();
+    for file in files {
+        let text = fs::read_to_string(file).map_err(|error| format!("{file}: {error}"));
+        match text.and_then(|text| cases(file, &text)) {
+            Ok(later) => add_later(&mut all, later),
+            Err(fault) => faults.push(fault),
+        }
     }
-    Ok(cases.len())
+    all
 }
 
 /// Where the program or the reference differs from the case.
