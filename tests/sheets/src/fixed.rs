@@ -21,6 +21,7 @@ pub fn sheets() -> Vec<Vec<u8>> {
         sheets.extend((0..=sheet.len()).map(|cut| sheet[..cut].to_vec()));
     }
     sheets.extend(too_large());
+    sheets.extend(one_padded());
     sheets.extend(deep());
     sheets.extend(long());
     sheets
@@ -123,14 +124,32 @@ fn too_large() -> Vec<Vec<u8>> {
     sheets
 }
 
+/// Each step, with one number in more groups than the others: each of them in turn.
+fn one_padded() -> Vec<Vec<u8>> {
+    let numbers = numbers_of_every_step();
+    let mut sheets = Vec::new();
+    for padded in 0..numbers.len() {
+        for least_groups in 2..=4 {
+            let mut sheet = Vec::new();
+            for (at, &number) in numbers.iter().enumerate() {
+                put(&mut sheet, number, if at == padded { least_groups } else { 1 });
+            }
+            sheets.push(sheet);
+        }
+    }
+    sheets
+}
+
 /// Sheets whose last number is bad, at an offset that needs 9 or 16 bits, and
 /// at the end of the longest sheet, where it needs 17.
 fn deep() -> Vec<Vec<u8>> {
     let mut ends: Vec<Vec<u8>> = vec![vec![0x80], vec![0x80, 0x80], vec![0x80, 0x80, 0x04]];
+    ends.push(vec![0x85, 0x00, 1]);
     for record in [&[1, 1, 1, 1][..], &[2, 1, 1], &[3, 1, 1, 7], &[4, 1], &[5, 1]] {
         ends.extend((1..record.len()).map(|cut| record[..cut].to_vec()));
         ends.push([&record[..1], &[0x80]].concat());
         ends.push([&record[..1], &[0xFF, 0xFF, 0x04]].concat());
+        ends.push([&record[..record.len() - 1], &[0x81, 0x80, 0x00]].concat());
     }
     let mut sheets = Vec::new();
     for bytes in [260, 32_772, MAX_BYTES - 1, MAX_BYTES] {
@@ -157,6 +176,12 @@ fn long() -> Vec<Vec<u8>> {
         sheets.push(filled(
             &[16, 4, 64],
             &[3, 7, 64, 9, 1, 16, 4, 64, 4, 7, 3, 7, 64, 8, 4, 7, 2, 16, 4, 5, 7],
+            bytes,
+        ));
+        sheets.push(filled(&[0x90, 0x00, 4, 64], &[0x85, 0x00, 0x90, 0x00], bytes));
+        sheets.push(filled(
+            &[16, 4, 64],
+            &[3, 16, 64, 0xFF, 0xFF, 0x03, 0x84, 0x80, 0x00, 16],
             bytes,
         ));
         sheets.push(filled(&[17, 1, 1], &[0], bytes));

@@ -1,31 +1,39 @@
-//! Random sheets: histories that lead to all refusals; the same with zero
-//! groups, truncated or damaged; and random bytes.
+//! Random sheets: histories that lead to all refusals; the same with padded
+//! numbers, truncated or damaged; and random bytes.
 
 use crate::bytes::{put, MAX_IN_THREE};
 use crate::damage::{cut, damage};
 use crate::rng::Rng;
 
-/// The sheet of this number under this seed.
+/// The sheet of this number under this seed. Most are in shortest form: a padded
+/// number ends the reading, and hides what comes after it.
 pub fn sheet(seed: u64, number: u64) -> Vec<u8> {
-    let mut rng = Rng::of_case(seed, number);
-    let rng = &mut rng;
+    any_sheet(&mut Rng::of_case(seed, number), mostly_shortest)
+}
+
+/// The same for sheets of the archive. Most have padded numbers.
+pub fn archive_sheet(seed: u64, number: u64) -> Vec<u8> {
+    any_sheet(&mut Rng::of_case(seed, number), mostly_padded)
+}
+
+fn any_sheet(rng: &mut Rng, encode: fn(&mut Rng, &Numbers) -> Vec<u8>) -> Vec<u8> {
+    let encoded = |rng: &mut Rng, numbers: fn(&mut Rng) -> Numbers| {
+        let numbers = numbers(rng);
+        encode(rng, &numbers)
+    };
     match rng.below(32) {
-        0..=10 => plain(&history(rng)),
-        11..=14 => {
-            let numbers = history(rng);
-            padded(rng, &numbers)
-        }
+        0..=14 => encoded(rng, history),
         15..=18 => {
-            let sheet = padded_or_plain(rng);
+            let sheet = encoded(rng, history);
             cut(rng, sheet)
         }
         19..=23 => {
-            let sheet = padded_or_plain(rng);
+            let sheet = encoded(rng, history);
             damage(rng, sheet)
         }
-        24 | 25 => with_a_number_too_large(rng),
-        26 | 27 => with_a_code_out_of_range(rng),
-        28 | 29 => any_header(rng),
+        24 | 25 => encoded(rng, with_a_number_too_large),
+        26 | 27 => encoded(rng, with_a_code_out_of_range),
+        28 | 29 => encoded(rng, any_header),
         30 => (0..rng.below(40)).map(|_| rng.word() as u8).collect(),
         _ => (0..rng.below(60)).map(|_| rng.below(8) as u8).collect(),
     }
@@ -40,27 +48,48 @@ struct Hall {
     positions: u32,
 }
 
-fn plain(numbers: &Numbers) -> Vec<u8> {
-    let mut sheet = Vec::new();
-    numbers.iter().flatten().for_each(|&number| put(&mut sheet, number, 1));
-    sheet
+fn mostly_shortest(rng: &mut Rng, numbers: &Numbers) -> Vec<u8> {
+    match rng.below(8) {
+        0..=4 => shortest(numbers),
+        5 | 6 => one_padded(rng, numbers),
+        _ => many_padded(rng, numbers, 16),
+    }
 }
 
-/// Some numbers have zero groups at their high end.
-fn padded(rng: &mut Rng, numbers: &Numbers) -> Vec<u8> {
-    let mut sheet = Vec::new();
-    for &number in numbers.iter().flatten() {
-        put(&mut sheet, number, rng.within(1, 3));
+fn mostly_padded(rng: &mut Rng, numbers: &Numbers) -> Vec<u8> {
+    match rng.below(8) {
+        0 => shortest(numbers),
+        1 | 2 => one_padded(rng, numbers),
+        _ => {
+            let times = rng.pick(&[1, 2, 16]);
+            many_padded(rng, numbers, times)
+        }
     }
-    sheet
 }
 
-fn padded_or_plain(rng: &mut Rng) -> Vec<u8> {
-    let numbers = history(rng);
-    match rng.below(3) {
-        0 => padded(rng, &numbers),
-        _ => plain(&numbers),
+fn shortest(numbers: &Numbers) -> Vec<u8> {
+    in_groups(numbers, |_| 1)
+}
+
+/// One of the numbers has two or three groups.
+fn one_padded(rng: &mut Rng, numbers: &Numbers) -> Vec<u8> {
+    let padded = rng.below(numbers.iter().flatten().count());
+    let groups = rng.within(2, 3);
+    in_groups(numbers, |at| if at == padded { groups } else { 1 })
+}
+
+/// One number in so many has two or three groups.
+fn many_padded(rng: &mut Rng, numbers: &Numbers, times: usize) -> Vec<u8> {
+    in_groups(numbers, |_| if rng.one_in(times) { rng.within(2, 3) } else { 1 })
+}
+
+/// The number at each place has at least so many groups.
+fn in_groups(numbers: &Numbers, mut least_groups: impl FnMut(usize) -> usize) -> Vec<u8> {
+    let mut sheet = Vec::new();
+    for (at, &number) in numbers.iter().flatten().enumerate() {
+        put(&mut sheet, number, least_groups(at));
     }
+    sheet
 }
 
 /// Halls of all sizes, mostly small: there a few steps are enough to interact.
@@ -150,26 +179,26 @@ fn any_place(rng: &mut Rng, numbers: &Numbers) -> (usize, usize) {
 }
 
 /// Just over 65,535, anything over it, or more than three bytes long.
-fn with_a_number_too_large(rng: &mut Rng) -> Vec<u8> {
+fn with_a_number_too_large(rng: &mut Rng) -> Numbers {
     let mut numbers = history(rng);
     let (record, at) = any_place(rng, &numbers);
     let now = numbers[record][at];
     let over = rng.within(65_536, MAX_IN_THREE as usize) as u32;
     numbers[record][at] = rng.pick(&[65_536, 65_536 + now, over, MAX_IN_THREE + 1, u32::MAX]);
-    plain(&numbers)
+    numbers
 }
 
-fn with_a_code_out_of_range(rng: &mut Rng) -> Vec<u8> {
+fn with_a_code_out_of_range(rng: &mut Rng) -> Numbers {
     let mut numbers = history(rng);
     let record = rng.within(1, numbers.len() - 1);
     let now = numbers[record][0];
     let any = u32::from(rng.word()).max(6);
     numbers[record][0] = rng.pick(&[0, 6, 7, 127, 128, now + 256, any]);
-    padded(rng, &numbers)
+    numbers
 }
 
 /// A header of any numbers, with or without records after it.
-fn any_header(rng: &mut Rng) -> Vec<u8> {
+fn any_header(rng: &mut Rng) -> Numbers {
     let mut numbers = history(rng);
     for (at, most) in [16, 4, 64].into_iter().enumerate() {
         if rng.one_in(2) {
@@ -179,5 +208,5 @@ fn any_header(rng: &mut Rng) -> Vec<u8> {
     if rng.one_in(4) {
         numbers.truncate(1);
     }
-    padded(rng, &numbers)
+    numbers
 }

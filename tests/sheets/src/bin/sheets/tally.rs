@@ -4,18 +4,18 @@
 use sheets::Tally;
 use std::fmt;
 
-const NUMBERS: usize = 19;
+const NUMBERS: usize = 20;
 
-/// What a line answers, with the reply numbers that document 01 gives it. An
+/// What a line answers, with the reply numbers that the documents give it. An
 /// opening is never 4, because the program lends enough; no step is ever 5.
 const COLUMNS: [(&str, &[usize]); 8] = [
-    ("header", &[0, 1, 2, 3, 15, 16, 18]),
-    ("take", &[0, 6, 7, 8, 9, 10, 15, 16]),
-    ("drop", &[0, 6, 7, 11, 15, 16]),
-    ("swap", &[0, 6, 8, 12, 15, 16]),
-    ("retire", &[0, 6, 13, 14, 15, 16]),
-    ("collect", &[0, 6, 15, 16]),
-    ("no code", &[15, 16]),
+    ("header", &[0, 1, 2, 3, 15, 16, 18, 19]),
+    ("take", &[0, 6, 7, 8, 9, 10, 15, 16, 19]),
+    ("drop", &[0, 6, 7, 11, 15, 16, 19]),
+    ("swap", &[0, 6, 8, 12, 15, 16, 19]),
+    ("retire", &[0, 6, 13, 14, 15, 16, 19]),
+    ("collect", &[0, 6, 15, 16, 19]),
+    ("no code", &[15, 16, 19]),
     ("bad code", &[17]),
 ];
 
@@ -24,7 +24,7 @@ const NO_CODE: usize = 6;
 const BAD_CODE: usize = 7;
 
 /// The reply numbers that print an offset.
-const WITH_OFFSET: [usize; 2] = [15, 16];
+const WITH_OFFSET: [usize; 3] = [15, 16, 19];
 
 /// The offsets, by how wide they are: from each of these up to the next. Only
 /// one reaches the last: a field that should start where the longest sheet ends.
@@ -108,12 +108,12 @@ fn width_of(offset: usize) -> usize {
 }
 
 /// The widths of offset that must occur. A code that is missing is no fault, and
-/// a number that is too large has bytes: neither starts where a sheet ends.
+/// a number that is too large or padded has bytes: none starts where a sheet ends.
 fn required_widths(column: usize, number: usize) -> &'static [usize] {
     match (column, number) {
         (BAD_CODE, _) => &[],
         (HEADER, _) => &[0, 1],
-        (NO_CODE, _) | (_, 16) => &[1, 256, 32_768],
+        (NO_CODE, _) | (_, 16 | 19) => &[1, 256, 32_768],
         _ => &[1, 256, 32_768, 65_536],
     }
 }
