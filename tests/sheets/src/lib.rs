@@ -17,7 +17,7 @@ mod shrink;
 
 pub use command_line::run_comparison;
 pub use comparison::{Comparison, Tally};
-pub use difference::first_difference_in_lines;
+pub use difference::{first_difference_in_bytes, first_difference_in_lines};
 pub use folder::with_folder;
 pub use make::{archive_sheet, sheet};
 pub use program::{InputMode, Output, Runner};
