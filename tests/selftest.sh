@@ -7,7 +7,8 @@
 #     KIND       what must catch them     the wrong ones
 #     boards     compare, and vectors     wrong/boards: patches of the reference, which replaces the archive
 #                if wrong about repeats
-#     programs   sheets, sheet_vectors    wrong/programs: patches of the reference, which replaces the program
+#     programs   sheets or shortened,     wrong/programs: patches of the reference, which replaces day_sheet or, if the
+#                and sheet_vectors        name starts with shorten-, shorten_sheet; those named reads- replace both
 #     stores     stores and host_test     wrong/stores.c: right answers, but a store outside the call's footprint
 #     fuzz       fuzz_calls, fuzz_sheets  some of wrong/boards and wrong/programs, and wrong/accesses.c
 #
@@ -121,26 +122,42 @@ boards_wrong() {
 
 # ---- programs -------------------------------------------------------------
 
-# sheets PROGRAM [OPTION...]: PROGRAM against the reference
-sheets() {
-    program=$1
-    shift
-    timeout 300 "$work/sheets/release/sheets" "$program" "$work/right/release/day_sheet_reference" "$@"
+# compare_programs COMPARISON TARGET [OPTION...]: sheets or shortened, with its program in $work/TARGET
+compare_programs() {
+    comparison=$1 program=$work/$2/release
+    shift 2
+    case $comparison in
+    sheets) program=$program/day_sheet_reference ;;
+    shortened) program=$program/shorten_sheet_reference ;;
+    esac
+    timeout 300 "$work/sheets/release/$comparison" "$program" "$work/right/release/day_sheet_reference" "$@"
 }
 
-# sheet_vectors PROGRAM: PROGRAM on the published sheets
+# comparisons NAME: those that must catch a wrong program. What is read from standard input is the same in both.
+comparisons() {
+    case $1 in
+    shorten-*) echo shortened ;;
+    reads-*) echo sheets shortened ;;
+    *) echo sheets ;;
+    esac
+}
+
+# sheet_vectors DAY_SHEET SHORTEN_SHEET: the published sheets, with the programs in these targets
 sheet_vectors() {
-    timeout 120 "$work/sheets/release/sheet_vectors" --day_sheet "$1" "$work/right/release/day_sheet_reference" \
+    right=$work/right/release
+    timeout 120 "$work/sheets/release/sheet_vectors" \
+        --day_sheet "$work/$1/release/day_sheet_reference" "$right/day_sheet_reference" \
+        --shorten_sheet "$work/$2/release/shorten_sheet_reference" "$right/shorten_sheet_reference" \
         "$tests"/vectors/*-sheets.txt >"$work/out.vectors" 2>&1
 }
 
 # The published sheets come from a file, all at once.
 unseen_by_sheet_vectors=reads-once
 
-# caught_by_sheet_vectors NAME PROGRAM
+# caught_by_sheet_vectors NAME DAY_SHEET SHORTEN_SHEET
 caught_by_sheet_vectors() {
-    [ "$1" != "$unseen_by_sheet_vectors" ] || return 0
-    if sheet_vectors "$2"; then fail "$1: not caught by sheet_vectors"; fi
+    ! is_one_of "$1" "$unseen_by_sheet_vectors" || return 0
+    if sheet_vectors "$2" "$3"; then fail "$1: not caught by sheet_vectors"; fi
     grep -q "^sheet vectors: .* faults$" "$work/out.vectors" || fail "$1: $(tail -n 1 "$work/out.vectors")"
 }
 
@@ -161,24 +178,45 @@ programs_start() {
 
 programs_right() {
     sheet_vectors_tests
-    sheets "$work/right/release/day_sheet_reference" >"$work/out" ||
-        fail "the right program differs: $(tail -n 1 "$work/out")"
-    sheet_vectors "$work/right/release/day_sheet_reference" ||
-        fail "the right program differs: $(head -n 1 "$work/out.vectors")"
-    echo "right program: $(tail -n 1 "$work/out")"
+    for by in sheets shortened; do
+        compare_programs $by right >"$work/out" || fail "the right program differs: $(tail -n 1 "$work/out")"
+        echo "right program: $(tail -n 1 "$work/out")"
+    done
+    sheet_vectors right right || fail "the right program differs: $(head -n 1 "$work/out.vectors")"
+}
+
+# question NAME: what shortened asks beside the output of the reference, and which of the wrong ones must show that it does
+question() {
+    case $1 in
+    shorten-pads) echo longer ;;
+    shorten-keeps-the-header) echo other lines ;;
+    shorten-one-group-at-a-time) echo shortened again ;;
+    esac
+}
+
+# caught_by_comparison NAME COMPARISON
+caught_by_comparison() {
+    if compare_programs "$2" wrong >"$work/out" 2>&1; then fail "$1: not caught by $2"; fi
+    grep -q "^$2: 1 difference" "$work/out" || fail "$1: $(tail -n 1 "$work/out")"
+    grep -q "^  $(question "$1")" "$work/out" || fail "$1: not '$(question "$1")'"
+    bytes=$(sed -n "s/^replay: .*--hex '\(.*\)'$/\1/p" "$work/out")
+    if compare_programs "$2" wrong --hex "$bytes" >"$work/out.again" 2>&1; then
+        fail "$1: the replay does not differ"
+    fi
+    echo "$1: caught by $2, $(sed -n 's/^smallest sheet found: //p' "$work/out")"
 }
 
 programs_wrong() {
-    program=$work/wrong/release/day_sheet_reference
     patched programs "$1"
     build "$work/tests/reference" wrong
-    if sheets "$program" >"$work/out" 2>&1; then fail "$1: not caught"; fi
-    grep -q "^sheets: 1 difference" "$work/out" || fail "$1: $(tail -n 1 "$work/out")"
-    bytes=$(sed -n "s/^replay: .*--hex '\(.*\)'$/\1/p" "$work/out")
-    if sheets "$program" --hex "$bytes" >"$work/out.again" 2>&1; then fail "$1: the replay does not differ"; fi
     case_fails programs "$1" # two patches name none: no test of the reference reads as they do
-    caught_by_sheet_vectors "$1" "$program"
-    echo "$1: caught, $(sed -n 's/^smallest sheet found: //p' "$work/out")"
+    for by in $(comparisons "$1"); do
+        caught_by_comparison "$1" $by
+        case $by in
+        sheets) caught_by_sheet_vectors "$1" wrong right ;;
+        shortened) caught_by_sheet_vectors "$1" right wrong ;;
+        esac
+    done
 }
 
 # ---- stores ---------------------------------------------------------------
