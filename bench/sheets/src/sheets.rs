@@ -71,29 +71,20 @@ fn refused() -> Vec<u8> {
     fill(sheet, records.into_iter().cycle())
 }
 
-/// Records up to the longest sheet. The last one, a collect, takes up what is
-/// left with zero groups at the high end of its numbers.
+/// Records up to the longest sheet. Collects take up what is left, after a drop
+/// if that is odd.
 fn fill(mut sheet: Vec<u8>, mut records: impl Iterator<Item = Vec<u8>>) -> Vec<u8> {
-    while BYTES - sheet.len() > 6 {
+    while BYTES - sheet.len() > MAX_RECORD + 1 {
         let record = records.next().expect("records without end");
         assert!(record.len() <= MAX_RECORD);
         sheet.extend(record);
     }
-    let left = BYTES - sheet.len();
-    let of_code = left / 2;
-    put(&mut sheet, 5, of_code);
-    put(&mut sheet, 1, left - of_code);
+    if sheet.len() % 2 != BYTES % 2 {
+        sheet.extend([2, 1, 1]);
+    }
+    while sheet.len() < BYTES {
+        sheet.extend([5, 1]);
+    }
     assert_eq!(sheet.len(), BYTES);
     sheet
-}
-
-/// A number of one group, in so many bytes.
-fn put(sheet: &mut Vec<u8>, number: u8, bytes: usize) {
-    if bytes == 1 {
-        sheet.push(number);
-    } else {
-        sheet.push(number | 0x80);
-        sheet.resize(sheet.len() + bytes - 2, 0x80);
-        sheet.push(0);
-    }
 }
