@@ -1,17 +1,20 @@
-# Sourced by the scripts that test an archive and a sheet program: checks their arguments. They set `name` and `words`: their
-# own name, and their arguments for the usage line.
+# Sourced by the scripts that test an archive and the sheet programs: checks their arguments. They set `name` and `words`:
+# their own name, and their arguments for the usage line.
 usage() {
     echo "$name: $1"
     echo "usage: $0 $words"
     exit 2
 }
 
-# places LIBDIR PROGRAM: sets SESSION_BOARD_LIB and program to absolute paths
+# places LIBDIR DAY_SHEET SHORTEN_SHEET: sets SESSION_BOARD_LIB, day_sheet and shorten_sheet to absolute paths
 places() {
     [ -f "$1/libsession_board.a" ] || usage "no file $1/libsession_board.a"
-    [ -f "$2" ] && [ -x "$2" ] || usage "$2 is not a program"
+    for program in "$2" "$3"; do
+        [ -f "$program" ] && [ -x "$program" ] || usage "$program is not a program"
+    done
     SESSION_BOARD_LIB=$(cd "$1" && pwd)
-    program=$(cd "$(dirname "$2")" && pwd)/$(basename "$2")
+    day_sheet=$(cd "$(dirname "$2")" && pwd)/$(basename "$2")
+    shorten_sheet=$(cd "$(dirname "$3")" && pwd)/$(basename "$3")
     export SESSION_BOARD_LIB
 }
 

@@ -1,20 +1,22 @@
 #!/bin/sh
 # Runs the tests outside Rattle, up to the first failure (tests/README.md):
 #
-#     tests/run.sh LIBDIR PROGRAM
+#     tests/run.sh LIBDIR DAY_SHEET SHORTEN_SHEET
 #
-# LIBDIR contains the archive libsession_board.a; PROGRAM is a sheet program.
-# Built files go to $TARGET, or else to target/outside.
+# LIBDIR contains the archive libsession_board.a; DAY_SHEET runs a day sheet, and
+# SHORTEN_SHEET writes an old one in shortest form. Built files go to $TARGET, or
+# else to target/outside.
 set -eu
 
 root=$(cd "$(dirname "$0")/.." && pwd)
-name=run words="LIBDIR PROGRAM (LIBDIR contains libsession_board.a, PROGRAM is a sheet program)"
+name=run words="LIBDIR DAY_SHEET SHORTEN_SHEET (LIBDIR contains libsession_board.a, the others are programs)"
 . "$root/tests/arguments.sh"
-[ $# -eq 2 ] || usage "two arguments are needed"
-places "$1" "$2"
+[ $# -eq 3 ] || usage "three arguments are needed"
+places "$1" "$2" "$3"
 CARGO_TARGET_DIR=${TARGET:-$root/target/outside}
 export CARGO_TARGET_DIR
 mkdir -p "$CARGO_TARGET_DIR"
+rust=$CARGO_TARGET_DIR/release
 log=$CARGO_TARGET_DIR/run.log
 warnings="-std=c11 -Wall -Wextra -Wpedantic -Werror -O2"
 
@@ -52,21 +54,22 @@ tests_of() {
 
 step "reference" 1 tests_of reference
 step "building compare" 0 build compare
-step "compare" 1 "$CARGO_TARGET_DIR/release/compare"
-step "vectors" 1 "$CARGO_TARGET_DIR/release/vectors" "$root"/tests/vectors/*-calls.txt
+step "compare" 1 "$rust/compare"
+step "vectors" 1 "$rust/vectors" "$root"/tests/vectors/*-calls.txt
 step "building host_test" 0 link host_test "$root/tests/host/host_test.c" "$root"/tests/c/*.c
 step "host_test" 1 "$CARGO_TARGET_DIR/host_test"
 step "building sheets" 0 build sheets
-step "building the sheet program in Rust" 0 build reference
+step "building the sheet programs in Rust" 0 build reference
 step "the tests of sheet_vectors" 0 tests_of sheets
-step "sheet_vectors" 1 "$CARGO_TARGET_DIR/release/sheet_vectors" --day_sheet "$program" \
-    "$CARGO_TARGET_DIR/release/day_sheet_reference" "$root"/tests/vectors/*-sheets.txt
-step "sheets" 1 "$CARGO_TARGET_DIR/release/sheets" "$program" \
-    "$CARGO_TARGET_DIR/release/day_sheet_reference"
-step "sheet_cases" 1 "$root/tests/sheet_cases.py" --check --reference \
-    "$CARGO_TARGET_DIR/release/day_sheet_reference"
-step "tool" 1 "$root/tests/tool.sh" "$program"
-step "sheet_errors" 1 "$root/tests/sheet_errors.sh" "$program"
+step "sheet_vectors" 1 "$rust/sheet_vectors" --day_sheet "$day_sheet" "$rust/day_sheet_reference" \
+    --shorten_sheet "$shorten_sheet" "$rust/shorten_sheet_reference" "$root"/tests/vectors/*-sheets.txt
+step "sheet_vectors with the old reader" 0 "$rust/sheet_vectors" \
+    --day_sheet "$rust/archive_sheet_reference" "$rust/archive_sheet_reference" "$root/tests/vectors/job-02-sheets.txt"
+step "sheets" 1 "$rust/sheets" "$day_sheet" "$rust/day_sheet_reference"
+step "shortened" 1 "$rust/shortened" "$shorten_sheet" "$day_sheet"
+step "sheet_cases" 1 "$root/tests/sheet_cases.py" --check --reference "$rust/day_sheet_reference"
+step "tool" 1 "$root/tests/tool.sh" "$day_sheet"
+step "sheet_errors" 1 "$root/tests/sheet_errors.sh" "$day_sheet" "$shorten_sheet"
 step "building the example" 0 link host_example "$root/examples/host.c"
 step "the example" 0 "$CARGO_TARGET_DIR/host_example"
 step "documents" 1 "$root/tests/documents.py"

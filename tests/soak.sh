@@ -1,27 +1,28 @@
 #!/bin/sh
-# Compares the board and the sheet program with those in Rust for a given time,
+# Compares the board and the sheet programs with those in Rust for a given time,
 # in rounds, each with a new seed. Stops at the first difference, with a command
 # that runs it again:
 #
-#     tests/soak.sh LIBDIR PROGRAM MINUTES [FIRST_SEED]
+#     tests/soak.sh LIBDIR DAY_SHEET SHORTEN_SHEET MINUTES [FIRST_SEED]
 #
-# LIBDIR contains the archive libsession_board.a; PROGRAM is a sheet program. No
-# round starts after the time is over. Built files go to $TARGET, or else to
-# target/outside.
+# LIBDIR contains the archive libsession_board.a; DAY_SHEET runs a day sheet, and
+# SHORTEN_SHEET writes an old one in shortest form. No round starts after the time
+# is over. Built files go to $TARGET, or else to target/outside.
 set -eu
 
 # About ten seconds each, and far more than are needed to get every reply.
 calls=20000000
 sheets=8000
+shortened=6000
 
 root=$(cd "$(dirname "$0")/.." && pwd)
-name=soak words="LIBDIR PROGRAM MINUTES [FIRST_SEED]"
+name=soak words="LIBDIR DAY_SHEET SHORTEN_SHEET MINUTES [FIRST_SEED]"
 . "$root/tests/arguments.sh"
-[ $# -ge 3 ] || usage "three arguments are needed"
-places "$1" "$2"
-minutes "$3"
-end=$(($(date +%s) + $3 * 60))
-first=${4:-$(date +%s)} # the time: different in each run
+[ $# -ge 4 ] || usage "four arguments are needed"
+places "$1" "$2" "$3"
+minutes "$4"
+end=$(($(date +%s) + $4 * 60))
+first=${5:-$(date +%s)} # the time: different in each run
 CARGO_TARGET_DIR=${TARGET:-$root/target/outside}
 export CARGO_TARGET_DIR
 built=$CARGO_TARGET_DIR/release
@@ -37,7 +38,7 @@ round() {
     if ! "$@" >"$log" 2>&1; then
         cat "$log"
         echo "soak: stopped at seed $seed; $all_calls calls and $all_sheets sheets before it had 0 differences"
-        echo "soak: to run it again: compare and sheets are in $built"
+        echo "soak: to run it again: compare, sheets and shortened are in $built"
         exit 1
     fi
     tail -n 1 "$log"
@@ -53,8 +54,10 @@ while [ "$(date +%s)" -lt "$end" ]; do
     echo "seed $seed"
     round "$built/compare" --seed "$seed" --calls "$calls"
     all_calls=$((all_calls + $(compared compare)))
-    round "$built/sheets" "$program" "$built/day_sheet_reference" --seed "$seed" --count "$sheets"
+    round "$built/sheets" "$day_sheet" "$built/day_sheet_reference" --seed "$seed" --count "$sheets"
     all_sheets=$((all_sheets + $(compared sheets)))
+    round "$built/shortened" "$shorten_sheet" "$day_sheet" --seed "$seed" --count "$shortened"
+    all_sheets=$((all_sheets + $(compared shortened)))
     seed=$((seed + 1))
 done
 echo "soak: seeds $first to $((seed - 1)), $all_calls calls, $all_sheets sheets, 0 differences"
