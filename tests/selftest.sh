@@ -276,6 +276,7 @@ fuzz_boards="keeps-every-copy joins-in-mid-reading room-one-early position-befor
 # Wrong boards that the header's promises rule out: the reference is patched too.
 fuzz_boards_and_reference="opening-clears-all opening-clears-odd-byte refused-swap-writes repeat-owes"
 fuzz_programs="reads-once two-groups stops-at-refusal counts-exchanged offset-of-the-failing-byte"
+fuzz_programs="$fuzz_programs padded-zero-only shorten-keeps-padded-fields shorten-offset-without-zero-groups"
 
 fuzz_all() {
     echo $fuzz_boards $fuzz_boards_and_reference
@@ -308,10 +309,16 @@ fuzz_start() {
     "$tests/fuzz/build.sh" "$work/right/release" "$work/harness"
 }
 
+# sheet_programs DAY_SHEET SHORTEN_SHEET: the programs in these targets are fuzzed
+sheet_programs() {
+    DAY_SHEET=$work/$1/release/day_sheet_reference
+    SHORTEN_SHEET=$work/$2/release/shorten_sheet_reference
+    export DAY_SHEET SHORTEN_SHEET
+}
+
 # With nothing wrong, ten seconds pass.
 fuzz_right() {
-    DAY_SHEET=$work/right/release/day_sheet_reference
-    export DAY_SHEET
+    sheet_programs right right
     for harness in fuzz_calls fuzz_sheets; do
         "$work/harness/$harness" -seed=1 -max_total_time=10 >"$work/out" 2>&1 ||
             fail "$harness fails on what is right: $(how)"
@@ -337,8 +344,10 @@ fuzz_wrong() {
     elif is_one_of "$1" "$fuzz_programs"; then
         patched programs "$1"
         build "$work/tests/reference" wrong_program
-        DAY_SHEET=$work/wrong_program/release/day_sheet_reference
-        export DAY_SHEET
+        case $1 in
+        shorten-*) sheet_programs right wrong_program ;;
+        *) sheet_programs wrong_program right ;;
+        esac
         caught_by "$1" "$work/harness/fuzz_sheets"
     else
         # The right board with the name right_drop, and the one of accesses.c, which calls it.

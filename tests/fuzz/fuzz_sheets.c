@@ -1,8 +1,8 @@
 /*
- * Fuzzes the sheet program. An input is a sheet. The program that DAY_SHEET
- * names runs on it in a separate process, and its output is compared with the
- * lines of the reference, which runs in this process. The reference is
- * instrumented and guides the fuzzer; the program is not.
+ * Fuzzes the sheet programs. An input is a sheet. The programs that DAY_SHEET and
+ * SHORTEN_SHEET name run on it, each in a separate process, and their output is
+ * compared with that of the reference, which runs in this process. The reference
+ * is instrumented and guides the fuzzer; the programs are not.
  */
 #define _GNU_SOURCE
 #include "reference_in_c.h"
@@ -24,7 +24,7 @@
 
 enum {
     MAX_MILLISECONDS = 10000, /* far more than any sheet needs */
-    MAX_PRINTED = 4 << 20,    /* five times the lines of the longest sheet */
+    MAX_WRITTEN = 4 << 20,    /* five times the lines of the longest sheet */
     PIPE_BYTES = 1 << 20,
     NUMBERS = 20
 };
@@ -47,12 +47,11 @@ static void must(bool good, const char *what)
     _exit(2);
 }
 
-/* ---- running the program --------------------------------------------- */
+/* ---- running a program ----------------------------------------------- */
 
-static const char *program;
-static int lines; /* a file in memory for the output */
-static uint8_t printed[MAX_PRINTED];
-static const struct rlimit max_printed = {MAX_PRINTED, MAX_PRINTED};
+static int output; /* a file in memory */
+static uint8_t written[MAX_WRITTEN];
+static const struct rlimit max_written = {MAX_WRITTEN, MAX_WRITTEN};
 
 static int sheet_in_a_file(const uint8_t *sheet, size_t bytes)
 {
@@ -90,7 +89,7 @@ static int sheet_to_read(const uint8_t *sheet, size_t bytes)
     }
 }
 
-static pid_t start(int sheet)
+static pid_t start(const char *program, int sheet)
 {
     static char *no_environment[] = {NULL};
     char *arguments[] = {(char *)program, NULL};
@@ -98,11 +97,11 @@ static pid_t start(int sheet)
     pid_t child;
     posix_spawn_file_actions_init(&files);
     posix_spawn_file_actions_adddup2(&files, sheet, 0);
-    posix_spawn_file_actions_adddup2(&files, lines, 1);
+    posix_spawn_file_actions_adddup2(&files, output, 1);
     posix_spawn_file_actions_addopen(&files, 2, "/dev/null", O_WRONLY, 0);
     errno = posix_spawn(&child, program, &files, NULL, arguments, no_environment);
     must(errno == 0, program);
-    prlimit(child, RLIMIT_FSIZE, &max_printed, NULL); /* may fail: it may have ended already */
+    prlimit(child, RLIMIT_FSIZE, &max_written, NULL); /* may fail: it may have ended already */
     posix_spawn_file_actions_destroy(&files);
     return child;
 }
@@ -132,37 +131,45 @@ static void end_well(pid_t child)
     require(WIFEXITED(status) && WEXITSTATUS(status) == 0, "the program ends well");
 }
 
-/* What the program prints for a sheet. */
-static size_t run(const uint8_t *sheet, size_t bytes)
+/* How many bytes the program writes for a sheet. */
+static size_t run(const char *program, const uint8_t *sheet, size_t bytes)
 {
-    must(ftruncate(lines, 0) == 0 && lseek(lines, 0, SEEK_SET) == 0, "a file for the lines");
+    must(ftruncate(output, 0) == 0 && lseek(output, 0, SEEK_SET) == 0, "a file for the output");
     int input = sheet_to_read(sheet, bytes);
-    pid_t child = start(input);
+    pid_t child = start(program, input);
     close(input);
     end_well(child);
-    ssize_t length = pread(lines, printed, sizeof printed, 0);
-    must(length >= 0, "the lines");
+    ssize_t length = pread(output, written, sizeof written, 0);
+    must(length >= 0, "the output");
     return (size_t)length;
 }
 
 /* ---- the fuzzer's side ----------------------------------------------- */
 
-static unsigned long sheets, tally[NUMBERS];
+static const char *day_sheet, *shorten_sheet;
+
+/* The lines with each reply number, and the sheets that are not shortened because
+ * of it; number 0 is that of the sheets that are. */
+static unsigned long sheets, lines[NUMBERS], shortened[NUMBERS];
 
 /* The fuzzer keeps an input that raises one of these. */
 __attribute__((section("__libfuzzer_extra_counters")))
-static uint8_t this_input[NUMBERS];
+static uint8_t this_input[2 * NUMBERS];
+
+static void raise_counter(unsigned counter)
+{
+    this_input[counter] += this_input[counter] < 255;
+}
 
 /* Each line but the last is record number, code, reply number, session. */
-static void count(const uint8_t *text, size_t length)
+static void count_lines(const uint8_t *text, size_t length)
 {
-    sheets++;
     int spaces = 0;
     unsigned number = 0;
     for (size_t at = 0; at < length && text[at] != 'e'; at++) {
         if (text[at] == '\n') {
-            tally[number]++;
-            this_input[number] += this_input[number] < 255;
+            lines[number]++;
+            raise_counter(number);
             spaces = 0, number = 0;
         } else if (text[at] == ' ') {
             spaces++;
@@ -172,37 +179,69 @@ static void count(const uint8_t *text, size_t length)
     }
 }
 
+/* A refusal is a line that starts with its number; no sheet starts with a digit. */
+static void count_shortened(const uint8_t *text, size_t length)
+{
+    unsigned number = 0;
+    for (size_t at = 0; at < length && '0' <= text[at] && text[at] <= '9'; at++)
+        number = 10 * number + (text[at] - '0');
+    shortened[number]++;
+    raise_counter(NUMBERS + number);
+}
+
+static void print_count(unsigned long count)
+{
+    count ? printf("%12lu", count) : printf("%12s", "-");
+}
+
 static void print_tally(void)
 {
-    printf("%-12s%12s\n", "reply", "lines");
-    for (int number = 0; number < NUMBERS; number++)
-        tally[number] ? printf("%-12d%12lu\n", number, tally[number])
-                      : printf("%-12d%12s\n", number, "-");
+    printf("%-12s%12s%12s\n", "reply", "lines", "shortened");
+    for (int number = 0; number < NUMBERS; number++) {
+        printf("%-12d", number);
+        print_count(lines[number]);
+        print_count(shortened[number]);
+        printf("\n");
+    }
     printf("fuzz_sheets: %lu sheets\n", sheets);
     fflush(stdout);
+}
+
+static const char *program_named(const char *variable)
+{
+    const char *program = getenv(variable);
+    if (program == NULL) {
+        fprintf(stderr, "fuzz_sheets: %s must name the program\n", variable);
+        exit(2);
+    }
+    return program;
 }
 
 int LLVMFuzzerInitialize(int *arguments, char ***names)
 {
     (void)arguments, (void)names;
-    program = getenv("DAY_SHEET");
-    if (program == NULL) {
-        fprintf(stderr, "fuzz_sheets: DAY_SHEET must name the program\n");
-        exit(2);
-    }
-    lines = memfd_create("lines", MFD_CLOEXEC);
-    must(lines >= 0, "a file for the lines");
+    day_sheet = program_named("DAY_SHEET");
+    shorten_sheet = program_named("SHORTEN_SHEET");
+    output = memfd_create("output", MFD_CLOEXEC);
+    must(output >= 0, "a file for the output");
     atexit(print_tally);
     return 0;
 }
 
 int LLVMFuzzerTestOneInput(const uint8_t *sheet, size_t bytes)
 {
-    size_t expected_length;
+    size_t expected_length, length;
     const uint8_t *expected = reference_lines(sheet, bytes, &expected_length);
-    size_t length = run(sheet, bytes);
-    require(length == expected_length && memcmp(printed, expected, length) == 0,
+    length = run(day_sheet, sheet, bytes);
+    require(length == expected_length && memcmp(written, expected, length) == 0,
             "the lines of the reference");
-    count(expected, expected_length);
+    count_lines(expected, expected_length);
+
+    expected = reference_shortened(sheet, bytes, &expected_length);
+    length = run(shorten_sheet, sheet, bytes);
+    require(length == expected_length && memcmp(written, expected, length) == 0,
+            "the shortest form of the reference");
+    count_shortened(expected, expected_length);
+    sheets++;
     return 0;
 }

@@ -9,7 +9,10 @@
 uint32_t reference_call(uint8_t function, const uint16_t numbers[3],
                         uint8_t *table, size_t bytes);
 
-/* The lines are valid until the next call. */
+/* The lines of a sheet, valid until the next call. */
 const uint8_t *reference_lines(const uint8_t *sheet, size_t bytes, size_t *length);
+
+/* A sheet in shortest form, or the line of its refusal; valid until the next call. */
+const uint8_t *reference_shortened(const uint8_t *sheet, size_t bytes, size_t *length);
 
 #endif

@@ -41,9 +41,35 @@ pub unsafe extern "C" fn reference_lines(
     length: *mut usize,
 ) -> *const u8 {
     static mut LINES: Vec<u8> = Vec::new();
-    let sheet = if bytes == 0 { &[] } else { slice::from_raw_parts(sheet, bytes) };
-    let lines = &mut *(&raw mut LINES);
-    *lines = sheet::printed(sheet, sheet::Format::Shortest);
-    *length = lines.len();
-    lines.as_ptr()
+    let lines = sheet::printed(slice_of(sheet, bytes), sheet::Format::Shortest);
+    keep(lines, &raw mut LINES, length)
+}
+
+/// A sheet in shortest form, or the line of its refusal, in the same way.
+///
+/// # Safety
+/// As above.
+#[no_mangle]
+pub unsafe extern "C" fn reference_shortened(
+    sheet: *const u8,
+    bytes: usize,
+    length: *mut usize,
+) -> *const u8 {
+    static mut SHORTENED: Vec<u8> = Vec::new();
+    let shortened = sheet::shortened(slice_of(sheet, bytes));
+    keep(shortened, &raw mut SHORTENED, length)
+}
+
+unsafe fn slice_of<'a>(sheet: *const u8, bytes: usize) -> &'a [u8] {
+    if bytes == 0 {
+        &[]
+    } else {
+        slice::from_raw_parts(sheet, bytes)
+    }
+}
+
+unsafe fn keep(output: Vec<u8>, place: *mut Vec<u8>, length: *mut usize) -> *const u8 {
+    *place = output;
+    *length = (*place).len();
+    (*place).as_ptr()
 }

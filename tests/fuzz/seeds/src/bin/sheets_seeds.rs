@@ -22,7 +22,10 @@ fn main() {
     let arguments: Vec<String> = env::args().collect();
     let [_, folder, count] = &arguments[..] else { panic!("sheets_seeds FOLDER COUNT") };
     let count: u64 = count.parse().expect("a count");
-    let made = (0..count).map(|number| make::sheet(1, number));
+    let made = (0..count).map(|number| match number % 2 {
+        0 => make::sheet(1, number),
+        _ => make::archive_sheet(1, number),
+    });
     for (number, sheet) in fixed::sheets().into_iter().chain(made).enumerate() {
         let file = Path::new(folder).join(format!("sheet-{number:05}"));
         fs::write(file, sheet).expect("a file in the folder");
