@@ -10,9 +10,10 @@
 #   make selftest       shows that the comparisons catch 42 wrong boards and 54 wrong sheet programs, and that the trace of
 #                       stores catches 9 stray ones (minutes)
 #   make soak           runs the comparisons with new seeds; MINUTES=10 says how long (default: 1)
-#   make fuzz           fuzzes the six calls, then the sheet program, each for half of MINUTES; installs clang if missing
+#   make fuzz           fuzzes the six calls, then the sheet programs, each for half of MINUTES; installs clang if missing
 #   make fuzz-selftest  shows that the fuzzing catches wrong boards, stray accesses and wrong programs (minutes)
-.PHONY: run host test lib bench proved edits gallery selftest soak fuzz fuzz-selftest help target/bin/day_sheet
+.PHONY: run host test lib bench proved edits gallery selftest soak fuzz fuzz-selftest help target/bin/day_sheet \
+    target/bin/shorten_sheet
 
 CARGO = cargo run --quiet --offline --release --manifest-path
 export CARGO_TARGET_DIR = $(CURDIR)/target/outside
@@ -43,8 +44,8 @@ test:
 lib:
 	@tools/build lib
 
-target/bin/day_sheet:
-	@tools/build day_sheet
+target/bin/day_sheet target/bin/shorten_sheet:
+	@tools/build $(@F)
 
 bench: lib target/bin/day_sheet
 	@bench/c_board/compare.sh
@@ -70,11 +71,11 @@ selftest:
 	@tests/selftest.sh programs
 	@tests/selftest.sh stores
 
-soak: lib target/bin/day_sheet
-	@tests/soak.sh build target/bin/day_sheet $(MINUTES)
+soak: lib target/bin/day_sheet target/bin/shorten_sheet
+	@tests/soak.sh build target/bin/day_sheet target/bin/shorten_sheet $(MINUTES)
 
-fuzz: lib target/bin/day_sheet
-	@tests/fuzz/run.sh build target/bin/day_sheet $(MINUTES)
+fuzz: lib target/bin/day_sheet target/bin/shorten_sheet
+	@tests/fuzz/run.sh build target/bin/day_sheet target/bin/shorten_sheet $(MINUTES)
 
 fuzz-selftest:
 	@tests/selftest.sh fuzz

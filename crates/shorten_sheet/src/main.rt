@@ -18,10 +18,10 @@ fn report_output() {
 
 // Prints the help, and returns whether it could be written.
 fn print_help() -> bool {
-    io::write_all(STDOUT_FILENO, b"usage: shorten_sheet < OLD > NEW\n\n")
+    io::write_all(STDOUT_FILENO, b"usage: shorten_sheet < SHEET\n\n")
         && io::write_all(
             STDOUT_FILENO,
-            b"Rewrites a day sheet of the archive: each number in its shortest form, the same records.\n",
+            b"Rewrites a day sheet of the archive: the same records, each number in its shortest form.\n",
         )
         && io::write_all(
             STDOUT_FILENO,
@@ -74,7 +74,7 @@ fn main() {
         Request::Unknown => {
             io::write_all(
                 STDERR_FILENO,
-                b"usage: shorten_sheet < OLD > NEW, or shorten_sheet --help\n",
+                b"usage: shorten_sheet < SHEET, or shorten_sheet --help\n",
             );
         }
     }
