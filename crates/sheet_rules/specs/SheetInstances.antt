@@ -16,7 +16,7 @@ use Rattle.sheet_rules.specs.Lines.{endLine, line}
 use Rattle.sheet_rules.specs.Offsets.{EditionOfNumbers, Located, NumberThen, NumbersBetween, NumbersFill, OfNumbers, PrintsRefusal, ShowsByte, WholeLines, ending, refusesNumber}
 use Rattle.sheet_rules.specs.Rewriting.{RefusedSheet, Shortened, ShortenedOrRefused, refusedLine}
 use Rattle.sheet_rules.specs.Sheet.{Accepted, EachGood, Edition, GoodMeaning, GoodRecord, Meaning, Record, isCode, lastDesk, noDesk, opened, openingNumber}
-use Rattle.sheet_rules.specs.Sheet.{Written, encodeSheet, reading, recordFor, whole}
+use Rattle.sheet_rules.specs.Sheet.{WrittenSheet, encodeSheet, reading, recordFor, whole}
 
 -- ---- Records that a sheet can have, where sessions are at most 999: a take has no session, a swap has no screen, and a retire
 -- has no screen, position or session.
@@ -118,7 +118,7 @@ pub says-exact-numbers : (readNumber : NumberReader) (sheet : List ℕ) → Exac
     → Stands (encodeNumber 7) sheet 5 8
 says-exact-numbers readNumber sheet exact = exact 999 sheet 5 7 8
 
-pub says-written : (edition : Edition) (sheet : List ℕ) (meaning : Meaning) → Written edition 999 sheet meaning
+pub says-written : (edition : Edition) (sheet : List ℕ) (meaning : Meaning) → WrittenSheet edition 999 sheet meaning
     → GoodMeaning 999 meaning × (length sheet ≤ 65536) × (sheet ≡ encodeSheet edition meaning)
 says-written edition sheet meaning written = (written .good, written .short, written .bytes)
 

@@ -13,7 +13,7 @@ use Rattle.rules.specs.Hall.{Hall}
 use Rattle.rules.specs.Numbers.{Parsed, parsed, refused}
 use Rattle.sheet_rules.specs.Lawful.{Exact, Lawful, Stands}
 use Rattle.sheet_rules.specs.Sheet.{Accepted, Carried, Edition, Meaning, Record, Records, bindRecords, carriedAfter, complete, decodeRecords, encodeRecords}
-use Rattle.sheet_rules.specs.Sheet.{Written, encodeSheet, more, noDesk, opened, stop, whole}
+use Rattle.sheet_rules.specs.Sheet.{WrittenSheet, encodeSheet, more, noDesk, opened, stop, whole}
 use Rattle.sheet_rules.specs.laws.Parsing.{stands-join, stands-none}
 use Rattle.sheet_rules.specs.laws.Sheet.{accepted-good, first-record, opened-from, reading-back}
 
@@ -98,13 +98,13 @@ module _ {edition : Edition} {maxSession : ℕ} (lawful : Lawful edition maxSess
 
 -- ---- What is accepted is what was written.
 module _ {edition : Edition} {maxSession : ℕ} (lawful : Lawful edition maxSession) where
-  pub written-is-accepted : (sheet : List ℕ) (meaning : Meaning) → Written edition maxSession sheet meaning → Accepted edition sheet meaning
+  pub written-is-accepted : (sheet : List ℕ) (meaning : Meaning) → WrittenSheet edition maxSession sheet meaning → Accepted edition sheet meaning
   written-is-accepted sheet meaning written =
       subst (λ (bytes : List ℕ). Accepted edition bytes meaning) (sym (written .bytes))
       (reading-back lawful meaning (written .good) (omega (arith, written .short, ap length (written .bytes))))
 
   module _ (exact : Exact edition) where
-    pub is-written : (sheet : List ℕ) (meaning : Meaning) → IsBytes sheet → Accepted edition sheet meaning → Written edition maxSession sheet meaning
+    pub is-written : (sheet : List ℕ) (meaning : Meaning) → IsBytes sheet → Accepted edition sheet meaning → WrittenSheet edition maxSession sheet meaning
     is-written sheet meaning are e = record {
       good = accepted-good lawful sheet meaning e;
       short = opened-from edition sheet (meaning .header) (whole (meaning .records)) e .short;

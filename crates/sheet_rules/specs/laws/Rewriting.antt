@@ -1,24 +1,30 @@
 -- A sheet that is written anew: it is accepted with the same meaning, or the line of what ended its reading is written.
-use Prim.Native.Nat.{ℕ, _≤_}
+use Prim.Native.Nat.{ℕ, zero, suc, _+_, _/_, _%_, _≤_}
 use native.Mathlib.Omega.{arith}
 use mathlib.Core.Path.{_≡_, refl, sym, ap, _∙_, subst}
+use mathlib.Core.Bool.{Bool, true, false, cond}
 use mathlib.Core.List.{List, [], _∷_, _++_}
 use mathlib.Core.Logic.{inl, inr, ⊎-elim}
 use mathlib.Core.Option.{Option, none, some}
-use lib.ListN.{length}
+use lib.ListN.{length, drop}
+use lib.Dec.{ltb}
+use borrow.Author.Tests.{ltb-true, lt-ltb}
 use Rattle.rules.specs.Bytes.{IsBytes}
-use Rattle.rules.specs.Hall.{Hall}
-use Rattle.rules.specs.Numbers.{Refusal}
-use Rattle.sheet_rules.specs.Edition1.{Format, archiveEdition, archiveFormat, edition1, hallEdition, hallFormat}
-use Rattle.sheet_rules.specs.Lines.{linesOf, printed}
+use Rattle.rules.specs.Hall.{Hall, hallLimits, hallOf}
+use Rattle.rules.specs.Numbers.{Refusal, maxNumber, parsed}
+use Rattle.rules.specs.laws.table.EncodedStep.{hall-opens, limits-fit}
+use Rattle.sheet_rules.specs.Edition1.{Format, archiveEdition, archiveFormat, decodeHeader, edition1, encodeNumber, hallEdition, hallFormat}
+use Rattle.sheet_rules.specs.Lawful.{LawfulNumbers, Stands}
+use Rattle.sheet_rules.specs.Lines.{decimal, digits, linesOf, printed, spaced}
 use Rattle.sheet_rules.specs.Offsets.{endingIn}
-use Rattle.sheet_rules.specs.Rewriting.{RefusedSheet, Shortened, ShortenedOrRefused, entriesIn, meaningOf, rewrite, shorten, writeReading}
+use Rattle.sheet_rules.specs.Rewriting.{RefusedSheet, Shortened, ShortenedOrRefused, entriesIn, meaningOf, refusedLine, rewrite, shorten, writeReading}
 use Rattle.sheet_rules.specs.Rewriting.{writeUnless}
 use Rattle.sheet_rules.specs.Sheet.{Accepted, Carried, Edition, Meaning, Reading, Record, Records, carriedAfter, complete, encodeRecords, encodeSheet}
-use Rattle.sheet_rules.specs.Sheet.{maxBytes, more, noDesk, opened, reading, stop, unopened, whole}
+use Rattle.sheet_rules.specs.Sheet.{lentTable, maxBytes, more, noDesk, opened, openingNumber, reading, stop, unopened, whole}
 use Rattle.sheet_rules.specs.laws.Edition1.{archive-lawful, hall-exact, hall-lawful}
 use Rattle.sheet_rules.specs.laws.Exact.{accepted-bytes, accepted-no-longer}
 use Rattle.sheet_rules.specs.laws.Longest.{refused-length}
+use Rattle.sheet_rules.specs.laws.Parsing.{bind-parsed}
 use Rattle.sheet_rules.specs.laws.Sheet.{accepted-good, opened-from, reading-back}
 
 -- ---- Records that nothing ended are whole.
@@ -114,3 +120,72 @@ shortened-fits sheet = ⊎-elim accepted refused (shortened-or-refused sheet)
 
     refused : RefusedSheet sheet (shorten sheet) → length (shorten sheet) ≤ maxBytes
     refused is = omega (arith, refused-length (is .reason .number) (is .reason .offset), ap length (is .line))
+
+-- ---- The line of a refused sheet is no sheet: it starts with a digit, and no hall has so many desks.
+record Starts (bytes : List ℕ) : Type 0 where
+  first : ℕ
+  rest : List ℕ
+  are : bytes ≡ first ∷ rest
+  low : 48 ≤ first
+  high : first ≤ 57
+
+starts-then : {bytes : List ℕ} (later : List ℕ) → Starts bytes → Starts (bytes ++ later)
+starts-then later starts = record {
+  first = starts .first;
+  rest = starts .rest ++ later;
+  are = ap (λ (bytes : List ℕ). bytes ++ later) (starts .are);
+  low = starts .low;
+  high = starts .high;
+}
+
+digits-start : (most value : ℕ) → Starts (digits (suc most) value)
+digits-start zero value = by-size (ltb value 10) refl
+  where
+    by-size : (small : Bool) → ltb value 10 ≡ small → Starts (cond small ((48 + value) ∷ []) ((48 + value % 10) ∷ []))
+    by-size true is = record { first = 48 + value; rest = []; are = refl; low = omega arith; high = omega (arith, ltb-true value 10 is) }
+    by-size false is = record { first = 48 + value % 10; rest = []; are = refl; low = omega arith; high = omega arith }
+digits-start (suc most) value = by-size (ltb value 10) refl (digits-start most (value / 10))
+  where
+    by-size : (small : Bool) → ltb value 10 ≡ small → Starts (digits (suc most) (value / 10))
+        → Starts (cond small ((48 + value) ∷ []) (digits (suc most) (value / 10) ++ ((48 + value % 10) ∷ [])))
+    by-size true is tenth = record { first = 48 + value; rest = []; are = refl; low = omega arith; high = omega (arith, ltb-true value 10 is) }
+    by-size false is tenth = starts-then ((48 + value % 10) ∷ []) tenth
+
+line-starts : (number offset : ℕ) → Starts (refusedLine number offset)
+unfolding refusedLine decimal
+line-starts number offset = starts-then (32 ∷ spaced (offset ∷ [])) (digits-start 19 number)
+
+module _ (format : Format) (numbers : LawfulNumbers (format .readNumber)) where
+  -- a first byte from 48 to 57 is read as so many desks
+  first-desks : (sheet : List ℕ) (starts : Starts sheet) (value next : ℕ) → format .readNumber maxNumber sheet 0 ≡ parsed value next
+      → value ≡ starts .first
+  unfolding encodeNumber
+  first-desks sheet starts value next read =
+      let one : encodeNumber (starts .first) ≡ starts .first ∷ [] = simp (lt-ltb (starts .first) 128 (omega (arith, starts .high))) in
+      let there : sheet ≡ (starts .first ∷ []) ++ drop 1 sheet =
+      starts .are ∙ ap (λ (rest : List ℕ). starts .first ∷ rest) (sym (ap (drop 1) (starts .are))) in
+      let stands : Stands (encodeNumber (starts .first)) sheet 0 1 =
+      subst (λ (bytes : List ℕ). Stands bytes sheet 0 1) (sym one) (record { content = there; end = refl }) in
+      let both : parsed (starts .first) 1 ≡ parsed value next =
+      sym (numbers .read-back maxNumber (starts .first) (omega (arith, starts .high)) (omega arith) sheet 0 1 stands) ∙ read in
+      sym (cc both)
+
+  -- the first number of a header is its desks
+  header-desks : (sheet : List ℕ) (hall : Hall) (next : ℕ) → edition1 format .decodeHeader sheet 0 ≡ parsed hall next
+      → (after : ℕ) × (format .readNumber maxNumber sheet 0 ≡ parsed (hall .desks) after)
+  unfolding decodeHeader
+  header-desks sheet hall next e =
+      let desks = bind-parsed (format .readNumber maxNumber sheet 0) _ hall next e in
+      let screens = bind-parsed (format .readNumber maxNumber sheet (desks .1)) _ hall next (desks .3) in
+      let positions = bind-parsed (format .readNumber maxNumber sheet (screens .1)) _ hall next (screens .3) in
+      let same : hallOf (desks .0) (screens .0) (positions .0) ≡ hall = cc (positions .3) in
+      (desks .1, desks .2 ∙ ap (λ (found : Hall). parsed (found .desks) (desks .1)) same)
+
+  pub line-no-sheet : (number offset : ℕ) (meaning : Meaning) → Accepted (edition1 format) (refusedLine number offset) meaning → ⊥
+  unfolding openingNumber
+  line-no-sheet number offset meaning e =
+      let starts = line-starts number offset in
+      let was = opened-from (edition1 format) (refusedLine number offset) (meaning .header) (whole (meaning .records)) e in
+      let read = header-desks (refusedLine number offset) (meaning .header) (was .next) (was .read) in
+      let asked = limits-fit hallLimits (meaning .header) (hall-opens hallLimits (meaning .header) lentTable (was .accepted) .0) in
+      omega (arith, asked .desks .1, starts .low, first-desks (refusedLine number offset) starts (meaning .header .desks) (read .0) (read .1))
