@@ -3,7 +3,7 @@
 #   make host           builds and runs the example host in C
 #   make test           the gate: all proofs from nothing, the edits that must be refused, the tests outside Rattle
 #   make lib            the archive and its header, in build/
-#   make bench          times the six calls against boards in Rust and in C, and the sheet program against one in Rust
+#   make bench          times the six calls against boards in Rust and in C, and the sheet programs against those in Rust
 #   make proved         lists the theorems
 #   make edits          tries the wrong programs and rules in edits/: each must be refused where it says
 #   make gallery        draws the example sheets again, in docs/gallery/
@@ -47,13 +47,16 @@ lib:
 target/bin/day_sheet target/bin/shorten_sheet:
 	@tools/build $(@F)
 
-bench: lib target/bin/day_sheet
+bench: lib target/bin/day_sheet target/bin/shorten_sheet
 	@bench/c_board/compare.sh
 	@echo
 	@$(CARGO) bench/Cargo.toml
 	@cargo build --quiet --offline --release --manifest-path tests/reference/Cargo.toml
 	@echo
-	@$(CARGO) bench/sheets/Cargo.toml -- target/bin/day_sheet target/outside/release/day_sheet_reference
+	@for program in day_sheet shorten_sheet; do \
+	    echo "$$program:"; \
+	    $(CARGO) bench/sheets/Cargo.toml -- target/bin/$$program target/outside/release/$${program}_reference || exit 1; \
+	done
 
 proved:
 	@tools/proved

@@ -62,7 +62,7 @@ fn open_sheet(sheet: &[u8]) -> ParsedHeader
 }
 
 // How many bytes records have when they are written, or what ends their reading.
-pub enum Measured {
+enum Measured {
     Length(usize),
     Refused(Refusal),
 }
