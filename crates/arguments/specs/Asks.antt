@@ -1,4 +1,4 @@
--- What so many arguments ask for, the program's own name among them, of which this is the first after the name.
+-- What a command line asks for: how many arguments it has, with the program's name, and the first after the name.
 use Prim.Native.Nat.{ℕ, _≤_, _<_}
 use mathlib.Core.Path.{_≡_}
 use mathlib.Core.List.{List, [], _∷_}

@@ -1,7 +1,7 @@
 -- What arguments ask for, computed: none, `--help`, `--help` and another, and an empty one.
 use Prim.Native.Nat.{ℕ}
 use native.Mathlib.Omega.{arith}
-use mathlib.Core.Path.{_≡_, refl, ap}
+use mathlib.Core.Path.{refl, ap}
 use mathlib.Core.List.{List, [], _∷_}
 use lib.ListN.{length}
 use Rattle.arguments.specs.Asks.{Asks}

@@ -10,7 +10,7 @@ pub enum Request {
     Unknown,
 }
 
-// The request of so many arguments, the program's own name among them, of which this is the first after the name.
+// What a command line asks for: how many arguments it has, with the program's name, and the first after the name.
 pub fn request_for(arguments: usize, first: &[u8]) -> Request
     ensures { λ r. ⌜ Asks r arguments (now (first .entry)) ⌝ }
 {

@@ -8,7 +8,7 @@ use libc::STDERR_FILENO;
 use libc::STDIN_FILENO;
 use libc::STDOUT_FILENO;
 use printing::print;
-use reader::TOO_MANY_BYTES;
+use reader::READ_BYTES;
 
 // Says on standard error why the last write to standard output failed.
 fn report_output() {
@@ -28,7 +28,7 @@ fn print_help() -> bool {
         )
         && io::write_all(
             STDOUT_FILENO,
-            b"not a session: it is the offset of the number that could not be read. The last line\n",
+            b"not a session: it is the offset of the number that is refused. The last line\n",
         )
         && io::write_all(
             STDOUT_FILENO,
@@ -42,7 +42,7 @@ fn print_help() -> bool {
 
 // Prints the lines of the sheet on standard input.
 fn run() {
-    let mut bytes = [0u8; TOO_MANY_BYTES];
+    let mut bytes = [0u8; READ_BYTES];
     match read_to_end(STDIN_FILENO, &mut bytes) {
         Input::Failed => os::fail(b"day_sheet: cannot read standard input"),
         Input::Bytes(n) => {
@@ -55,7 +55,7 @@ fn run() {
 }
 
 fn main() {
-    // A longer argument does not fit, and is read as none.
+    // A longer argument does not fit, and is read as an empty one.
     let mut first = [0u8; 8];
     let n = os::arg(1, &mut first);
     match request_for(os::arg_count(), &first[..n]) {

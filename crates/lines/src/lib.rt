@@ -3,11 +3,11 @@ ghost use mathlib.Core.List.{[], _∷_, _++_};
 ghost use mathlib.Core.Path.{_≡_};
 ghost use lib.ListN.{length};
 ghost use Rattle.sheet_rules.specs.Lines.{decimal, endLine, line};
-ghost use Rattle.sheet_rules.specs.Rewriting.{refusedLine};
+ghost use Rattle.sheet_rules.specs.Rewriting.{refusedSheetLine};
 ghost use Rattle.sheet_rules.specs.Tally.{tallyOf};
 ghost use Rattle.buffer.specs.Put.{Fits, Put};
 
-// Each function puts bytes at an offset of the buffer that its caller lends; the result is the offset after them.
+// Each `put_` function puts bytes at an offset of the buffer that its caller lends; the result is the offset after them.
 // Precondition of each: the buffer has room for exactly those bytes.
 
 // The decimal digits of a number: those of a tenth of it, and then the last one.
@@ -76,17 +76,17 @@ fn decimal_length(value: u64) -> usize
 }
 
 // How many bytes the line of a refused sheet has.
-pub fn refused_length(number: u64, offset: u64) -> usize
-    ensures { λ r. ⌜ r ≡ length (refusedLine number offset) ⌝ }
+pub fn refused_sheet_length(number: u64, offset: u64) -> usize
+    ensures { λ r. ⌜ r ≡ length (refusedSheetLine number offset) ⌝ }
 {
     decimal_length(number) + 1 + decimal_length(offset) + 1
 }
 
 // The line of a refused sheet: reply number, offset.
 // Precondition: the line fits.
-pub fn put_refused(out: &mut [u8], at: usize, number: u64, offset: u64) -> usize
-    requires { ⌜ Fits (now out) at (refusedLine number offset) ⌝ }
-    ensures { λ r. ⌜ Put (now (out .entry)) (now (out .exit)) at (refusedLine number offset) r ⌝ }
+pub fn put_refused_sheet(out: &mut [u8], at: usize, number: u64, offset: u64) -> usize
+    requires { ⌜ Fits (now out) at (refusedSheetLine number offset) ⌝ }
+    ensures { λ r. ⌜ Put (now (out .entry)) (now (out .exit)) at (refusedSheetLine number offset) r ⌝ }
 {
     let after_number = put_number(out, at, number, b' ');
     put_number(out, after_number, offset, b'\n')

@@ -1,4 +1,4 @@
--- For each result of the readers, the result of the rules' readers: the value and the next offset, or document 01's number.
+-- For each result of the readers, the result of the rules' readers: the value and the next offset, or what ends the reading.
 use Prim.Native.Nat.{ℕ}
 use Rattle.rules.specs.Hall.{Hall, hallOf}
 use Rattle.rules.specs.Numbers.{Padding, Parsed, Refusal, allowed, barred, decodeNumber, parsed, refusalOf, refused}

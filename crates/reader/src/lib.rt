@@ -5,21 +5,21 @@ use fields::SESSION;
 use fields::follows;
 ghost use mathlib.Core.Path.{_≡_};
 ghost use Prim.Native.Nat.{_≤_, _<_};
-ghost use Rattle.rules.specs.Numbers.{judge as judged, refusal, refusalOf, takes as takesPadded};
+ghost use Rattle.rules.specs.Numbers.{judge as judged, refusal, refusalOf, allows as allowsPadded};
 ghost use Rattle.sheet_rules.specs.Edition1.{decodeField, decodeFields, decodeRest, edition1, withCode};
 ghost use Rattle.sheet_rules.specs.Sheet.{beginSheet, follows as followsCode};
 ghost use Rattle.reader.specs.Results.{carriedOf, formatOf, headerResult, numberResult, paddingOf, reasonOf, recordResult};
 
 // The most bytes of a sheet.
-pub const MAX_BYTES: usize = 65536;
+const MAX_BYTES: usize = 65536;
 
-// One byte more: a program that has read so many bytes knows that the sheet is too long.
-pub const TOO_MANY_BYTES: usize = MAX_BYTES + 1;
+// A program reads at most so many bytes: one more than a sheet may have.
+pub const READ_BYTES: usize = MAX_BYTES + 1;
 
 // The largest number of a sheet.
 const MAX_NUMBER: u16 = 65535;
 
-// Whether padded numbers, those with a zero group at the high end, are taken.
+// Whether padded numbers, those with a zero group at the high end, are accepted.
 pub enum Padding {
     Allowed,
     Barred,
@@ -60,7 +60,7 @@ const ENDS: u16 = 15;
 // 16: the number takes more than three bytes, or is larger than its limit.
 const TOO_LARGE: u16 = 16;
 
-// 17: no step has this code.
+// 17: no step has this code. (`reply::Reply::NoCode` has the same number, for records that were not read from a sheet.)
 const NO_CODE: u16 = 17;
 
 // 18: the sheet is too long.
@@ -69,7 +69,7 @@ const TOO_LONG: u16 = 18;
 // 19: the number is padded.
 const PADDED: u16 = 19;
 
-// The refusal by a question that is not about a number of the sheet: it shows no offset.
+// The refusal with a reply number that shows no offset: 1 to 3, 17 and 18. No code was read; `refuse_code` puts one in.
 pub fn refuse_with(number: u16) -> Refusal
     ensures { λ r. ⌜ reasonOf r ≡ refusalOf 0 number 0 ⌝ }
 {
@@ -86,7 +86,7 @@ pub enum Number {
     Refused(Refusal),
 }
 
-// The refusal of the number at an offset; the reader of a record puts its code there.
+// The refusal of the number at an offset, with code 0; `refuse_record` puts the code of a record.
 fn refuse(number: u16, at: usize) -> Number
     ensures { λ r. ⌜ numberResult r ≡ refusal 0 number at ⌝ }
 {
@@ -97,9 +97,9 @@ fn refuse(number: u16, at: usize) -> Number
     })
 }
 
-// Whether a number may be padded or not.
-fn takes(padding: Padding, padded: bool) -> bool
-    ensures { λ r. ⌜ r ≡ takesPadded (paddingOf padding) padded ⌝ }
+// Whether a number that is padded, or is not, is accepted.
+fn allows(padding: Padding, padded: bool) -> bool
+    ensures { λ r. ⌜ r ≡ allowsPadded (paddingOf padding) padded ⌝ }
 {
     match padding {
         Padding::Allowed => true,
@@ -114,7 +114,7 @@ fn judge(value: u32, padded: bool, at: usize, next: usize, padding: Padding, lim
     if (limit as u32) < value {
         return refuse(TOO_LARGE, at);
     }
-    if !takes(padding, padded) {
+    if !allows(padding, padded) {
         return refuse(PADDED, at);
     }
     Number::Value(value as u16, next)

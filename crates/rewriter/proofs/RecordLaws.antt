@@ -2,8 +2,7 @@
 use Prim.Native.Nat.{ℕ, _+_, _≤_, _<_}
 use native.Mathlib.Omega.{arith}
 use mathlib.Core.Path.{_≡_, refl, sym, ap, _∙_, subst}
-use mathlib.Core.Bool.{true}
-use mathlib.Core.List.{List, [], _∷_, _++_, append-assoc, append-nil}
+use mathlib.Core.List.{List, [], _++_, append-assoc, append-nil}
 use mathlib.Core.Option.{Option, none, some}
 use lib.ListN.{length, length-append}
 use Rattle.buffer.specs.Put.{Fits, Put}
@@ -13,7 +12,7 @@ use Rattle.rules.specs.laws.history.StepEffects.{in-range}
 use Rattle.sheet_rules.specs.Edition1.{archiveEdition, hallEdition}
 use Rattle.sheet_rules.specs.Offsets.{endingIn}
 use Rattle.sheet_rules.specs.Rewriting.{entriesIn}
-use Rattle.sheet_rules.specs.Sheet.{Carried, Record, Records, carriedAfter, decodeRecords, encodeRecords, more, noDesk, stop}
+use Rattle.sheet_rules.specs.Sheet.{Carried, Record, Records, carriedAfter, decodeRecords, encodeRecords, more, noDesk}
 use Rattle.sheet_rules.specs.SheetTheorems.{archive-edition-lawful}
 use Rattle.sheet_rules.specs.laws.Sheet.{records-end, records-more, records-stop}
 use Rattle.rewriter.specs.Measure.{NothingEnds, Size, bytes, endedBy, measure, recordsFrom, recordsSize, writtenFrom}

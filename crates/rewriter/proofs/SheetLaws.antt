@@ -7,15 +7,15 @@ use mathlib.Core.Option.{Option, none, some}
 use lib.ListN.{length, length-append, length-replicate}
 use Rattle.board.specs.Opening.{OpeningAnswer}
 use Rattle.rules.specs.Hall.{Hall}
-use Rattle.rules.specs.Numbers.{Parsed, Refusal, bind, parsed, refusalOf, refused}
+use Rattle.rules.specs.Numbers.{Refusal, parsed, refusalOf, refused}
 use Rattle.rules.specs.Steps.{Answer}
 use Rattle.sheet_rules.specs.Edition1.{archiveEdition, encodeHeader, hallEdition}
 use Rattle.sheet_rules.specs.Offsets.{endingIn}
-use Rattle.sheet_rules.specs.Rewriting.{meaningOf, refusedLine, rewrite, shorten, writeReading, writeUnless}
-use Rattle.sheet_rules.specs.Sheet.{Reading, afterHeader, beginSheet, encodeSheet, lentTable, noDesk, opened, openedIf, openingNumber, reading, unopened}
+use Rattle.sheet_rules.specs.Rewriting.{meaningOf, refusedSheetLine, rewrite, shorten, writeReading, writeUnless}
+use Rattle.sheet_rules.specs.Sheet.{beginSheet, encodeSheet, ifOpens, lentTable, openSheet, openingNumber}
 use Rattle.sheet_rules.specs.SheetTheorems.{shortened-always-fits}
-use Rattle.sheet_rules.specs.laws.Sheet.{opening-answer}
-use Rattle.rewriter.specs.Measure.{NothingEnds, Size, bytes, endedBy, ifOpens, measure, openSheet, recordsFrom, recordsSize, writtenFor, writtenFrom}
+use Rattle.sheet_rules.specs.laws.Sheet.{begun, opening-answer, reading-opens}
+use Rattle.rewriter.specs.Measure.{NothingEnds, bytes, endedBy, measure, recordsFrom, recordsSize, writtenFrom}
 
 -- ---- The opening.
 
@@ -25,48 +25,22 @@ unfolding lentTable
 opening-number hall said is-number =
     sym (ap (λ (a : Answer). a .number) (said lentTable (length-replicate {A = ℕ} 2387 0) ∙ opening-answer hall)) ∙ sym is-number
 
-module _ (sheet : List ℕ) {hall : Hall} {next number : ℕ} (begun : beginSheet archiveEdition sheet ≡ parsed hall next) (opening : openingNumber hall ≡ number) where
-  by-number : openSheet archiveEdition sheet ≡ ifOpens number hall next
-  by-number = simp begun (ap (λ (n : ℕ). ifOpens n hall next) opening)
-
+module _ (sheet : List ℕ) {hall : Hall} {next number : ℕ} (found : beginSheet archiveEdition sheet ≡ parsed hall next) (opening : openingNumber hall ≡ number) where
   pub sheet-opens : number ≡ 0 → parsed hall next ≡ openSheet archiveEdition sheet
-  sheet-opens accepted = sym (by-number ∙ ap (λ (n : ℕ). ifOpens n hall next) accepted)
+  sheet-opens accepted = sym (begun archiveEdition sheet found (opening ∙ accepted))
 
   pub sheet-refused : (number ≡ 0 → ⊥) → refused (refusalOf 0 number 0) ≡ openSheet archiveEdition sheet
-  sheet-refused not-accepted = sym (by-number ∙ not-zero number not-accepted)
+  sheet-refused not-accepted = sym (begun archiveEdition sheet found opening ∙ not-zero number not-accepted)
     where
       not-zero : (n : ℕ) → (n ≡ 0 → ⊥) → ifOpens n hall next ≡ refused (refusalOf 0 n 0)
       not-zero zero not-accepted = absurd (not-accepted refl)
       not-zero (suc n) not-accepted = refl
 
-pub not-begun : (sheet : List ℕ) {reason : Refusal} → beginSheet archiveEdition sheet ≡ refused reason → refused reason ≡ openSheet archiveEdition sheet
-not-begun sheet begun = sym (simp begun)
-
--- ---- The reading.
-abbrev afterOpening : List ℕ → Parsed Hall → Reading
-afterOpening sheet (parsed hall next) = opened hall (recordsFrom sheet next)
-afterOpening sheet (refused reason) = unopened reason
-
-opening-then-records : (sheet : List ℕ) → reading archiveEdition sheet ≡ afterOpening sheet (openSheet archiveEdition sheet)
-unfolding reading
-opening-then-records sheet = by-header (beginSheet archiveEdition sheet)
-  where
-    by-opening : (n : ℕ) (hall : Hall) (next : ℕ) → openedIf n hall (recordsFrom sheet next) ≡ afterOpening sheet (ifOpens n hall next)
-    by-opening zero hall next = refl
-    by-opening (suc n) hall next = refl
-
-    by-header : (found : Parsed Hall) → afterHeader archiveEdition sheet found ≡ afterOpening sheet (bind found (λ hall next. ifOpens (openingNumber hall) hall next))
-    by-header (parsed hall next) = by-opening (openingNumber hall) hall next
-    by-header (refused reason) = refl
-
-reads : (sheet : List ℕ) {found : Parsed Hall} → found ≡ openSheet archiveEdition sheet → reading archiveEdition sheet ≡ afterOpening sheet found
-reads sheet is = opening-then-records sheet ∙ ap (afterOpening sheet) (sym is)
-
 -- ---- What is written.
 pub writes-refusal : (sheet : List ℕ) {reason : Refusal} → refused reason ≡ openSheet archiveEdition sheet
-    → refusedLine (reason .number) (reason .offset) ≡ shorten sheet
+    → refusedSheetLine (reason .number) (reason .offset) ≡ shorten sheet
 unfolding rewrite
-writes-refusal sheet is = sym (ap (writeReading hallEdition) (reads sheet is))
+writes-refusal sheet is = sym (ap (writeReading hallEdition) (reading-opens archiveEdition sheet (sym is)))
 
 -- the size says whether something ended the reading
 ended : (end : Option Refusal) (written : List ℕ) {reason : Refusal} → endedBy reason ≡ measure end written → end ≡ some reason
@@ -83,11 +57,11 @@ counted (some reason) written e = absurd (let z : _≡_ {A = ℕ} 0 1 = cc in om
 
 module _ (sheet : List ℕ) {hall : Hall} {first : ℕ} (is : parsed hall first ≡ openSheet archiveEdition sheet) where
   pub writes-later-refusal : {reason : Refusal} → endedBy reason ≡ recordsSize (recordsFrom sheet first)
-      → refusedLine (reason .number) (reason .offset) ≡ shorten sheet
+      → refusedSheetLine (reason .number) (reason .offset) ≡ shorten sheet
   unfolding rewrite
   writes-later-refusal {reason} size =
       let end : endingIn (recordsFrom sheet first) ≡ some reason = ended (endingIn (recordsFrom sheet first)) (writtenFrom sheet first) size in
-      sym (ap (writeReading hallEdition) (reads sheet is) ∙ ap (λ (e : Option Refusal). writeUnless hallEdition e (meaningOf hall (recordsFrom sheet first))) end)
+      sym (ap (writeReading hallEdition) (reading-opens archiveEdition sheet (sym is)) ∙ ap (λ (e : Option Refusal). writeUnless hallEdition e (meaningOf hall (recordsFrom sheet first))) end)
 
   module _ {n : ℕ} (size : bytes n ≡ recordsSize (recordsFrom sheet first)) where
     pub nothing-ends : NothingEnds sheet first
@@ -98,7 +72,7 @@ module _ (sheet : List ℕ) {hall : Hall} {first : ℕ} (is : parsed hall first 
 
     pub writes-sheet : encodeHeader hall ++ writtenFrom sheet first ≡ shorten sheet
     unfolding rewrite encodeSheet
-    writes-sheet = sym (ap (writeReading hallEdition) (reads sheet is) ∙ ap (λ (e : Option Refusal). writeUnless hallEdition e (meaningOf hall (recordsFrom sheet first))) nothing-ends)
+    writes-sheet = sym (ap (writeReading hallEdition) (reading-opens archiveEdition sheet (sym is)) ∙ ap (λ (e : Option Refusal). writeUnless hallEdition e (meaningOf hall (recordsFrom sheet first))) nothing-ends)
 
     pub sheet-fits : length (encodeHeader hall) + n ≤ 65536
     sheet-fits = omega (arith, records-counted, length-append (encodeHeader hall) (writtenFrom sheet first), ap length writes-sheet, shortened-always-fits sheet)

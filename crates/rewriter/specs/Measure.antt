@@ -1,26 +1,17 @@
--- What is found of a sheet before it is written: the header of a hall that opens, and how many bytes its records have when they are written.
-use Prim.Native.Nat.{ℕ, zero, suc}
+-- What is found of a sheet before it is written: how many bytes its records have when they are written, or what ends their reading.
+use Prim.Native.Nat.{ℕ}
 use mathlib.Core.Path.{_≡_}
 use mathlib.Core.List.{List}
 use mathlib.Core.Option.{Option, none, some}
 use lib.ListN.{length}
-use Rattle.rules.specs.Hall.{Hall}
-use Rattle.rules.specs.Numbers.{Parsed, Refusal, bind, parsed, refusal}
+use Rattle.rules.specs.Numbers.{Refusal}
 use Rattle.reader.specs.Results.{reasonOf}
 use Rattle.sheet_rules.specs.Edition1.{archiveEdition, hallEdition}
 use Rattle.sheet_rules.specs.Offsets.{endingIn}
 use Rattle.sheet_rules.specs.Rewriting.{entriesIn}
-use Rattle.sheet_rules.specs.Sheet.{Edition, Records, beginSheet, decodeRecords, encodeRecords, noDesk, openingNumber}
+use Rattle.sheet_rules.specs.Sheet.{Records, decodeRecords, encodeRecords, noDesk}
 use Rattle.rewriter.specs.declared.Measured.{Measured}
 use Rattle.rewriter.specs.declared.Measured.the-variants.{Length, Refused}
-
--- The header and the offset after it, if the hall opens.
-abbrev pub ifOpens : ℕ → Hall → ℕ → Parsed Hall
-ifOpens zero hall next = parsed hall next
-ifOpens (suc n) hall next = refusal 0 (suc n) 0
-
-abbrev pub openSheet : Edition → List ℕ → Parsed Hall
-openSheet edition sheet = bind (beginSheet edition sheet) λ hall next. ifOpens (openingNumber hall) hall next
 
 -- The records of a sheet of the archive from an offset on, and the bytes that are written for them.
 abbrev pub recordsFrom : List ℕ → ℕ → Records

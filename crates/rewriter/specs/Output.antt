@@ -7,7 +7,7 @@ use lib.Dec.{leb}
 use Rattle.rewriter.specs.declared.Written.{Written}
 use Rattle.rewriter.specs.declared.Written.the-variants.{Bytes, NoRoom}
 
--- Each with the buffer afterwards.
+-- Both carry the buffer after the call.
 pub data Output : Type 0 where
   put : List ℕ → ℕ → Output
   noRoom : List ℕ → Output

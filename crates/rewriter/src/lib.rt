@@ -3,8 +3,8 @@
 use board::Board;
 use board::opening;
 use buffer::fits;
-use lines::put_refused;
-use lines::refused_length;
+use lines::put_refused_sheet;
+use lines::refused_sheet_length;
 use reader::Carried;
 use reader::Format;
 use reader::Header;
@@ -26,9 +26,9 @@ ghost use lib.ListN.{length};
 ghost use Rattle.buffer.specs.Put.{Fits, Put};
 ghost use Rattle.reader.specs.Results.{headerOf, headerResult};
 ghost use Rattle.sheet_rules.specs.Edition1.{archiveEdition, encodeHeader};
-ghost use Rattle.sheet_rules.specs.Rewriting.{refusedLine, shorten as shortened};
-ghost use Rattle.sheet_rules.specs.Sheet.{maxBytes};
-ghost use Rattle.rewriter.specs.Measure.{NothingEnds, openSheet, recordsFrom, recordsSize, sizeOf, writtenFrom};
+ghost use Rattle.sheet_rules.specs.Rewriting.{refusedSheetLine, shorten as shortened};
+ghost use Rattle.sheet_rules.specs.Sheet.{maxBytes, openSheet};
+ghost use Rattle.rewriter.specs.Measure.{NothingEnds, recordsFrom, recordsSize, sizeOf, writtenFrom};
 ghost use Rattle.rewriter.specs.Output.{outputOf, writeWhole};
 
 // The result of writing, which writes all bytes or none.
@@ -110,7 +110,7 @@ fn put_records(sheet: &[u8], first: usize, out: &mut [u8], start: usize) -> usiz
 }
 
 // Writes the header and the records from an offset on, if the buffer has room for them.
-// Precondition: nothing ends the reading of the records, they have so many bytes, and all bytes are at most 65,536.
+// Precondition: nothing ends the reading of the records; written, they have so many bytes, and with the header at most 65,536.
 fn write_sheet(sheet: &[u8], header: Header, first: usize, bytes: usize, out: &mut [u8]) -> Written
     requires { ⌜ NothingEnds (now sheet) first × (bytes ≡ length (writtenFrom (now sheet) first)) × (length (encodeHeader (headerOf header)) + bytes ≤ maxBytes) ⌝ }
     ensures { λ r. ⌜ outputOf r (now (out .exit)) ≡ writeWhole (now (out .entry)) (encodeHeader (headerOf header) ++ writtenFrom (now (sheet .entry)) first) ⌝ }
@@ -124,12 +124,12 @@ fn write_sheet(sheet: &[u8], header: Header, first: usize, bytes: usize, out: &m
 
 // Writes the line of a refused sheet, if the buffer has room for it.
 fn write_refused(out: &mut [u8], reason: Refusal) -> Written
-    ensures { λ r. ⌜ outputOf r (now (out .exit)) ≡ writeWhole (now (out .entry)) (refusedLine (reason .number) (reason .offset)) ⌝ }
+    ensures { λ r. ⌜ outputOf r (now (out .exit)) ≡ writeWhole (now (out .entry)) (refusedSheetLine (reason .number) (reason .offset)) ⌝ }
 {
     let reply_number = reason.number as u64;
     let offset = reason.offset as u64;
-    if fits(out.len(), 0, refused_length(reply_number, offset)) {
-        return Written::Bytes(put_refused(out, 0, reply_number, offset));
+    if fits(out.len(), 0, refused_sheet_length(reply_number, offset)) {
+        return Written::Bytes(put_refused_sheet(out, 0, reply_number, offset));
     }
     Written::NoRoom
 }

@@ -1,10 +1,10 @@
 -- The ways that a sheet starts: its reading ends before a record, an opening is refused, or a hall is open.
-use Prim.Native.Nat.{ℕ, zero, suc, _≤_}
+use Prim.Native.Nat.{ℕ, zero, suc}
 use native.Mathlib.Omega.{arith}
 use mathlib.Core.Path.{_≡_, refl, sym, ap, _∙_}
 use mathlib.Core.Bool.{false}
 use mathlib.Core.List.{List, _++_, append-nil}
-use lib.ListN.{length, length-append}
+use lib.ListN.{length-append}
 use Rattle.rules.specs.Hall.{Hall, hallLimits}
 use Rattle.rules.specs.Numbers.{Refusal, parsed, refusalOf}
 use Rattle.rules.specs.Steps.{Answer, Result, decide}
@@ -14,10 +14,10 @@ use Rattle.sheet.specs.laws.Length.{line-some}
 use Rattle.reply.specs.Answer.{answerOf, tableResult}
 use Rattle.sheet_rules.specs.Edition1.{hallEdition}
 use Rattle.sheet_rules.specs.Lines.{answerLine, endLine, line, linesFrom, linesOf, printed, refusalLine}
-use Rattle.sheet_rules.specs.Sheet.{beginSheet, lentTable, opened, openedIf, openingNumber, reading, unopened}
+use Rattle.sheet_rules.specs.Sheet.{afterOpening, beginSheet, ifOpens, lentTable, opened, openingNumber, reading, unopened}
 use Rattle.sheet_rules.specs.SheetTheorems.{hall-edition-lawful}
 use Rattle.sheet_rules.specs.Tally.{zeros}
-use Rattle.sheet_rules.specs.laws.Sheet.{begun, begun-header, opening-answer}
+use Rattle.sheet_rules.specs.laws.Sheet.{begun, begun-header, opening-answer, reading-opens}
 use Rattle.sheet.specs.Batch.{Started, callsOf, finishedAt, remainingRecords, startTable}
 use Rattle.reader.specs.declared.Carried.the-variants.{NoDesk}
 use Rattle.reply.specs.declared.Reply.{Reply}
@@ -44,9 +44,8 @@ opening-number hall reply after tells is-number =
 
 reads-by : (sheet : List ℕ) {hall : Hall} {next number : ℕ} → beginSheet hallEdition sheet ≡ parsed hall next
     → openingNumber hall ≡ number
-    → reading hallEdition sheet ≡ openedIf number hall (remainingRecords sheet (atFirst next))
-reads-by sheet {hall} {next} read opening =
-    begun hallEdition sheet read ∙ ap (λ (n : ℕ). openedIf n hall (remainingRecords sheet (atFirst next))) opening
+    → reading hallEdition sheet ≡ afterOpening hallEdition sheet (ifOpens number hall next)
+reads-by sheet read opening = reading-opens hallEdition sheet (begun hallEdition sheet read opening)
 
 module _ {sheet out outAfter : List ℕ} {end : ℕ} where
   -- The reading ended before a record: the header's line and the last line are all there is.
@@ -80,7 +79,7 @@ module _ {sheet out outAfter : List ℕ} {end : ℕ} where
         opening = opening-number hall reply after tells is-number
 
         by-number : (n : ℕ) → (n ≡ 0 → ⊥)
-            → (openedIf n hall (remainingRecords sheet (atFirst next)) ≡ unopened (refusalOf 0 n 0)) × (decide n lentTable 0 (openedTable hall lentTable) .after ≡ lentTable)
+            → (afterOpening hallEdition sheet (ifOpens n hall next) ≡ unopened (refusalOf 0 n 0)) × (decide n lentTable 0 (openedTable hall lentTable) .after ≡ lentTable)
         by-number zero some = absurd (some refl)
         by-number (suc n) some = (refl, refl)
 

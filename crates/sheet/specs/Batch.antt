@@ -17,7 +17,7 @@ use Rattle.sheet_rules.specs.Sheet.{Reading, Records, decodeRecords, lentTable,
 use Rattle.tally.specs.Counts.{toTally}
 use Rattle.sheet.specs.declared.State.{State}
 
--- Room for the longest last line, and for the longest line with the last line after it (`laws.Longest` of the lines).
+-- Room for the longest last line, and for the longest line with the last line after it (`laws.Longest` of `sheet_rules`).
 abbrev pub endRoom : ℕ
 endRoom = 67
 

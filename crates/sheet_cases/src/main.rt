@@ -3,7 +3,7 @@
 use libc::STDIN_FILENO;
 use libc::STDOUT_FILENO;
 use printing::print;
-use reader::TOO_MANY_BYTES;
+use reader::READ_BYTES;
 
 // The most cases.
 const MAX_CASES: u64 = 1000;
@@ -40,7 +40,7 @@ fn print_next(case: u64, bytes: &mut [u8]) -> bool {
 }
 
 fn main() {
-    let mut bytes = [0u8; TOO_MANY_BYTES];
+    let mut bytes = [0u8; READ_BYTES];
     for case in 1..=MAX_CASES {
         if !print_next(case, &mut bytes) {
             return;

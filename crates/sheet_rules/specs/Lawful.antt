@@ -1,5 +1,5 @@
--- What every edition must satisfy: it reads back what it writes, and what it reads has at least one byte and can be written. And what makes
--- an edition exact: it reads nothing else.
+-- What every edition must satisfy: it reads back what it writes; what it reads has at least one byte, is no shorter than what is written for
+-- it, and can be written. And what makes an edition exact: it reads nothing else.
 use Prim.Native.Nat.{ℕ, _+_, _≤_, _<_}
 use mathlib.Core.Path.{_≡_}
 use mathlib.Core.Bool.{true}

@@ -14,8 +14,8 @@ use Rattle.sheet_rules.specs.Offsets.{ending, endingIn}
 use Rattle.sheet_rules.specs.Sheet.{Accepted, Edition, Meaning, Reading, Record, Records, complete, encodeSheet, more, opened, reading, stop, unopened}
 
 -- "A refused sheet, here, in Job 4's converters and in Job 13, gives only a line: the number, a space, its offset or 0."
-unfoldable pub refusedLine : ℕ → ℕ → List ℕ
-refusedLine number offset = spaced (number ∷ offset ∷ [])
+unfoldable pub refusedSheetLine : ℕ → ℕ → List ℕ
+refusedSheetLine number offset = spaced (number ∷ offset ∷ [])
 
 -- The records that were read.
 abbrev pub entriesIn : Records → List Record
@@ -29,10 +29,10 @@ meaningOf hall records = record { header = hall; records = entriesIn records }
 -- A meaning is written, unless something ended the reading.
 abbrev pub writeUnless : Edition → Option Refusal → Meaning → List ℕ
 writeUnless to none meaning = encodeSheet to meaning
-writeUnless to (some reason) meaning = refusedLine (reason .number) (reason .offset)
+writeUnless to (some reason) meaning = refusedSheetLine (reason .number) (reason .offset)
 
 abbrev pub writeReading : Edition → Reading → List ℕ
-writeReading to (unopened reason) = refusedLine (reason .number) (reason .offset)
+writeReading to (unopened reason) = refusedSheetLine (reason .number) (reason .offset)
 writeReading to (opened hall records) = writeUnless to (endingIn records) (meaningOf hall records)
 
 -- A sheet is read in one edition and written in another.
@@ -57,7 +57,7 @@ pub record Shortened (sheet output : List ℕ) : Type 0 where
 pub record RefusedSheet (sheet output : List ℕ) : Type 0 where
   pub reason : Refusal
   pub ends : ending (reading archiveEdition sheet) ≡ some reason
-  pub line : output ≡ refusedLine (reason .number) (reason .offset)
+  pub line : output ≡ refusedSheetLine (reason .number) (reason .offset)
 
 abbrev pub ShortenedOrRefused : List ℕ → List ℕ → Type 0
 ShortenedOrRefused sheet output = Shortened sheet output ⊎ RefusedSheet sheet output

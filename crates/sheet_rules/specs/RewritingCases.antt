@@ -9,7 +9,7 @@ use Rattle.rules.specs.Numbers.{decodeNumber, refusalOf}
 use Rattle.sheet_rules.specs.Edition1.{archiveEdition, decodeHeader, decodeRecord, encodeHeader, encodeNumber, encodeRecord, hallEdition}
 use Rattle.sheet_rules.specs.Lines.{decimal}
 use Rattle.sheet_rules.specs.ReadingCases.{countsDesks}
-use Rattle.sheet_rules.specs.Rewriting.{entriesIn, meaningOf, refusedLine, rewrite, shorten, writeUnless}
+use Rattle.sheet_rules.specs.Rewriting.{entriesIn, meaningOf, refusedSheetLine, rewrite, shorten, writeUnless}
 use Rattle.sheet_rules.specs.Sheet.{complete, encodeSheet, lentTable, more, openingNumber, reading, recordFor, stop}
 use Rattle.sheet_rules.specs.SheetCases.{text}
 
@@ -48,12 +48,12 @@ sheets =
     ∷ []
 
 pub sheets-shortened : map (λ (case : Case). shorten (case .sheet)) sheets ≡ map (λ (case : Case). case .output) sheets
-unfolding rewrite refusedLine reading decodeHeader decodeRecord decodeNumber openingNumber lentTable encodeSheet encodeHeader encodeRecord encodeNumber decimal
+unfolding rewrite refusedSheetLine reading decodeHeader decodeRecord decodeNumber openingNumber lentTable encodeSheet encodeHeader encodeRecord encodeNumber decimal
 sheets-shortened = refl
 
 -- "the number, a space, its offset or 0"
-pub refused-line : refusedLine 16 65536 ≡ text ("16 65536" ∷ [])
-unfolding refusedLine decimal
+pub refused-line : refusedSheetLine 16 65536 ≡ text ("16 65536" ∷ [])
+unfolding refusedSheetLine decimal
 refused-line = refl
 
 -- The records before what ended the reading; and a meaning is written only if nothing did.
@@ -63,7 +63,7 @@ entries-read = refl
 pub written-or-refused :
     (writeUnless hallEdition none (meaningOf (hallOf 2 3 4) (more (recordFor 4 1 0 0 0) complete)) ≡ 0x02 ∷ 0x03 ∷ 0x04 ∷ 0x04 ∷ 0x01 ∷ [])
     × (writeUnless hallEdition (some (refusalOf 0 17 0)) (meaningOf (hallOf 2 3 4) complete) ≡ text ("17 0" ∷ []))
-unfolding encodeSheet encodeHeader encodeRecord encodeNumber refusedLine decimal
+unfolding encodeSheet encodeHeader encodeRecord encodeNumber refusedSheetLine decimal
 written-or-refused = (refl, refl)
 
 -- A sheet is read in the first edition and written in the second: here each record of the second is the desk after the one before.

@@ -14,7 +14,7 @@ use Rattle.sheet_rules.specs.Edition1.{Format, NumberReader, archiveEdit
 use Rattle.sheet_rules.specs.Lawful.{CarriedHolds, Exact, ExactNumbers, Lawful, LawfulNumbers, Moved, ReadsBack, RefusedAt, Stands}
 use Rattle.sheet_rules.specs.Lines.{endLine, line}
 use Rattle.sheet_rules.specs.Offsets.{EditionOfNumbers, Located, NumberThen, NumbersBetween, NumbersFill, OfNumbers, PrintsRefusal, ShowsByte, WholeLines, ending, refusesNumber}
-use Rattle.sheet_rules.specs.Rewriting.{RefusedSheet, Shortened, ShortenedOrRefused, refusedLine}
+use Rattle.sheet_rules.specs.Rewriting.{RefusedSheet, Shortened, ShortenedOrRefused, refusedSheetLine}
 use Rattle.sheet_rules.specs.Sheet.{Accepted, EachGood, Edition, GoodMeaning, GoodRecord, Meaning, Record, isCode, lastDesk, noDesk, opened, openingNumber}
 use Rattle.sheet_rules.specs.Sheet.{WrittenSheet, encodeSheet, reading, recordFor, whole}
 
@@ -194,7 +194,7 @@ pub says-shortened : (sheet output : List ℕ) (short : Shortened sheet output)
 says-shortened sheet output short = (short .was-accepted, short .written, short .is-accepted, short .no-longer)
 
 pub says-refused-sheet : (sheet output : List ℕ) (refusal : RefusedSheet sheet output)
-    → (ending (reading archiveEdition sheet) ≡ some (refusal .reason)) × (output ≡ refusedLine (refusal .reason .number) (refusal .reason .offset))
+    → (ending (reading archiveEdition sheet) ≡ some (refusal .reason)) × (output ≡ refusedSheetLine (refusal .reason .number) (refusal .reason .offset))
 says-refused-sheet sheet output refusal = (refusal .ends, refusal .line)
 
 pub says-shortened-or-refused : (sheet output : List ℕ) → ShortenedOrRefused sheet output → Shortened sheet output ⊎ RefusedSheet sheet output

@@ -7,9 +7,12 @@ use input::read_to_end;
 use libc::STDERR_FILENO;
 use libc::STDIN_FILENO;
 use libc::STDOUT_FILENO;
-use reader::TOO_MANY_BYTES;
+use reader::READ_BYTES;
 use rewriter::Written;
 use rewriter::shorten;
+ghost use mathlib.Core.Path.{_≡_};
+ghost use lib.ListN.{length};
+ghost use Rattle.sheet_rules.specs.Rewriting.{shorten as shortened};
 
 // Says on standard error why the last write to standard output failed.
 fn report_output() {
@@ -29,7 +32,7 @@ fn print_help() -> bool {
         )
         && io::write_all(
             STDOUT_FILENO,
-            b"offset of the number that could not be read (15 and 16), or 0.\n\n",
+            b"offset of the number that is refused (15 and 16), or 0.\n\n",
         )
         && io::write_all(
             STDOUT_FILENO,
@@ -37,23 +40,40 @@ fn print_help() -> bool {
         )
 }
 
-// Writes a sheet in shortest form, or the line of a refused sheet, and returns whether it could be written.
-fn write_shortened(sheet: &[u8]) -> bool {
+// How many bytes were handed to the output, and whether it took them all.
+struct Handed {
+    bytes: usize,
+    complete: bool,
+}
+
+// Writes a sheet in shortest form, or the line of a refused sheet. (There is always room: the buffer has 65,536 bytes, and no output is longer.)
+fn write_shortened(sheet: &[u8]) -> Handed
+    ensures { λ r. ⌜ r .bytes ≡ length (shortened (now (sheet .entry))) ⌝ }
+{
     let mut out = io::large_buffer();
     match shorten(sheet, &mut out) {
-        Written::Bytes(n) => io::write_all(STDOUT_FILENO, &out[..n]),
-        // Not reached: the buffer has 65,536 bytes, and no output is longer.
-        Written::NoRoom => false,
+        Written::Bytes(n) => {
+            let complete = io::write_all(STDOUT_FILENO, &out[..n]);
+            Handed {
+                bytes: n,
+                complete: complete,
+            }
+        }
+        Written::NoRoom => Handed {
+            bytes: 0,
+            complete: false,
+        },
     }
 }
 
 // Shortens the sheet on standard input.
 fn run() {
-    let mut bytes = [0u8; TOO_MANY_BYTES];
+    let mut bytes = [0u8; READ_BYTES];
     match read_to_end(STDIN_FILENO, &mut bytes) {
         Input::Failed => os::fail(b"shorten_sheet: cannot read standard input"),
         Input::Bytes(n) => {
-            if !write_shortened(&bytes[..n]) {
+            let handed = write_shortened(&bytes[..n]);
+            if !handed.complete {
                 report_output();
             }
         }
@@ -61,7 +81,7 @@ fn run() {
 }
 
 fn main() {
-    // A longer argument does not fit, and is read as none.
+    // A longer argument does not fit, and is read as an empty one.
     let mut first = [0u8; 8];
     let n = os::arg(1, &mut first);
     match request_for(os::arg_count(), &first[..n]) {

@@ -5,7 +5,8 @@ use Rattle.rules.specs.Numbers.{parsed, refused}
 use Rattle.reader.specs.Results.{headerOf, headerResult}
 use Rattle.sheet_rules.specs.Edition1.{archiveEdition}
 use Rattle.sheet_rules.specs.Sheet.{beginSheet, openingNumber}
-use Rattle.rewriter.proofs.SheetLaws.{not-begun, opening-number, sheet-opens, sheet-refused}
+use Rattle.sheet_rules.specs.laws.Sheet.{not-begun}
+use Rattle.rewriter.proofs.SheetLaws.{opening-number, sheet-opens, sheet-refused}
 use Rattle.rewriter.proofs.open_sheet.Statement.{statement}
 use Rattle.rewriter.proofs.open_sheet.Tie as tie
 
@@ -42,7 +43,7 @@ returns c =
     ap refused (c .refuse-with .ensures) ∙ sheet-refused (after-number .before .before .before .before .before .before .before .args .sheet .now) (header-read (after-number .before .before)) (opening-is after-number) (c .before .if1 .taken)
 
 returns-2 : tie.Need-returns-2
-returns-2 c = not-begun (c .before .before .before .before .before .args .sheet .now) (sym (c .before .before .before .begin-sheet .ensures) ∙ ap headerResult (c .before .reason .given .1))
+returns-2 c = sym (not-begun archiveEdition (c .before .before .before .before .before .args .sheet .now) (sym (c .before .before .before .begin-sheet .ensures) ∙ ap headerResult (c .before .reason .given .1)))
 
 returns-3 : tie.Need-returns-3
 returns-3 c = sheet-opens (c .before .before .before .before .before .before .before .before .args .sheet .now) (header-read (c .before .before .before)) (opening-is (c .before)) (c .if1 .left)

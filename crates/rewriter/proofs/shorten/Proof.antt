@@ -5,7 +5,8 @@ use Rattle.rules.specs.Numbers.{parsed}
 use Rattle.reader.specs.Results.{headerOf, headerResult}
 use Rattle.sheet_rules.specs.Edition1.{archiveEdition}
 use Rattle.rewriter.specs.Output.{writeWhole}
-use Rattle.rewriter.specs.Measure.{bytes, openSheet, recordsFrom, recordsSize, sizeOf}
+use Rattle.sheet_rules.specs.Sheet.{openSheet}
+use Rattle.rewriter.specs.Measure.{bytes, recordsFrom, recordsSize, sizeOf}
 use Rattle.rewriter.proofs.SheetLaws.{nothing-ends, records-counted, sheet-fits, writes-later-refusal, writes-refusal, writes-sheet}
 use Rattle.rewriter.proofs.shorten.Statement.{statement}
 use Rattle.rewriter.proofs.shorten.Tie as tie

@@ -7,7 +7,7 @@ use mathlib.Core.List.{List, _++_}
 use lib.ListN.{length, take, drop, length-append}
 use lib.Dec.{leb}
 use lib.Seq.{take-at, drop-at}
-use Rattle.rewriter.specs.Output.{Output, noRoom, put, writeWhole}
+use Rattle.rewriter.specs.Output.{noRoom, put, writeWhole}
 
 module _ (out bytes after : List ℕ) (n : ℕ) (written : put after n ≡ writeWhole out bytes) where
   abbrev whole : List ℕ

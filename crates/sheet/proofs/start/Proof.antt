@@ -11,7 +11,7 @@ use Rattle.reader.specs.Results.{headerOf, headerResult}
 use Rattle.reply.specs.Answer.{tableResult}
 use Rattle.sheet_rules.specs.Edition1.{hallEdition}
 use Rattle.sheet_rules.specs.Sheet.{beginSheet, lentTable}
-use Rattle.sheet_rules.specs.laws.Sheet.{begun}
+use Rattle.sheet_rules.specs.laws.Sheet.{not-begun, reading-opens}
 use Rattle.sheet.proofs.StartLaws.{started-opened, started-refused, started-stopped}
 use Rattle.sheet.proofs.start.Statement.{statement}
 use Rattle.sheet.proofs.start.Tie as tie
@@ -75,7 +75,7 @@ returns-2 c =
     let start = after-read .before .before .before .before in
     let last = c .before .before .stop .ensures in
     let read = sym (after-read .begin-sheet .ensures) ∙ ap headerResult (matched .reason .given .1) in
-    started-stopped (begun hallEdition (start .args .sheet .now) read) (start .pre .0) (last .0) (last .1)
+    started-stopped (reading-opens hallEdition (start .args .sheet .now) (not-begun hallEdition (start .args .sheet .now) read)) (start .pre .0) (last .0) (last .1)
 
 same-length-4 : tie.Need-same-length-4
 same-length-4 c = search needs

@@ -8,13 +8,13 @@ use lib.ListN.{length, length-append}
 use lib.Dec.{leb, ltb}
 use borrow.Author.Tests.{leb-true}
 use Rattle.rules.specs.Hall.{Hall, hallLimits}
-use Rattle.rules.specs.Numbers.{Parsed, Refusal, parsed, refusalOf, refused}
+use Rattle.rules.specs.Numbers.{Parsed, Refusal, bind, parsed, refusalOf, refused}
 use Rattle.rules.specs.Table.{openTable}
 use Rattle.sheet_rules.specs.laws.Longest.{end-length, line-length}
 use Rattle.sheet_rules.specs.Lines.{endLine, line, linesFrom, linesOf, printed, refusalLine}
 use Rattle.sheet_rules.specs.Run.{runRecord}
-use Rattle.sheet_rules.specs.Sheet.{Carried, Edition, Record, afterHeader, bindRecords, carriedAfter, complete, decodeRecords, lentTable, maxBytes, more}
-use Rattle.sheet_rules.specs.Sheet.{noDesk, openedIf, openingNumber, reading, unopened}
+use Rattle.sheet_rules.specs.Sheet.{Carried, Edition, Record, afterOpening, bindRecords, carriedAfter, complete, decodeRecords, ifOpens, lentTable, maxBytes, more}
+use Rattle.sheet_rules.specs.Sheet.{noDesk, openingNumber, reading}
 use Rattle.sheet_rules.specs.Tally.{Tally, addStep, zeros}
 
 -- A line has a byte or more.
@@ -61,7 +61,7 @@ output-bounded edition sheet = by-length (leb (length sheet) maxBytes) (leb-true
     two-lines reason = omega (arith, line-and-rest 0 (reason .code) (reason .number) (reason .offset) 67 (endLine zeros) (end-length zeros))
 
     by-number : (n : ℕ) (hall : Hall) (next : ℕ) → length sheet ≤ maxBytes
-        → length (linesOf (openedIf n hall (decodeRecords edition (length sheet) noDesk sheet next))) ≤ 84 * 65538 + 67
+        → length (linesOf (afterOpening edition sheet (ifOpens n hall next))) ≤ 84 * 65538 + 67
     by-number zero hall next short =
         let done = openTable hallLimits hall lentTable in
         let rest : List ℕ = linesFrom (done .after) 1 zeros (decodeRecords edition (length sheet) noDesk sheet next) in
@@ -72,11 +72,12 @@ output-bounded edition sheet = by-length (leb (length sheet) maxBytes) (leb-true
         )
     by-number (suc n) hall next short = two-lines (refusalOf 0 (suc n) 0)
 
-    by-header : (found : Parsed Hall) → length sheet ≤ maxBytes → length (linesOf (afterHeader edition sheet found)) ≤ 84 * 65538 + 67
+    by-header : (found : Parsed Hall) → length sheet ≤ maxBytes
+        → length (linesOf (afterOpening edition sheet (bind found (λ hall next. ifOpens (openingNumber hall) hall next)))) ≤ 84 * 65538 + 67
     by-header (parsed hall next) short = by-number (openingNumber hall) hall next short
     by-header (refused reason) short = two-lines reason
 
     by-length : (short : Bool) → (short ≡ true → length sheet ≤ maxBytes)
-        → length (linesOf (afterHeader edition sheet (cond short (edition .decodeHeader sheet 0) (refused (refusalOf 0 18 0))))) ≤ 84 * 65538 + 67
+        → length (linesOf (afterOpening edition sheet (bind (cond short (edition .decodeHeader sheet 0) (refused (refusalOf 0 18 0))) (λ hall next. ifOpens (openingNumber hall) hall next)))) ≤ 84 * 65538 + 67
     by-length true enough = by-header (edition .decodeHeader sheet 0) (enough refl)
     by-length false enough = two-lines (refusalOf 0 18 0)

@@ -4,16 +4,15 @@ use native.Mathlib.Omega.{arith}
 use mathlib.Core.Path.{_≡_, refl, sym, ap, _∙_, subst}
 use mathlib.Core.Bool.{Bool, true, false, cond}
 use mathlib.Core.List.{List, [], _∷_, _++_, append-nil}
-use lib.ListN.{length, drop, length-append}
+use lib.ListN.{length, length-append}
 use lib.Seq.{drop-length}
 use lib.Dec.{ltb}
 use borrow.Author.Tests.{ltb-false}
 use Rattle.rules.specs.Bytes.{IsBytes}
-use Rattle.rules.specs.Hall.{Hall}
 use Rattle.rules.specs.Numbers.{Parsed, parsed, refused}
 use Rattle.sheet_rules.specs.Lawful.{Exact, Lawful, Stands}
 use Rattle.sheet_rules.specs.Sheet.{Accepted, Carried, Edition, Meaning, Record, Records, bindRecords, carriedAfter, complete, decodeRecords, encodeRecords}
-use Rattle.sheet_rules.specs.Sheet.{WrittenSheet, encodeSheet, more, noDesk, opened, stop, whole}
+use Rattle.sheet_rules.specs.Sheet.{WrittenSheet, encodeSheet, more, noDesk, opened, whole}
 use Rattle.sheet_rules.specs.laws.Parsing.{stands-join, stands-none}
 use Rattle.sheet_rules.specs.laws.Sheet.{accepted-good, first-record, opened-from, reading-back}
 

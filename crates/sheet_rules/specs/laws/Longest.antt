@@ -6,7 +6,7 @@ use mathlib.Core.List.{List, [], _∷_, _++_}
 use lib.ListN.{length, length-append}
 use lib.Dec.{ltb}
 use Rattle.sheet_rules.specs.Lines.{decimal, digits, endLine, line, spaced}
-use Rattle.sheet_rules.specs.Rewriting.{refusedLine}
+use Rattle.sheet_rules.specs.Rewriting.{refusedSheetLine}
 use Rattle.sheet_rules.specs.Tally.{Tally}
 
 digits-length : (most value : ℕ) → length (digits most value) ≤ most
@@ -43,6 +43,6 @@ end-length tally =
           (number-length (tally .refused) 32 (spaced (tally .handedBack ∷ [])) 21 (number-length (tally .handedBack) 10 [] 0 (omega arith))),
     )
 
-pub refused-length : (number offset : ℕ) → length (refusedLine number offset) ≤ 42
-unfolding refusedLine
+pub refused-length : (number offset : ℕ) → length (refusedSheetLine number offset) ≤ 42
+unfolding refusedSheetLine
 refused-length number offset = number-length number 32 (spaced (offset ∷ [])) 21 (number-length offset 10 [] 0 (omega arith))

@@ -8,10 +8,10 @@ use mathlib.Core.List.{List, [], _∷_, _++_}
 use lib.ListN.{length, take, drop, length-drop, take-append-drop}
 use lib.Seq.{drop-drop, getD-drop, take-nil}
 use lib.Dec.{eqb, leb, ltb}
-use borrow.Author.Tests.{ltb-false, ltb-true, leb-true, lt-ltb, le-ltb, le-leb, ne-eqb}
+use borrow.Author.Tests.{ltb-false, leb-true, lt-ltb, le-ltb, le-leb, ne-eqb}
 use Rattle.rules.specs.Bytes.{IsBytes}
-use Rattle.rules.specs.Numbers.{Groups, Padding, Parsed, Refusal, allowed, barred, decodeGroups, decodeNumber, groupsIn, highest, isPadded, judge, maxNumber}
-use Rattle.rules.specs.Numbers.{overlong, parsed, prepend, refusalOf, refused, takes, terminated, truncated, valueOf}
+use Rattle.rules.specs.Numbers.{Groups, Padding, Parsed, Refusal, allowed, allows, barred, decodeGroups, decodeNumber, groupsIn, highest, isPadded, judge, maxNumber}
+use Rattle.rules.specs.Numbers.{overlong, parsed, prepend, refusalOf, refused, terminated, truncated, valueOf}
 use Rattle.sheet_rules.specs.Edition1.{encodeNumber, shortest}
 use Rattle.sheet_rules.specs.Lawful.{ExactNumbers, LawfulNumbers, Moved, ReadsBack, RefusedAt, Stands}
 use Rattle.sheet_rules.specs.Offsets.{refusesNumber}
@@ -55,7 +55,7 @@ groups-taken (suc most) (byte ∷ bytes) = one-more (ltb byte 128) refl (groupsI
 -- A number that was judged and is read is at most the limit, and is not padded if padding is barred.
 record Judged (padding : Padding) (limit value : ℕ) (padded : Bool) (next found after : ℕ) : Type 0 where
   small : value ≤ limit
-  taken : takes padding padded ≡ true
+  taken : allows padding padded ≡ true
   same : value ≡ found
   offset : next ≡ after
 
@@ -63,7 +63,7 @@ judged : (padding : Padding) (limit at value : ℕ) (padded : Bool) (next found 
     → Judged padding limit value padded next found after
 judged padding limit at value padded next found after e =
     let in-limit = asked-parsed (leb value limit) _ _ found after e in
-    let not-padded = asked-parsed (takes padding padded) _ _ found after (in-limit .1) in
+    let not-padded = asked-parsed (allows padding padded) _ _ found after (in-limit .1) in
     record { small = leb-true value limit (in-limit .0); taken = not-padded .0; same = cc (not-padded .1); offset = cc (not-padded .1) }
 
 record NumberParsed (limit : ℕ) (sheet : List ℕ) (at value next : ℕ) : Type 0 where
@@ -189,7 +189,7 @@ number-refused padding limit sheet at reason e = of-groups (groupsIn 3 (drop at 
 
     of-groups : (found : Groups) → decodeGroups padding limit at found ≡ refused reason
         → RefusedAt at reason
-    of-groups (terminated groups) q = of-value (leb (valueOf groups) limit) (takes padding (isPadded groups)) (valueOf groups) (at + length groups) q
+    of-groups (terminated groups) q = of-value (leb (valueOf groups) limit) (allows padding (isPadded groups)) (valueOf groups) (at + length groups) q
     of-groups truncated q = with-number 15 refl q
     of-groups overlong q = with-number 16 refl q
 
@@ -275,11 +275,11 @@ unfolding decodeNumber encodeNumber
 number-read-back padding limit value h g sheet at next stands =
     let back = shortest-read-back 3 value (drop next sheet) (omega arith) (omega arith) in
     let offset : at + length (back .groups) ≡ next = omega (arith, back .long, stands .end) in
-    simp (stands .content, back .found, back .same, le-leb value limit h, back .unpadded, offset) (ap (λ (taken : Bool). cond taken (parsed value next) (refused (refusalOf 0 19 at))) (takes-unpadded padding))
+    simp (stands .content, back .found, back .same, le-leb value limit h, back .unpadded, offset) (ap (λ (taken : Bool). cond taken (parsed value next) (refused (refusalOf 0 19 at))) (allows-unpadded padding))
   where
-    takes-unpadded : (is : Padding) → takes is false ≡ true
-    takes-unpadded allowed = refl
-    takes-unpadded barred = refl
+    allows-unpadded : (is : Padding) → allows is false ≡ true
+    allows-unpadded allowed = refl
+    allows-unpadded barred = refl
 
 pub numbers-lawful : (padding : Padding) → LawfulNumbers (decodeNumber padding)
 numbers-lawful padding = record {

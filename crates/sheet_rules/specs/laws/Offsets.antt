@@ -10,15 +10,15 @@ use lib.ListN.{length, take}
 use lib.Dec.{leb, ltb}
 use borrow.Author.Tests.{leb-false, leb-true, ne-eqb}
 use Rattle.rules.specs.Hall.{Hall, hallLimits}
-use Rattle.rules.specs.Numbers.{Parsed, Refusal, allowed, maxNumber, parsed, refusal, refusalOf, refused}
+use Rattle.rules.specs.Numbers.{Parsed, Refusal, allowed, bind, maxNumber, parsed, refusal, refusalOf, refused}
 use Rattle.rules.specs.Table.{openTable}
 use Rattle.sheet_rules.specs.Edition1.{Format, archiveEdition, archiveFormat}
 use Rattle.sheet_rules.specs.Lawful.{LawfulNumbers}
 use Rattle.sheet_rules.specs.Lines.{answerLine, decimal, endLine, line, linesFrom, linesOf, printed, refusalLine}
 use Rattle.sheet_rules.specs.Offsets.{EditionOfNumbers, Located, NumbersBetween, OfNumbers, PrintsRefusal, ShowsByte, WholeLines, ending, endingIn, refusesNumber}
 use Rattle.sheet_rules.specs.Run.{runRecord}
-use Rattle.sheet_rules.specs.Sheet.{Carried, Edition, Reading, Record, Records, afterHeader, bindRecords, carriedAfter, complete, decodeRecords, lentTable}
-use Rattle.sheet_rules.specs.Sheet.{maxBytes, more, noDesk, opened, openedIf, openingNumber, reading, stop, unopened}
+use Rattle.sheet_rules.specs.Sheet.{Carried, Edition, Reading, Record, Records, afterOpening, bindRecords, carriedAfter, complete, decodeRecords, lentTable}
+use Rattle.sheet_rules.specs.Sheet.{ifOpens, maxBytes, more, noDesk, opened, openingNumber, reading, stop, unopened}
 use Rattle.sheet_rules.specs.Tally.{Tally, addStep, zeros}
 use Rattle.sheet_rules.specs.laws.Numbers.{allowed-never-19, numbers-lawful}
 use Rattle.sheet_rules.specs.laws.NumbersBetween.{between-append, between-one, edition1-of-numbers, fill-inside, fill-kept, located-after, no-number}
@@ -60,17 +60,18 @@ module _ {format : Format} {edition : Edition} (of-numbers : EditionOfNumbers fo
   reading-located = by-length (leb (length sheet) maxBytes)
     where
       by-number : (n : ℕ) → n ≤ 3 → (hall : Hall) (next : ℕ) → NumbersBetween format sheet 0 next
-          → EndLocated (ending (openedIf n hall (decodeRecords edition (length sheet) noDesk sheet next))) 0
+          → EndLocated (ending (afterOpening edition sheet (ifOpens n hall next))) 0
       by-number zero few hall next filled =
           end-after filled (endingIn (decodeRecords edition (length sheet) noDesk sheet next)) (records-located (length sheet) noDesk next)
       by-number (suc n) few hall next filled = no-number format sheet 0 0 (suc n) (opening-refuses-no-number (suc n) few)
 
-      by-header : (found : Parsed Hall) → OfNumbers format sheet 0 found → EndLocated (ending (afterHeader edition sheet found)) 0
+      by-header : (found : Parsed Hall) → OfNumbers format sheet 0 found
+          → EndLocated (ending (afterOpening edition sheet (bind found (λ hall next. ifOpens (openingNumber hall) hall next)))) 0
       by-header (parsed hall next) filled = by-number (openingNumber hall) (opening-never-four hall) hall next filled
       by-header (refused reason) located = located
 
       by-length : (short : Bool)
-          → EndLocated (ending (afterHeader edition sheet (cond short (edition .decodeHeader sheet 0) (refused (refusalOf 0 18 0))))) 0
+          → EndLocated (ending (afterOpening edition sheet (bind (cond short (edition .decodeHeader sheet 0) (refused (refusalOf 0 18 0))) (λ hall next. ifOpens (openingNumber hall) hall next)))) 0
       by-length true = by-header (edition .decodeHeader sheet 0) (of-numbers .header-of-numbers sheet 0)
       by-length false = no-number format sheet 0 0 18 refl
 

@@ -17,9 +17,9 @@ use Rattle.sheet_rules.specs.Edition1.{Format, archiveEdition, archiveFo
 use Rattle.sheet_rules.specs.Lawful.{LawfulNumbers, Stands}
 use Rattle.sheet_rules.specs.Lines.{decimal, digits, linesOf, printed, spaced}
 use Rattle.sheet_rules.specs.Offsets.{endingIn}
-use Rattle.sheet_rules.specs.Rewriting.{RefusedSheet, Shortened, ShortenedOrRefused, entriesIn, meaningOf, refusedLine, rewrite, shorten, writeReading}
+use Rattle.sheet_rules.specs.Rewriting.{RefusedSheet, Shortened, ShortenedOrRefused, entriesIn, meaningOf, refusedSheetLine, rewrite, shorten, writeReading}
 use Rattle.sheet_rules.specs.Rewriting.{writeUnless}
-use Rattle.sheet_rules.specs.Sheet.{Accepted, Carried, Edition, Meaning, Reading, Record, Records, carriedAfter, complete, encodeRecords, encodeSheet}
+use Rattle.sheet_rules.specs.Sheet.{Accepted, Carried, Edition, GoodMeaning, Meaning, Reading, Record, Records, carriedAfter, complete, encodeRecords, encodeSheet}
 use Rattle.sheet_rules.specs.Sheet.{lentTable, maxBytes, more, noDesk, opened, openingNumber, reading, stop, unopened, whole}
 use Rattle.sheet_rules.specs.laws.Edition1.{archive-lawful, hall-exact, hall-lawful}
 use Rattle.sheet_rules.specs.laws.Exact.{accepted-bytes, accepted-no-longer}
@@ -62,6 +62,12 @@ pub same-written : (format other : Format) (meaning : Meaning) → encodeSheet (
 unfolding encodeSheet
 same-written format other meaning =
     ap (λ (rest : List ℕ). edition1 format .encodeHeader (meaning .header) ++ rest) (records-written format other noDesk (meaning .records))
+
+pub read-by-both : (meaning : Meaning) → GoodMeaning maxNumber meaning → length (encodeSheet hallEdition meaning) ≤ maxBytes
+    → Accepted hallEdition (encodeSheet hallEdition meaning) meaning × Accepted archiveEdition (encodeSheet hallEdition meaning) meaning
+read-by-both meaning good short =
+    let same : encodeSheet archiveEdition meaning ≡ encodeSheet hallEdition meaning = same-written archiveFormat hallFormat meaning in
+    (reading-back hall-lawful meaning good short, subst (λ (bytes : List ℕ). Accepted archiveEdition bytes meaning) same (reading-back archive-lawful meaning good (omega (arith, short, ap length same))))
 
 -- ---- Shortening.
 shortened : (sheet : List ℕ) (meaning : Meaning) → Accepted archiveEdition sheet meaning → Shortened sheet (shorten sheet)
@@ -151,8 +157,8 @@ digits-start (suc most) value = by-size (ltb value 10) refl (digits-start most (
     by-size true is tenth = record { first = 48 + value; rest = []; are = refl; low = omega arith; high = omega (arith, ltb-true value 10 is) }
     by-size false is tenth = starts-then ((48 + value % 10) ∷ []) tenth
 
-line-starts : (number offset : ℕ) → Starts (refusedLine number offset)
-unfolding refusedLine decimal
+line-starts : (number offset : ℕ) → Starts (refusedSheetLine number offset)
+unfolding refusedSheetLine decimal
 line-starts number offset = starts-then (32 ∷ spaced (offset ∷ [])) (digits-start 19 number)
 
 module _ (format : Format) (numbers : LawfulNumbers (format .readNumber)) where
@@ -181,11 +187,11 @@ module _ (format : Format) (numbers : LawfulNumbers (format .readNumber)) where
       let same : hallOf (desks .0) (screens .0) (positions .0) ≡ hall = cc (positions .3) in
       (desks .1, desks .2 ∙ ap (λ (found : Hall). parsed (found .desks) (desks .1)) same)
 
-  pub line-no-sheet : (number offset : ℕ) (meaning : Meaning) → Accepted (edition1 format) (refusedLine number offset) meaning → ⊥
+  pub line-no-sheet : (number offset : ℕ) (meaning : Meaning) → Accepted (edition1 format) (refusedSheetLine number offset) meaning → ⊥
   unfolding openingNumber
   line-no-sheet number offset meaning e =
       let starts = line-starts number offset in
-      let was = opened-from (edition1 format) (refusedLine number offset) (meaning .header) (whole (meaning .records)) e in
-      let read = header-desks (refusedLine number offset) (meaning .header) (was .next) (was .read) in
+      let was = opened-from (edition1 format) (refusedSheetLine number offset) (meaning .header) (whole (meaning .records)) e in
+      let read = header-desks (refusedSheetLine number offset) (meaning .header) (was .next) (was .read) in
       let asked = limits-fit hallLimits (meaning .header) (hall-opens hallLimits (meaning .header) lentTable (was .accepted) .0) in
-      omega (arith, asked .desks .1, starts .low, first-desks (refusedLine number offset) starts (meaning .header .desks) (read .0) (read .1))
+      omega (arith, asked .desks .1, starts .low, first-desks (refusedSheetLine number offset) starts (meaning .header .desks) (read .0) (read .1))

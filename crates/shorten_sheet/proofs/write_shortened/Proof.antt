@@ -1,23 +1,32 @@
--- `shorten_sheet::write_shortened` is safe, and it ends: the bytes that were written are within the buffer.
+-- `shorten_sheet::write_shortened` meets its contract.
 use Prim.Native.Nat.{_≤_}
-use mathlib.Core.Path.{sym, ap, _∙_}
+use native.Mathlib.Omega.{arith}
+use mathlib.Core.Path.{_≡_, sym, ap, _∙_}
 use lib.ListN.{length}
 use lib.Seq.{length-take-le}
 use borrow.Author.Needs.{needs}
 use Rattle.sheet_rules.specs.Rewriting.{shorten}
-use Rattle.rewriter.specs.Output.{outputOf}
-use Rattle.rewriter.specs.Whole.{within-the-buffer}
+use Rattle.rewriter.specs.Output.{outputOf, put, writeWhole}
+use Rattle.rewriter.specs.Whole.{no-room-never, their-number, within-the-buffer}
 use Rattle.rewriter.specs.declared.Written.{Written}
 use Rattle.shorten_sheet.proofs.write_shortened.Statement.{statement}
 use Rattle.shorten_sheet.proofs.write_shortened.Tie as tie
 
--- so many bytes were written
-within : (c : tie.After-known-told) → c .before .n .given .0 .0 ≤ length (c .before .before .before .before .shorten .last .1 .0)
-within c =
+-- the first bytes of the buffer are the output
+put-whole : (c : tie.After-known-told) →
     let wrote = c .before .before .before .before .shorten in
     let buffer = c .before .before .before .before .before .before .large-buffer .result in
     let sheet = c .before .before .before .before .before .before .before .before .args .sheet .now in
-    within-the-buffer buffer (shorten sheet) (wrote .last .1 .0) (c .before .n .given .0 .0) (sym (ap (λ (r : Written). outputOf r (wrote .last .1 .0)) (c .before .n .given .1)) ∙ wrote .ensures)
+    put (wrote .last .1 .0) (c .before .n .given .0 .0) ≡ writeWhole buffer (shorten sheet)
+put-whole c =
+    let wrote = c .before .before .before .before .shorten in
+    sym (ap (λ (r : Written). outputOf r (wrote .last .1 .0)) (c .before .n .given .1)) ∙ wrote .ensures
+
+within : (c : tie.After-known-told) → c .before .n .given .0 .0 ≤ length (c .before .before .before .before .shorten .last .1 .0)
+within c =
+    let buffer = c .before .before .before .before .before .before .large-buffer .result in
+    let sheet = c .before .before .before .before .before .before .before .before .args .sheet .now in
+    within-the-buffer buffer (shorten sheet) (c .before .before .before .before .shorten .last .1 .0) (c .before .n .given .0 .0) (put-whole c)
 
 large-buffer-requires : tie.Need-large-buffer-requires
 large-buffer-requires c κs = search needs
@@ -44,10 +53,20 @@ enum-told : tie.Need-enum-told
 enum-told c = search needs
 
 returns : tie.Need-returns
-returns c = search needs
+returns c =
+    let told = c .before .before in
+    let buffer = told .before .before .before .before .before .before .large-buffer .result in
+    let sheet = told .before .before .before .before .before .before .before .before .args .sheet .now in
+    their-number buffer (shorten sheet) (told .before .before .before .before .shorten .last .1 .0) (told .before .n .given .0 .0) (put-whole told)
 
+-- there is room
 returns-2 : tie.Need-returns-2
-returns-2 c = search needs
+returns-2 c =
+    let wrote = c .before .before .before .shorten in
+    let buffer = c .before .before .before .before .before .large-buffer in
+    let sheet = c .before .before .before .before .before .before .before .args .sheet .now in
+    let none = sym (ap (λ (r : Written). outputOf r (wrote .last .1 .0)) (c .enum-told .given .1)) ∙ wrote .ensures in
+    absurd (no-room-never sheet (buffer .result) (wrote .last .1 .0) (omega (arith, buffer .ensures)) none)
 
 pub write-shortened-spec : {M : Type 1} → statement M
 write-shortened-spec =

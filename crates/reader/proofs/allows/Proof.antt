@@ -1,7 +1,7 @@
--- `reader::takes` meets its contract.
+-- `reader::allows` meets its contract.
 use borrow.Author.Needs.{needs}
-use Rattle.reader.proofs.takes.Statement.{statement}
-use Rattle.reader.proofs.takes.Tie as tie
+use Rattle.reader.proofs.allows.Statement.{statement}
+use Rattle.reader.proofs.allows.Tie as tie
 
 enum-told : tie.Need-enum-told
 enum-told c = search needs
@@ -15,6 +15,6 @@ returns c = search needs
 returns-2 : tie.Need-returns-2
 returns-2 c = search needs
 
-pub takes-spec : {M : Type 1} → statement M
-takes-spec =
+pub allows-spec : {M : Type 1} → statement M
+allows-spec =
     tie.close (tie.spec enum-told enum-told-2 returns returns-2)
