@@ -68,7 +68,7 @@ step "sheet_vectors with the old reader" 0 "$rust/sheet_vectors" \
 step "sheets" 1 "$rust/sheets" "$day_sheet" "$rust/day_sheet_reference"
 step "shortened" 1 "$rust/shortened" "$shorten_sheet" "$day_sheet"
 step "sheet_cases" 1 "$root/tests/sheet_cases.py" --check --reference "$rust/day_sheet_reference"
-step "tool" 1 "$root/tests/tool.sh" "$day_sheet"
+step "tool" 1 "$root/tests/tool.sh" "$day_sheet" "$shorten_sheet"
 step "sheet_errors" 1 "$root/tests/sheet_errors.sh" "$day_sheet" "$shorten_sheet"
 step "building the example" 0 link host_example "$root/examples/host.c"
 step "the example" 0 "$CARGO_TARGET_DIR/host_example"

@@ -1,14 +1,14 @@
 #!/bin/sh
 # Tests tools/sheet from the command line, with valid and invalid input:
 #
-#     tests/tool.sh PROGRAM [SHORTEN]
+#     tests/tool.sh DAY_SHEET SHORTEN_SHEET
 #
-# PROGRAM is a sheet program. SHORTEN rewrites sheets of the archive; if it is not given, it is the shorten_sheet beside PROGRAM.
+# Both programs are needed: DAY_SHEET runs a day sheet, and SHORTEN_SHEET writes an old one in shortest form.
 set -eu
 
 usage() {
     echo "tool: $1"
-    echo "usage: $0 PROGRAM [SHORTEN]"
+    echo "usage: $0 DAY_SHEET SHORTEN_SHEET"
     exit 2
 }
 
@@ -17,13 +17,12 @@ program_at() {
     echo "$(cd "$(dirname "$1")" && pwd)/$(basename "$1")"
 }
 
-[ $# -eq 1 ] || [ $# -eq 2 ] || usage "one or two programs are needed"
-shorten=${2:-$(dirname "$1")/shorten_sheet}
-for file in "$1" "$shorten"; do
+[ $# -eq 2 ] || usage "two programs are needed"
+for file; do
     [ -f "$file" ] && [ -x "$file" ] || usage "$file is not a program"
 done
 program=$(program_at "$1")
-shorten=$(program_at "$shorten")
+shorten=$(program_at "$2")
 root=$(cd "$(dirname "$0")/.." && pwd)
 work=$(mktemp -d)
 trap 'rm -rf "$work"' EXIT
