@@ -7,7 +7,7 @@ usage: tests/documents.py [DOCUMENT ...]        by default README.md, tests/READ
 - `board::open`, `board::Board::need`: the crate's source declares it. A path of no crate (`u64::count_ones`) must occur in a source.
 - `laws/table/EncodedStep`, `tests/host`: a file or a folder has this path, or ends with it; CRATE, NAME and NN match any name.
 - `need`: a definition, a field, a constructor, a function, a constant, a type, an edit, a file or a folder, or a word of a test, a
-  tool, the header or the Makefile.
+  tool, the header or the Makefile. No word of a Markdown file is one: a document would declare its own names.
 A phrase, an option, an extension and a path outside the repository (../) are ignored.
 """
 import collections
@@ -74,7 +74,7 @@ class Names:
             self.crates[path.parts[1]] |= declared
             self.words |= declared
             self.sources.append(text)
-        elif path.parts[0] != 'docs':
+        elif path.parts[0] != 'docs' and file.suffix != '.md':
             self.words.update(WORD.findall(text))
             if file.suffix == '.rs' or file.name == 'Makefile':
                 self.sources.append(text)
