@@ -81,12 +81,6 @@ fn numbers_outside_the_hall_are_kept() {
     assert_eq!(shortened(&[1, 1, 1, 2, 0x80, 0x00, 9]), [1, 1, 1, 2, 0, 9]);
 }
 
-#[test]
-fn shortening_again_changes_nothing() {
-    let shortest = shortened(&encoded(&numbers(), 3));
-    assert_eq!(shortened(&shortest), shortest);
-}
-
 /// The questions of the opening, in its order, once all three numbers are read.
 #[test]
 fn refused_halls() {
