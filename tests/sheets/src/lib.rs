@@ -1,5 +1,5 @@
 //! What the comparisons of sheet programs share: the sheets, how a program runs
-//! on one, and how many of them are compared.
+//! on one, how many of them are compared, and how wide the offsets are.
 
 mod bytes;
 mod command_line;
@@ -10,6 +10,7 @@ mod fixed;
 mod folder;
 mod make;
 mod many;
+mod offsets;
 mod program;
 #[path = "../../compare/src/rng.rs"]
 mod rng;
@@ -20,4 +21,5 @@ pub use comparison::{Comparison, Tally};
 pub use difference::{first_difference_in_bytes, first_difference_in_lines};
 pub use folder::with_folder;
 pub use make::{archive_sheet, sheet};
+pub use offsets::{width_of, WIDTHS};
 pub use program::{InputMode, Output, Runner};

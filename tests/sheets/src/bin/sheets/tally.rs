@@ -1,7 +1,7 @@
 //! What was compared: the lines, by reply number and by what they answer, and
 //! the offsets that they print.
 
-use sheets::Tally;
+use sheets::{width_of, Tally, WIDTHS};
 use std::fmt;
 
 const NUMBERS: usize = 20;
@@ -25,10 +25,6 @@ const BAD_CODE: usize = 7;
 
 /// The reply numbers that print an offset.
 const WITH_OFFSET: [usize; 3] = [15, 16, 19];
-
-/// The offsets, by how wide they are: from each of these up to the next. Only
-/// one reaches the last: a field that should start where the longest sheet ends.
-const WIDTHS: [usize; 5] = [0, 1, 256, 32_768, 65_536];
 
 type Counts<const KINDS: usize> = [[u64; KINDS]; COLUMNS.len()];
 
@@ -101,10 +97,6 @@ fn column(record: usize, code: usize, number: usize) -> usize {
         (_, 1..=5) => code,
         _ => NO_CODE,
     }
-}
-
-fn width_of(offset: usize) -> usize {
-    WIDTHS.partition_point(|&from| from <= offset) - 1
 }
 
 /// The widths of offset that must occur. A code that is missing is no fault, and

@@ -1,13 +1,15 @@
 //! What was compared: the sheets, by the number that refuses them and its offset.
 
 use reference::sheet::Columns;
-use sheets::Tally;
+use sheets::{width_of, Tally, WIDTHS};
 use std::fmt;
+
+const ACCEPTED: u32 = 0;
 
 /// Accepted, and the numbers that refuse a sheet, with the offsets that must
 /// occur. Only 15 and 16 have one.
-const OUTCOMES: [(u32, &[u32]); 8] = [
-    (0, &[0]),
+const OUTCOMES: [(u32, &[usize]); 8] = [
+    (ACCEPTED, &[0]),
     (1, &[0]),
     (2, &[0]),
     (3, &[0]),
@@ -16,10 +18,6 @@ const OUTCOMES: [(u32, &[u32]); 8] = [
     (17, &[0]),
     (18, &[0]),
 ];
-
-/// The offsets, by how wide they are: from each of these up to the next. Only one
-/// reaches the last: a field that should start where the longest sheet ends.
-const WIDTHS: [u32; 5] = [0, 1, 256, 32_768, 65_536];
 
 /// Far fewer would mean that most sheets come out as they were.
 const LEAST_SHORTER: u64 = 1000;
@@ -34,8 +32,8 @@ pub struct Outcomes {
 impl Outcomes {
     pub fn count(&mut self, sheet: &[u8], outcome: &Result<Vec<u8>, Columns>) {
         let (number, offset) = match outcome {
-            Ok(_) => (0, 0),
-            Err(refused) => (refused.number, refused.session),
+            Ok(_) => (ACCEPTED, 0),
+            Err(refused) => (refused.number, refused.session as usize),
         };
         let row = OUTCOMES.iter().position(|&(of_row, _)| of_row == number);
         self.counts[row.expect("a number that refuses a sheet")][width_of(offset)] += 1;
@@ -53,8 +51,8 @@ impl Tally for Outcomes {
     fn missing(&self) -> Vec<String> {
         let mut missing = Vec::new();
         for ((number, offsets), counts) in OUTCOMES.iter().zip(&self.counts) {
-            let never = offsets.iter().filter(|&&from| counts[width_of(from)] == 0);
-            missing.extend(never.map(|from| format!("never {number} at an offset from {from}")));
+            let unseen = offsets.iter().filter(|&&from| counts[width_of(from)] == 0);
+            missing.extend(unseen.map(|&from| never(*number, from)));
         }
         if self.shorter < LEAST_SHORTER {
             missing.push(format!("only {} sheets became shorter", self.shorter));
@@ -63,8 +61,12 @@ impl Tally for Outcomes {
     }
 }
 
-fn width_of(offset: u32) -> usize {
-    WIDTHS.partition_point(|&from| from <= offset) - 1
+fn never(number: u32, from: usize) -> String {
+    match number {
+        ACCEPTED => "no sheet was accepted".to_string(),
+        15 | 16 => format!("never {number} at an offset from {from}"),
+        _ => format!("never {number}"),
+    }
 }
 
 impl fmt::Display for Outcomes {
