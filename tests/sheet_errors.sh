@@ -125,7 +125,7 @@ errors shorten_sheet "$shorten_sheet" '\1\1\1\4\1' '15 0\n'
 helps "what it writes" 'shortest form'
 helps "refused sheets" 'refused.* line\|line.* refused'
 
-# More than a page of output.
+# The longest sheet: 65,536 bytes in, 32,769 out.
 { printf '\201\0\1\1'; head -c 65532 /dev/zero | sed 's/\x00\x00\x00\x00/\x85\x00\x81\x00/g'; } >long
 from_long() { quick <long | cksum >out; }
 run from_long
