@@ -491,7 +491,7 @@ shortened() {
     "$shorten" <"$2" >out
     same "shorten_sheet <$2" expected out
 }
-rewritten="if the sheet is from the archive, 'shorten_sheet' rewrites it in shortest form"
+rewritten="'shorten_sheet' rewrites the sheet in shortest form"
 refused_too="'shorten_sheet' refuses the sheet too"
 ends_at="the reading ends at byte 8: the code of record 2 is 5, padded: 85 00 instead of 05 (reply number 19)"
 printf '\001\001\001\003\001\001\254\002\205\000\201\200\000' >padded.sheet
@@ -553,9 +553,26 @@ shortened "1 0" padded.sheet
 
 # The line of a refused sheet, where the rewritten one was expected.
 printf '\001\001\001\005\200\200\004' | "$shorten" >line.sheet
-no_sheet="line.sheet: this is not a sheet; 'shorten_sheet' refused one and wrote the line '16 4' instead"
-refused 2 "$no_sheet" decode line.sheet
-refused 2 "$no_sheet" explain line.sheet --program "$program"
+no_sheet="line.sheet: this is not a sheet; 'shorten_sheet' refused one and wrote the line"
+too_large="16 at byte 4 of the old sheet: a number must end within three bytes and be at most 65,535"
+refused 2 "$no_sheet '16 4' instead ($too_large)" decode line.sheet
+refused 2 "$no_sheet '16 4' instead ($too_large)" explain line.sheet --program "$program"
+head -c 10 d.sheet | "$shorten" >line.sheet
+refused 2 "$no_sheet '15 10' instead (15 at byte 10 of the old sheet: the sheet ends before this number is complete)" decode line.sheet
+"$shorten" <desks.sheet >line.sheet
+refused 2 "$no_sheet '1 0' instead (1: a hall has 1 to 16 desks)" decode line.sheet
+"$shorten" <unknown.sheet >line.sheet
+refused 2 "$no_sheet '17 0' instead (17: no step has this code; the codes are 1 to 5)" find line.sheet --byte 0
+"$shorten" <long.sheet >line.sheet
+refused 2 "$no_sheet '18 0' instead (18: a sheet has at most 65,536 bytes)" find line.sheet --record 0
+# Lines that it does not write are bytes like others.
+for line in "0 0" "17 3" "19 4" "99 0"; do
+    echo "$line" >line.sheet
+    status=0
+    sheet decode line.sheet >out 2>err || status=$?
+    [ "$status" -eq 2 ] && grep -q "^sheet: line.sheet: $no_record: number P" err || { cat err; fail "decode: '$line'"; }
+    passed
+done
 
 # Records and bytes that are not there, or after the end of the reading.
 ends_at="the reading ends at byte 13: the desk of record 3 (collect) is cut off after 1 byte (reply number 15)"

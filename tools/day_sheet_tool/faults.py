@@ -21,7 +21,7 @@ def shortened(data):
     end = read(data, archived=True).end
     if end:
         return f"'shorten_sheet' refuses the sheet too: {where_and_why(end)}"
-    return "if the sheet is from the archive, 'shorten_sheet' rewrites it in shortest form"
+    return "'shorten_sheet' rewrites the sheet in shortest form"
 
 
 def where_and_why(fault):

@@ -4,9 +4,11 @@ import re
 import sys
 
 from .errors import UserError
-from .steps import MAX_BYTES
+from .reading import WITH_OFFSET
+from .steps import MAX_BYTES, REASONS
 
 MAX_TEXT = 16 * 1024 * 1024
+REFUSAL = re.compile(rb"(15|16) [0-9]{1,5}\n|([123]|17|18) 0\n")  # all that 'shorten_sheet' writes for a refused sheet
 A_SHEET = "is it a sheet already? then 'decode' reads it"
 
 
@@ -29,10 +31,16 @@ def read_sheet(name):
     words = (line.split(b"#", 1)[0].split() for line in data.split(b"\n"))
     if next(filter(None, words), [b""])[0] == b"hall":  # as bytes, these letters would mean 104 desks
         raise UserError(f"{name}: this is the text of a sheet; 'encode' makes the sheet")
-    if re.fullmatch(rb"[0-9]{1,2} [0-9]{1,5}\n", data):  # as bytes, the first digit would mean 48 desks or more
-        line = data.decode().strip()
-        raise UserError(f"{name}: this is not a sheet; 'shorten_sheet' refused one and wrote the line '{line}' instead")
+    if REFUSAL.fullmatch(data):  # as bytes, the first digit would mean 49 desks or more
+        raise UserError(f"{name}: this is not a sheet; 'shorten_sheet' refused one and wrote {refusal(data)}")
     return data
+
+
+def refusal(line):
+    """'the line '15 10' instead (15 at byte 10 of the old sheet: the sheet ends before this number is complete)'"""
+    number, offset = map(int, line.split())
+    where = f" at byte {offset} of the old sheet" if number in WITH_OFFSET else ""
+    return f"the line '{line.decode().strip()}' instead ({number}{where}: {REASONS[number]})"
 
 
 def read_text(name):
