@@ -668,21 +668,29 @@ worked "Padded numbers" 6
 awk 'sub(/^    /, "") && /shorten_sheet < OLD.sheet/ { on = 1 } /^$/ { on = 0 } on' "$root/docs/SHEETS.md" |
     sed 's|target/bin/shorten_sheet|"$1"|' >script
 [ "$(wc -l <script)" -eq 2 ] || fail "docs/SHEETS.md: no lines for scripts"
-# scripted MESSAGE: what they print if OLD.sheet is the input.
+# scripted MESSAGE PROGRAM: the last line that they print if OLD.sheet is the input. (The shell prints one before it if there is
+# no such file.)
 scripted() {
     printf "$1" >expected
-    sh script "$shorten" >out 2>&1
+    sh script "$2" >printed 2>&1
+    tail -n 1 printed >out
     same "the lines for scripts: '$1'" expected out
 }
 cp d.sheet OLD.sheet
-scripted ''
+scripted '' "$shorten"
 printf '\012\001\001' >OLD.sheet # the number of desks is a newline
-scripted ''
+scripted '' "$shorten"
 printf '\061\001\001' >OLD.sheet # it is a digit: no hall has so many
-scripted 'NEW.sheet is not a sheet\n'
-rm OLD.sheet
+scripted 'NEW.sheet is not a sheet\n' "$shorten"
+cp d.sheet OLD.sheet
+printf '#!/bin/sh\nhead -c 10\nkill -PIPE $$\nexit 1\n' >killed # within the sheet, by a signal of which shells print nothing
+chmod +x killed
+scripted 'NEW.sheet is not a sheet\n' ./killed
+scripted '' "$shorten"
+rm OLD.sheet # NEW.sheet is the one before
+scripted 'NEW.sheet is not a sheet\n' "$shorten"
 mkdir OLD.sheet
-scripted 'NEW.sheet is not a sheet\n'
+scripted 'NEW.sheet is not a sheet\n' "$shorten"
 
 # Random bytes: a message, never a Python traceback.
 for at in 1 2 3; do
