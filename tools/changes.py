@@ -15,7 +15,7 @@ OTHER = {'+': '-', '-': '+', '*': '+', '/': '%', '%': '/', '&&': '||', '||': '&&
 DROPPED = {'+', '*', '&&', '||', '++', '∷', '×'}   # either operand may be dropped
 FIRST_KEPT = {'-', '/', '%'}                      # the second may
 EXCHANGED = {'-', '/', '%', '++', '∷', '<', '≤'}
-FAMILIES = [['ltb', 'leb', 'eqb'], ['take', 'drop'], ['true', 'false']]
+FAMILIES = [['ltb', 'leb', 'eqb'], ['take', 'drop'], ['true', 'false'], ['allowed', 'barred']]
 # what the kit's library takes, as far as two of its arguments may have one type
 LIBRARY = {
     'getD': 'List A → ℕ → ℕ → ℕ', 'set': 'List A → ℕ → ℕ → List A', 'replicate': 'ℕ → ℕ → List ℕ', 'ltb': 'ℕ → ℕ → Bool', 'leb': 'ℕ → ℕ → Bool',
@@ -49,7 +49,7 @@ def signature_of(item):
 
 def block_of(item):
     """The fields or constructors of a record or a data type: start within the item, name, type as written."""
-    for found in re.finditer(r"^  (?:pub )?([\w']+) : (.*(?:\n   .*)*)", item, re.M):
+    for found in re.finditer(r"^  (?:pub )?([\w'-]+) : (.*(?:\n   .*)*)", item, re.M):
         yield found.start(), found[1], found[2]
 
 

@@ -75,8 +75,9 @@ MODULE = re.compile(r'^pub mod (\w+)$', re.M)
 
 
 def used_by(text, crate):
-    """The files of a crate's specs that a text of it uses."""
-    return [f'specs/{module.replace(".", "/")}.antt' for owner, module in USE.findall(text) if owner == crate]
+    """The files of a crate's specs that a text of it uses; what its code declares has no file."""
+    used = [module for owner, module in USE.findall(text) if owner == crate and not module.startswith('declared.')]
+    return [f'specs/{module.replace(".", "/")}.antt' for module in used]
 
 
 def closure(folder, wanted, texts):
