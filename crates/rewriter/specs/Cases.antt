@@ -1,14 +1,11 @@
--- Computed cases of writing into a buffer, and of what is found of a sheet of the archive before it is written.
+-- Computed cases of writing into a buffer, and of what is measured of a sheet of the archive before it is written.
 use Prim.Native.Nat.{ℕ}
 use native.Mathlib.Omega.{arith}
 use mathlib.Core.Path.{_≡_, refl}
 use mathlib.Core.List.{List, [], _∷_, map}
-use lib.ListN.{replicate}
-use Rattle.rules.specs.Hall.{hallOf}
-use Rattle.rules.specs.Numbers.{decodeNumber, parsed, refusal, refusalOf}
-use Rattle.sheet_rules.specs.Edition1.{archiveEdition, decodeHeader, decodeRecord, encodeNumber, encodeRecord}
-use Rattle.sheet_rules.specs.Sheet.{lentTable, openingNumber}
-use Rattle.rewriter.specs.Measure.{NothingEnds, bytes, endedBy, openSheet, recordsFrom, recordsSize, sizeOf, writtenFrom}
+use Rattle.rules.specs.Numbers.{decodeNumber, refusalOf}
+use Rattle.sheet_rules.specs.Edition1.{decodeRecord, encodeNumber, encodeRecord}
+use Rattle.rewriter.specs.Measure.{NothingEnds, bytes, endedBy, recordsFrom, recordsSize, sizeOf, writtenFrom}
 use Rattle.rewriter.specs.Output.{noRoom, outputOf, put, writeWhole}
 use Rattle.rewriter.specs.declared.Measured.the-variants.{Length, Refused}
 use Rattle.rewriter.specs.declared.Written.the-variants.{Bytes, NoRoom}
@@ -26,16 +23,7 @@ bytes-written = refl
 pub results-say : (outputOf (Bytes 1) (8 ∷ 9 ∷ []) ≡ put (8 ∷ 9 ∷ []) 1) × (outputOf NoRoom (8 ∷ 9 ∷ []) ≡ noRoom (8 ∷ 9 ∷ []))
 results-say = (refl, refl)
 
--- ---- What is found.
-
--- A hall that opens, and the offset after its padded header; one with too many desks, and one with too many positions; a header that the
--- sheet cuts short; a sheet that is too long.
-pub sheets-opened :
-    map (λ (sheet : List ℕ). openSheet archiveEdition sheet)
-    ((0x81 ∷ 0x00 ∷ 2 ∷ 3 ∷ 5 ∷ []) ∷ (17 ∷ 1 ∷ 1 ∷ []) ∷ (1 ∷ 1 ∷ 65 ∷ []) ∷ (1 ∷ 0x80 ∷ []) ∷ replicate 65537 0 ∷ [])
-    ≡ parsed (hallOf 1 2 3) 4 ∷ refusal 0 1 0 ∷ refusal 0 3 0 ∷ refusal 0 15 1 ∷ refusal 0 18 0 ∷ []
-unfolding decodeHeader decodeNumber openingNumber lentTable
-sheets-opened = refl
+-- ---- What is measured.
 
 -- The records from offset 3 on: two of them, padded, and no record; and a number that is too large after a record.
 abbrev two : List ℕ

@@ -6,10 +6,10 @@ use lib.ListN.{getD, length, replicate}
 use Rattle.rules.specs.Hall.{hallOf}
 use Rattle.rules.specs.Lists.{toNat}
 use Rattle.rules.specs.Numbers.{barred, decodeNumber, parsed, refusal, refusalOf}
-use Rattle.sheet_rules.specs.Edition1.{Format, decodeHeader, decodeRecord, edition1, encodeHeader, encodeNumber, encodeRecord, hallEdition}
+use Rattle.sheet_rules.specs.Edition1.{Format, archiveEdition, decodeHeader, decodeRecord, edition1, encodeHeader, encodeNumber, encodeRecord, hallEdition}
 use Rattle.sheet_rules.specs.Lines.{decimal, endingLine, line}
 use Rattle.sheet_rules.specs.Sheet.{Carried, Edition, Meaning, Record, Records, complete, encodeSheet, fieldTable, follows, lastDesk, lentTable, more}
-use Rattle.sheet_rules.specs.Sheet.{noDesk, opened, openingNumber, reading, recordFor, stop, unopened, whole}
+use Rattle.sheet_rules.specs.Sheet.{noDesk, openSheet, opened, openingNumber, reading, recordFor, stop, unopened, whole}
 use Rattle.sheet_rules.specs.SheetCases.{sheetD, text}
 
 -- ---- Records. "A table of twenty entries says which of desk, screen, position and session follow each code."
@@ -106,6 +106,15 @@ pub unopened-sheets :
     × (reading hallEdition (replicate 65537 0) ≡ unopened (refusalOf 0 18 0))
 unfolding reading decodeHeader decodeNumber openingNumber lentTable
 unopened-sheets = (refl, refl, refl)
+
+-- A hall that opens, and the offset after its padded header; one with too many desks, and one with too many positions; a header that the
+-- sheet cuts short; a sheet that is too long.
+pub sheets-opened :
+    map (λ (sheet : List ℕ). openSheet archiveEdition sheet)
+    ((0x81 ∷ 0x00 ∷ 2 ∷ 3 ∷ 5 ∷ []) ∷ (17 ∷ 1 ∷ 1 ∷ []) ∷ (1 ∷ 1 ∷ 65 ∷ []) ∷ (1 ∷ 0x80 ∷ []) ∷ replicate 65537 0 ∷ [])
+    ≡ parsed (hallOf 1 2 3) 4 ∷ refusal 0 1 0 ∷ refusal 0 3 0 ∷ refusal 0 15 1 ∷ refusal 0 18 0 ∷ []
+unfolding decodeHeader decodeNumber openingNumber lentTable
+sheets-opened = refl
 
 -- ---- A meaning that can be written: its bytes.
 abbrev pub small : Meaning
