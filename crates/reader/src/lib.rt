@@ -5,7 +5,7 @@ use fields::SESSION;
 use fields::follows;
 ghost use mathlib.Core.Path.{_≡_};
 ghost use Prim.Native.Nat.{_≤_, _<_};
-ghost use Rattle.rules.specs.Numbers.{judge as judged, refusal, refusalOf, allows as allowsPadded};
+ghost use Rattle.rules.specs.Numbers.{allows as allowsPadded, judge as judged, refusal, refusalOf};
 ghost use Rattle.sheet_rules.specs.Edition1.{decodeField, decodeFields, decodeRest, edition1, withCode};
 ghost use Rattle.sheet_rules.specs.Sheet.{beginSheet, follows as followsCode};
 ghost use Rattle.reader.specs.Results.{carriedOf, formatOf, headerResult, numberResult, paddingOf, reasonOf, recordResult};
