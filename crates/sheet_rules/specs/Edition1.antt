@@ -103,7 +103,7 @@ edition1 format = record {
   encodeRecord = λ carried. encodeRecord;
 }
 
--- The hall's sheets are of edition 1, and so are those in the archive.
+-- The hall's sheets of edition 1, and those in the archive.
 abbrev pub hallEdition : Edition
 hallEdition = edition1 hallFormat
 

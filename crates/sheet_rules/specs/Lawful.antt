@@ -72,7 +72,7 @@ pub record RefusedAt (at : ℕ) (reason : Refusal) : Type 0 where
   pub carries : reason ≡ refusalOf 0 (reason .number) at
   pub refuses : refusesNumber (reason .number) ≡ true
 
--- What edition 1 requires of a reader of numbers: it reads back the shortest form; what it reads has at least one byte, no fewer bytes than
+-- What both editions require of a reader of numbers: it reads back the shortest form; what it reads has at least one byte, no fewer bytes than
 -- the shortest form, and is at most the limit. What it reads depends neither on the bytes after the number nor on a larger limit. A refusal
 -- carries the offset at which the number was read.
 pub record LawfulNumbers (readNumber : NumberReader) : Type 0 where

@@ -10,13 +10,15 @@ use lib.ListN.{length, take, drop}
 use Rattle.rules.specs.Bytes.{IsBytes}
 use Rattle.rules.specs.Hall.{hallOf}
 use Rattle.rules.specs.Numbers.{Parsed, Refusal, parsed, refusal, refusalOf, refused}
-use Rattle.sheet_rules.specs.Edition1.{Format, NumberReader, archiveEdition, encodeNumber, hallEdition}
+use Rattle.sheet_rules.specs.OtherEdition.{HeaderNumberRefused, RefusedHeader}
+use Rattle.sheet_rules.specs.Edition1.{Format, NumberReader, archiveEdition, decodeHeader, edition1, encodeNumber, hallEdition}
 use Rattle.sheet_rules.specs.Lawful.{CarriedHolds, Exact, ExactNumbers, Lawful, LawfulNumbers, Moved, ReadsBack, RefusedAt, Stands}
-use Rattle.sheet_rules.specs.Lines.{endLine, line}
+use Rattle.sheet_rules.specs.Lines.{endLine, line, printed, refusalLine}
 use Rattle.sheet_rules.specs.Offsets.{EditionOfNumbers, Located, NumberThen, NumbersBetween, NumbersFill, OfNumbers, PrintsRefusal, ShowsByte, WholeLines, ending, refusesNumber}
-use Rattle.sheet_rules.specs.Rewriting.{RefusedSheet, Shortened, ShortenedOrRefused, refusedSheetLine}
+use Rattle.sheet_rules.specs.Rewriting.{RefusedSheet, Rewritten, RewrittenOrRefused, Shortened, ShortenedOrRefused, TooLong, refusedSheetLine}
 use Rattle.sheet_rules.specs.Sheet.{Accepted, EachGood, Edition, GoodMeaning, GoodRecord, Meaning, Record, isCode, lastDesk, noDesk, opened, openingNumber}
 use Rattle.sheet_rules.specs.Sheet.{WrittenSheet, encodeSheet, reading, recordFor, whole}
+use Rattle.sheet_rules.specs.Tally.{zeros}
 
 -- ---- Records that a sheet can have, where sessions are at most 999: a take has no session, a swap has no screen, and a retire
 -- has no screen, position or session.
@@ -185,17 +187,42 @@ pub says-prints-refusal : (text : List ℕ) (prints : PrintsRefusal text (refusa
     → WholeLines (prints .before) × (text ≡ prints .before ++ (line (prints .index) 3 15 8 ++ endLine (prints .tally)))
 says-prints-refusal text prints = (prints .whole, prints .printed)
 
--- ---- A sheet of the archive that is written anew, or refused.
-pub says-shortened : (sheet output : List ℕ) (short : Shortened sheet output)
-    → Accepted archiveEdition sheet (short .meaning)
-    × (output ≡ encodeSheet hallEdition (short .meaning))
-    × Accepted hallEdition output (short .meaning)
-    × (length output ≤ length sheet)
-says-shortened sheet output short = (short .was-accepted, short .written, short .is-accepted, short .no-longer)
+-- ---- A sheet that is written anew, or refused.
+module _ (from to : Edition) (sheet output : List ℕ) where
+  pub says-rewritten : (is : Rewritten from to sheet output)
+      → Accepted from sheet (is .meaning) × (output ≡ encodeSheet to (is .meaning)) × Accepted to output (is .meaning)
+  says-rewritten is = (is .was-accepted, is .written, is .is-accepted)
 
-pub says-refused-sheet : (sheet output : List ℕ) (refusal : RefusedSheet sheet output)
-    → (ending (reading archiveEdition sheet) ≡ some (refusal .reason)) × (output ≡ refusedSheetLine (refusal .reason .number) (refusal .reason .offset))
-says-refused-sheet sheet output refusal = (refusal .ends, refusal .line)
+  pub says-too-long : (is : TooLong from to sheet output)
+      → Accepted from sheet (is .meaning) × (65536 < length (encodeSheet to (is .meaning))) × (output ≡ refusedSheetLine 18 0)
+  says-too-long is = (is .was-accepted, is .over, is .line)
 
-pub says-shortened-or-refused : (sheet output : List ℕ) → ShortenedOrRefused sheet output → Shortened sheet output ⊎ RefusedSheet sheet output
-says-shortened-or-refused sheet output is = is
+  pub says-refused-sheet : (is : RefusedSheet from sheet output)
+      → (ending (reading from sheet) ≡ some (is .reason)) × (output ≡ refusedSheetLine (is .reason .number) (is .reason .offset))
+  says-refused-sheet is = (is .ends, is .line)
+
+  pub says-rewritten-or-refused : RewrittenOrRefused from to sheet output
+      → Rewritten from to sheet output ⊎ (TooLong from to sheet output ⊎ RefusedSheet from sheet output)
+  says-rewritten-or-refused is = is
+
+module _ (sheet output : List ℕ) where
+  pub says-shortened : Shortened sheet output → Rewritten archiveEdition hallEdition sheet output × (length output ≤ length sheet)
+  says-shortened is = (is .rewritten, is .no-longer)
+
+  pub says-shortened-or-refused : ShortenedOrRefused sheet output → Shortened sheet output ⊎ RefusedSheet archiveEdition sheet output
+  says-shortened-or-refused is = is
+
+-- ---- What a reader of edition 1 says to a sheet that starts with 0.
+module _ (format : Format) (sheet : List ℕ) where
+  pub says-header-number-refused : (is : HeaderNumberRefused format sheet (refusalOf 0 15 8))
+      → (is .count < 3)
+      × NumbersFill (format .readNumber) sheet (is .count) 0 8
+      × (format .readNumber 65535 sheet 8 ≡ refusal 0 15 8)
+      × (refusesNumber 15 ≡ true)
+  says-header-number-refused is = (is .few, is .before, is .refuses, is .a-number)
+
+  pub says-refused-header : (is : RefusedHeader format sheet)
+      → (printed (edition1 format) sheet ≡ refusalLine 0 (is .reason) ++ endLine zeros)
+      × (decodeHeader (format .readNumber) sheet 0 ≡ parsed (hallOf 0 3 4) 8 → is .reason ≡ refusalOf 0 1 0)
+      × (decodeHeader (format .readNumber) sheet 0 ≡ refusal 0 15 8 → (is .reason ≡ refusalOf 0 15 8) × HeaderNumberRefused format sheet (refusalOf 0 15 8))
+  says-refused-header is = (is .two-lines, is .gets-through (hallOf 0 3 4) 8, is .otherwise (refusalOf 0 15 8))

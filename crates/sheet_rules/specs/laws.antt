@@ -1,9 +1,11 @@
 pub mod Parsing
 pub mod Numbers
 pub mod Edition1
+pub mod Edition2
 pub mod Sheet
 pub mod Exact
 pub mod Longest
+pub mod Editions
 pub mod Rewriting
 pub mod NumbersBetween
 pub mod Offsets

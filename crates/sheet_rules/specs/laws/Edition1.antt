@@ -20,7 +20,7 @@ use Rattle.sheet_rules.specs.laws.Numbers.{numbers-lawful, shortest-numb
 use Rattle.sheet_rules.specs.laws.Parsing.{asked-parsed, bind-parsed, bind-read-back, last-read-back, refused-not-parsed, same-parsed, stands-join}
 use Rattle.sheet_rules.specs.laws.Parsing.{stands-none}
 
-coded-parsed : {A : Type 0} (code : ℕ) (inner : Parsed A) (value : A) (next : ℕ) → withCode code inner ≡ parsed value next
+pub coded-parsed : {A : Type 0} (code : ℕ) (inner : Parsed A) (value : A) (next : ℕ) → withCode code inner ≡ parsed value next
     → inner ≡ parsed value next
 coded-parsed code (parsed a middle) value next e = e
 coded-parsed code (refused reason) value next e = absurd (refused-not-parsed e)
@@ -57,15 +57,15 @@ module _ (format : Format) (numbers : LawfulNumbers (format .readNumber)) where
       length-append (encodeField (follows code screenField) screen) _
       ∙ ap (λ (n : ℕ). length (encodeField (follows code screenField) screen) + n) (length-append (encodeField (follows code positionField) position) _)
 
-  record RestParsed (code desk : ℕ) (sheet : List ℕ) (at : ℕ) (entry : Record) (next : ℕ) : Type 0 where
-    good : isCode code ≡ true → FieldHolds (follows code deskField) maxNumber desk → GoodRecord (format .maxSession) entry
-    past : at ≤ next
-    inside : next ≤ length sheet
-    same-code : entry .code ≡ code
-    same-desk : entry .desk ≡ desk
-    no-longer : at + length (encodeRest entry) ≤ next
+  pub record RestParsed (code desk : ℕ) (sheet : List ℕ) (at : ℕ) (entry : Record) (next : ℕ) : Type 0 where
+    pub good : isCode code ≡ true → FieldHolds (follows code deskField) maxNumber desk → GoodRecord (format .maxSession) entry
+    pub past : at ≤ next
+    pub inside : next ≤ length sheet
+    pub same-code : entry .code ≡ code
+    pub same-desk : entry .desk ≡ desk
+    pub no-longer : at + length (encodeRest entry) ≤ next
 
-  rest-parsed : (code desk : ℕ) (sheet : List ℕ) (at : ℕ) (entry : Record) (next : ℕ) → at ≤ length sheet
+  pub rest-parsed : (code desk : ℕ) (sheet : List ℕ) (at : ℕ) (entry : Record) (next : ℕ) → at ≤ length sheet
       → decodeRest format code desk sheet at ≡ parsed entry next
       → RestParsed code desk sheet at entry next
   rest-parsed code desk sheet at entry next h e =
@@ -85,46 +85,70 @@ module _ (format : Format) (numbers : LawfulNumbers (format .readNumber)) where
         no-longer = omega (arith, g₁ .no-longer, g₂ .no-longer, g₃ .no-longer, rest-length code (e₁ .0) (e₂ .0) (e₃ .0));
       })
 
-  record RecordParsed (sheet : List ℕ) (at : ℕ) (entry : Record) (next : ℕ) : Type 0 where
-    good : GoodRecord (format .maxSession) entry
-    moved : Moved sheet at next
-    no-longer : at + length (encodeRecord entry) ≤ next
+  -- all fields of a record whose code was read
+  pub record FieldsParsed (code : ℕ) (sheet : List ℕ) (at : ℕ) (entry : Record) (next : ℕ) : Type 0 where
+    pub good : isCode code ≡ true → GoodRecord (format .maxSession) entry
+    pub past : at ≤ next
+    pub inside : next ≤ length sheet
+    pub same-code : entry .code ≡ code
+    pub no-longer : at + length (encodeFields entry) ≤ next
+
+  fields-parsed : (code : ℕ) (sheet : List ℕ) (at : ℕ) (entry : Record) (next : ℕ) → at ≤ length sheet
+      → decodeFields format code sheet at ≡ parsed entry next
+      → FieldsParsed code sheet at entry next
+  fields-parsed code sheet at entry next h e =
+      let e₁ = bind-parsed (decodeField (format .readNumber) (follows code deskField) maxNumber sheet at) _ entry next e in
+      let desk = field-parsed (follows code deskField) maxNumber sheet at (e₁ .0) (e₁ .1) h (e₁ .2) in
+      let rest = rest-parsed code (e₁ .0) sheet (e₁ .1) entry next (desk .inside) (e₁ .3) in
+      record {
+        good = λ fine. rest .good fine (desk .holds);
+        past = omega (arith, desk .past, rest .past);
+        inside = rest .inside;
+        same-code = rest .same-code;
+        no-longer =
+            let desk-long : at + length (encodeField (follows (entry .code) deskField) (entry .desk)) ≤ e₁ .1 =
+            subst (λ (n : ℕ). at + length (encodeField (follows n deskField) (entry .desk)) ≤ e₁ .1) (sym (rest .same-code))
+            (subst (λ (n : ℕ). at + length (encodeField (follows code deskField) n) ≤ e₁ .1) (sym (rest .same-desk)) (desk .no-longer)) in
+            omega (arith, desk-long, rest .no-longer, length-append (encodeField (follows (entry .code) deskField) (entry .desk)) (encodeRest entry));
+      }
+
+  pub record RecordParsed (sheet : List ℕ) (at : ℕ) (entry : Record) (next : ℕ) : Type 0 where
+    pub good : GoodRecord (format .maxSession) entry
+    pub moved : Moved sheet at next
+    pub no-longer : at + length (encodeRecord entry) ≤ next
+
+  -- a record whose code and fields were read
+  pub written-out-parsed : (sheet : List ℕ) (at code afterCode : ℕ) (entry : Record) (next : ℕ)
+      → format .readNumber maxNumber sheet at ≡ parsed code afterCode
+      → isCode code ≡ true
+      → decodeFields format code sheet afterCode ≡ parsed entry next
+      → RecordParsed sheet at entry next
+  unfolding encodeRecord
+  written-out-parsed sheet at code afterCode entry next read fine e =
+      let moved = numbers .moves maxNumber sheet at code afterCode read in
+      let fields = fields-parsed code sheet afterCode entry next (moved .inside) e in
+      record {
+        good = fields .good fine;
+        moved = record { past = omega (arith, moved .past, fields .past); inside = fields .inside };
+        no-longer =
+            let code-long : at + length (encodeNumber (entry .code)) ≤ afterCode =
+            subst (λ (n : ℕ). at + length (encodeNumber n) ≤ afterCode) (sym (fields .same-code)) (numbers .no-longer maxNumber sheet at code afterCode read) in
+            omega (arith, code-long, fields .no-longer, length-append (encodeNumber (entry .code)) (encodeFields entry));
+      }
 
   record-parsed : (sheet : List ℕ) (at : ℕ) (entry : Record) (next : ℕ) → decodeRecord format sheet at ≡ parsed entry next
       → RecordParsed sheet at entry next
-  unfolding decodeRecord encodeRecord
+  unfolding decodeRecord
   record-parsed sheet at entry next e =
-      let e₁ = bind-parsed (format .readNumber maxNumber sheet at) _ entry next e in
-      let moved = numbers .moves maxNumber sheet at (e₁ .0) (e₁ .1) (e₁ .2) in
-      let e₂ = asked-parsed (isCode (e₁ .0)) _ _ entry next (e₁ .3) in
-      let e₃ = bind-parsed (decodeField (format .readNumber) (follows (e₁ .0) deskField) maxNumber sheet (e₁ .1)) _ entry next
-      (coded-parsed (e₁ .0) _ entry next (e₂ .1)) in
-      let desk = field-parsed (follows (e₁ .0) deskField) maxNumber sheet (e₁ .1) (e₃ .0) (e₃ .1) (moved .inside) (e₃ .2) in
-      let rest = rest-parsed (e₁ .0) (e₃ .0) sheet (e₃ .1) entry next (desk .inside) (e₃ .3) in
-      record {
-        good = rest .good (e₂ .0) (desk .holds);
-        moved = record { past = omega (arith, moved .past, desk .past, rest .past); inside = rest .inside };
-        no-longer =
-            let code-long : at + length (encodeNumber (entry .code)) ≤ e₁ .1 =
-            subst (λ (n : ℕ). at + length (encodeNumber n) ≤ e₁ .1) (sym (rest .same-code)) (numbers .no-longer maxNumber sheet at (e₁ .0) (e₁ .1) (e₁ .2)) in
-            let desk-long : e₁ .1 + length (encodeField (follows (entry .code) deskField) (entry .desk)) ≤ e₃ .1 =
-            subst (λ (n : ℕ). e₁ .1 + length (encodeField (follows n deskField) (entry .desk)) ≤ e₃ .1) (sym (rest .same-code))
-            (subst (λ (n : ℕ). e₁ .1 + length (encodeField (follows (e₁ .0) deskField) n) ≤ e₃ .1) (sym (rest .same-desk)) (desk .no-longer)) in
-            omega (
-              arith,
-              code-long,
-              desk-long,
-              rest .no-longer,
-              length-append (encodeNumber (entry .code)) (encodeFields entry),
-              length-append (encodeField (follows (entry .code) deskField) (entry .desk)) (encodeRest entry),
-            );
-      }
+      let code = bind-parsed (format .readNumber maxNumber sheet at) _ entry next e in
+      let asked = asked-parsed (isCode (code .0)) _ _ entry next (code .3) in
+      written-out-parsed sheet at (code .0) (code .1) entry next (code .2) (asked .0) (coded-parsed (code .0) _ entry next (asked .1))
 
-  record HeaderParsed (sheet : List ℕ) (at : ℕ) (hall : Hall) (next : ℕ) : Type 0 where
-    moved : Moved sheet at next
-    no-longer : at + length (encodeHeader hall) ≤ next
+  pub record HeaderParsed (sheet : List ℕ) (at : ℕ) (hall : Hall) (next : ℕ) : Type 0 where
+    pub moved : Moved sheet at next
+    pub no-longer : at + length (encodeHeader hall) ≤ next
 
-  header-parsed : (sheet : List ℕ) (at : ℕ) (hall : Hall) (next : ℕ) → decodeHeader (format .readNumber) sheet at ≡ parsed hall next
+  pub header-parsed : (sheet : List ℕ) (at : ℕ) (hall : Hall) (next : ℕ) → decodeHeader (format .readNumber) sheet at ≡ parsed hall next
       → HeaderParsed sheet at hall next
   unfolding decodeHeader encodeHeader
   header-parsed sheet at hall next e =
@@ -149,7 +173,7 @@ module _ (format : Format) (numbers : LawfulNumbers (format .readNumber)) where
       })
 
   -- ---- What is written is read back.
-  number-read-back : (value : ℕ) → value ≤ maxNumber → ReadsBack (format .readNumber maxNumber) (encodeNumber value) value
+  pub number-read-back : (value : ℕ) → value ≤ maxNumber → ReadsBack (format .readNumber maxNumber) (encodeNumber value) value
   number-read-back value h = numbers .read-back maxNumber value h (omega arith)
 
   field-read-back : (present : Bool) (limit value : ℕ) → limit ≤ maxNumber → FieldHolds present limit value
@@ -158,7 +182,7 @@ module _ (format : Format) (numbers : LawfulNumbers (format .readNumber)) where
   field-read-back false limit value fits holds = λ sheet at next stands. (let offset : next ≡ at = omega (arith, stands .end) in cc)
 
   module _ (fits : format .maxSession ≤ maxNumber) where
-    rest-read-back : (entry : Record) → GoodRecord (format .maxSession) entry
+    pub rest-read-back : (entry : Record) → GoodRecord (format .maxSession) entry
         → ReadsBack (decodeRest format (entry .code) (entry .desk)) (encodeRest entry) entry
     rest-read-back entry good =
         bind-read-back _ _ _ (field-read-back (follows (entry .code) screenField) maxNumber (entry .screen) (omega arith) (good .screen))
@@ -166,7 +190,7 @@ module _ (format : Format) (numbers : LawfulNumbers (format .readNumber)) where
         (last-read-back (recordFor (entry .code) (entry .desk) (entry .screen) (entry .position))
         (field-read-back (follows (entry .code) sessionField) (format .maxSession) (entry .session) fits (good .session))))
 
-    fields-read-back : (entry : Record) → GoodRecord (format .maxSession) entry
+    pub fields-read-back : (entry : Record) → GoodRecord (format .maxSession) entry
         → ReadsBack (decodeFields format (entry .code)) (encodeFields entry) entry
     fields-read-back entry good =
         bind-read-back _ _ _ (field-read-back (follows (entry .code) deskField) maxNumber (entry .desk) (omega arith) (good .desk))
@@ -178,7 +202,7 @@ module _ (format : Format) (numbers : LawfulNumbers (format .readNumber)) where
         bind-read-back _ _ _ (number-read-back (entry .code) (omega (arith, in-range (entry .code) 5 (good .code) .1)))
         (λ sheet at next stands. simp (good .code, fields-read-back entry good sheet at next stands))
 
-    header-read-back : (hall : Hall) → openingNumber hall ≡ 0 → ReadsBack (decodeHeader (format .readNumber)) (encodeHeader hall) hall
+    pub header-read-back : (hall : Hall) → openingNumber hall ≡ 0 → ReadsBack (decodeHeader (format .readNumber)) (encodeHeader hall) hall
     unfolding decodeHeader encodeHeader openingNumber
     header-read-back hall opens =
         let asked = limits-fit hallLimits hall (hall-opens hallLimits hall lentTable opens .0) in
@@ -213,12 +237,12 @@ module _ (format : Format) (exact : ExactNumbers (format .readNumber)) where
   field-exact false limit sheet at value next are e = let offset : at ≡ next = cc in subst (Stands [] sheet at) offset (stands-none sheet at)
 
   -- the fields after the desk stand there, whatever the record's desk
-  record RestExact (code desk : ℕ) (sheet : List ℕ) (at : ℕ) (entry : Record) (next : ℕ) : Type 0 where
-    same-code : entry .code ≡ code
-    same-desk : entry .desk ≡ desk
-    stands : Stands (encodeRest entry) sheet at next
+  pub record RestExact (code desk : ℕ) (sheet : List ℕ) (at : ℕ) (entry : Record) (next : ℕ) : Type 0 where
+    pub same-code : entry .code ≡ code
+    pub same-desk : entry .desk ≡ desk
+    pub stands : Stands (encodeRest entry) sheet at next
 
-  rest-exact : (code desk : ℕ) (sheet : List ℕ) (at : ℕ) (entry : Record) (next : ℕ) → IsBytes sheet
+  pub rest-exact : (code desk : ℕ) (sheet : List ℕ) (at : ℕ) (entry : Record) (next : ℕ) → IsBytes sheet
       → decodeRest format code desk sheet at ≡ parsed entry next
       → RestExact code desk sheet at entry next
   rest-exact code desk sheet at entry next are e =
@@ -235,24 +259,32 @@ module _ (format : Format) (exact : ExactNumbers (format .readNumber)) where
             (field-exact (follows code sessionField) (format .maxSession) sheet (e₂ .1) (e₃ .0) (e₃ .1) are (e₃ .2)));
       })
 
+  -- a record whose code and fields were read
+  pub written-out-exact : (sheet : List ℕ) (at code afterCode : ℕ) (entry : Record) (next : ℕ) → IsBytes sheet
+      → format .readNumber maxNumber sheet at ≡ parsed code afterCode
+      → decodeFields format code sheet afterCode ≡ parsed entry next
+      → Stands (encodeRecord entry) sheet at next
+  unfolding encodeRecord
+  written-out-exact sheet at code afterCode entry next are read e =
+      let e₁ = bind-parsed (decodeField (format .readNumber) (follows code deskField) maxNumber sheet afterCode) _ entry next e in
+      let rest = rest-exact code (e₁ .0) sheet (e₁ .1) entry next are (e₁ .3) in
+      let code-stands : Stands (encodeNumber (entry .code)) sheet at afterCode =
+      subst (λ (n : ℕ). Stands (encodeNumber n) sheet at afterCode) (sym (rest .same-code)) (exact maxNumber sheet at code afterCode are read) in
+      let desk-stands : Stands (encodeField (follows (entry .code) deskField) (entry .desk)) sheet afterCode (e₁ .1) =
+      subst (λ (n : ℕ). Stands (encodeField (follows n deskField) (entry .desk)) sheet afterCode (e₁ .1)) (sym (rest .same-code))
+      (subst (λ (n : ℕ). Stands (encodeField (follows code deskField) n) sheet afterCode (e₁ .1)) (sym (rest .same-desk))
+      (field-exact (follows code deskField) maxNumber sheet afterCode (e₁ .0) (e₁ .1) are (e₁ .2))) in
+      stands-join _ _ sheet code-stands (stands-join _ _ sheet desk-stands (rest .stands))
+
   record-exact : (sheet : List ℕ) (at : ℕ) (entry : Record) (next : ℕ) → IsBytes sheet → decodeRecord format sheet at ≡ parsed entry next
       → Stands (encodeRecord entry) sheet at next
-  unfolding decodeRecord encodeRecord
+  unfolding decodeRecord
   record-exact sheet at entry next are e =
-      let e₁ = bind-parsed (format .readNumber maxNumber sheet at) _ entry next e in
-      let e₂ = asked-parsed (isCode (e₁ .0)) _ _ entry next (e₁ .3) in
-      let e₃ = bind-parsed (decodeField (format .readNumber) (follows (e₁ .0) deskField) maxNumber sheet (e₁ .1)) _ entry next
-      (coded-parsed (e₁ .0) _ entry next (e₂ .1)) in
-      let rest = rest-exact (e₁ .0) (e₃ .0) sheet (e₃ .1) entry next are (e₃ .3) in
-      let code : Stands (encodeNumber (entry .code)) sheet at (e₁ .1) =
-      subst (λ (n : ℕ). Stands (encodeNumber n) sheet at (e₁ .1)) (sym (rest .same-code)) (exact maxNumber sheet at (e₁ .0) (e₁ .1) are (e₁ .2)) in
-      let desk : Stands (encodeField (follows (entry .code) deskField) (entry .desk)) sheet (e₁ .1) (e₃ .1) =
-      subst (λ (n : ℕ). Stands (encodeField (follows n deskField) (entry .desk)) sheet (e₁ .1) (e₃ .1)) (sym (rest .same-code))
-      (subst (λ (n : ℕ). Stands (encodeField (follows (e₁ .0) deskField) n) sheet (e₁ .1) (e₃ .1)) (sym (rest .same-desk))
-      (field-exact (follows (e₁ .0) deskField) maxNumber sheet (e₁ .1) (e₃ .0) (e₃ .1) are (e₃ .2))) in
-      stands-join _ _ sheet code (stands-join _ _ sheet desk (rest .stands))
+      let code = bind-parsed (format .readNumber maxNumber sheet at) _ entry next e in
+      let asked = asked-parsed (isCode (code .0)) _ _ entry next (code .3) in
+      written-out-exact sheet at (code .0) (code .1) entry next are (code .2) (coded-parsed (code .0) _ entry next (asked .1))
 
-  header-exact : (sheet : List ℕ) (at : ℕ) (hall : Hall) (next : ℕ) → IsBytes sheet → decodeHeader (format .readNumber) sheet at ≡ parsed hall next
+  pub header-exact : (sheet : List ℕ) (at : ℕ) (hall : Hall) (next : ℕ) → IsBytes sheet → decodeHeader (format .readNumber) sheet at ≡ parsed hall next
       → Stands (encodeHeader hall) sheet at next
   unfolding decodeHeader encodeHeader
   header-exact sheet at hall next are e =

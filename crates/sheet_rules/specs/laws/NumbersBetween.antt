@@ -2,16 +2,19 @@
 use Prim.Native.Nat.{ℕ, zero, suc, _+_, _≤_}
 use native.Mathlib.Omega.{arith}
 use mathlib.Core.Path.{_≡_, refl, sym, ap, _∙_, subst}
-use mathlib.Core.Bool.{Bool, true, false, cond, true≢false}
+use mathlib.Core.Bool.{Bool, true, false, cond, not, true≢false}
 use mathlib.Core.List.{List}
 use mathlib.Core.Logic.{_⊎_, inl, inr, ⊎-elim}
 use lib.ListN.{length, take}
 use lib.Seq.{take-take}
+use lib.Dec.{eqb}
 use Rattle.rules.specs.Numbers.{Parsed, Refusal, bind, maxNumber, parsed, refusalOf, refused}
-use Rattle.sheet_rules.specs.Edition1.{Format, NumberReader, decodeField, decodeFields, decodeHeader, decodeRecord, decodeRest, edition1, withCode}
+use Rattle.sheet_rules.specs.Edition1.{Format, NumberReader, decodeField, decodeFields, decodeHeader, decodeRecord, decodeRest, withCode}
+use Rattle.sheet_rules.specs.Edition2.{Version, checkDesk, decodeHeader2, decodeRecord2, decodeShorthand, decodeWrittenOut, deskBefore, editionFor, expectNumber}
+use Rattle.sheet_rules.specs.Edition2.{isShorthand, repeats, standsFor, version1, version2}
 use Rattle.sheet_rules.specs.Lawful.{LawfulNumbers}
 use Rattle.sheet_rules.specs.Offsets.{EditionOfNumbers, Located, NumbersBetween, NumbersFill, OfNumbers, refusesNumber}
-use Rattle.sheet_rules.specs.Sheet.{deskField, follows, isCode, positionField, screenField, sessionField}
+use Rattle.sheet_rules.specs.Sheet.{Carried, Record, deskField, follows, isCode, positionField, screenField, sessionField}
 use Rattle.sheet_rules.specs.laws.Parsing.{refused-not-parsed}
 
 -- ---- Numbers that fill bytes.
@@ -112,7 +115,7 @@ module _ (format : Format) (sheet : List ℕ) where
   pub no-number : (at code number : ℕ) → refusesNumber number ≡ false → Located format sheet at (refusalOf code number 0)
   no-number at code number other = record { shows = λ is. absurd (true≢false (sym is ∙ other)); no-offset = λ is. refl }
 
--- ---- Edition 1.
+-- ---- The editions.
 module _ {format : Format} (numbers : LawfulNumbers (format .readNumber)) (fits : format .maxSession ≤ maxNumber) where
   read-of-numbers : (limit : ℕ) → (limit ≡ maxNumber) ⊎ (limit ≡ format .maxSession) → (sheet : List ℕ) (at : ℕ)
       → OfNumbers format sheet at (format .readNumber limit sheet at)
@@ -174,5 +177,51 @@ module _ {format : Format} (numbers : LawfulNumbers (format .readNumber)) (fits 
       bind-of-numbers format sheet afterScreens (format .readNumber maxNumber sheet afterScreens) _ (any-number sheet afterScreens) λ positions afterPositions.
       between-none format sheet afterPositions
 
-  pub edition1-of-numbers : EditionOfNumbers format (edition1 format)
-  edition1-of-numbers = record { header-of-numbers = header-of-numbers; record-of-numbers = λ carried. record-of-numbers }
+  -- Edition 2 asks whether a number or a desk is the one that it expects, after it has read it.
+  expected-of-numbers : (value : ℕ) (sheet : List ℕ) (at : ℕ) → OfNumbers format sheet at (expectNumber (format .readNumber) value sheet at)
+  expected-of-numbers value sheet at =
+      bind-of-numbers format sheet at (format .readNumber maxNumber sheet at) _ (any-number sheet at) λ found next. by-value found next (eqb found value)
+    where
+      by-value : (found next : ℕ) (is : Bool) → OfNumbers format sheet next (cond is (parsed found next) (refused (refusalOf 0 21 0)))
+      by-value found next true = between-none format sheet next
+      by-value found next false = no-number format sheet next 0 21 refl
+
+  header2-of-numbers : (sheet : List ℕ) (at : ℕ) → OfNumbers format sheet at (decodeHeader2 (format .readNumber) sheet at)
+  unfolding decodeHeader2
+  header2-of-numbers sheet at =
+      bind-of-numbers format sheet at (expectNumber (format .readNumber) 0 sheet at) _ (expected-of-numbers 0 sheet at) λ zero afterZero.
+      bind-of-numbers format sheet afterZero (expectNumber (format .readNumber) 2 sheet afterZero) _ (expected-of-numbers 2 sheet afterZero) λ edition afterEdition.
+      header-of-numbers sheet afterEdition
+
+  checked-of-numbers : (shorthand : Bool) (carried : Carried) (sheet : List ℕ) (at : ℕ) (fields : Parsed Record) → OfNumbers format sheet at fields
+      → OfNumbers format sheet at (bind fields (checkDesk shorthand carried))
+  checked-of-numbers shorthand carried sheet at fields filled =
+      bind-of-numbers format sheet at fields _ filled λ entry next.
+      by-desk entry next (cond shorthand (repeats carried (entry .desk)) (not (repeats carried (entry .desk))))
+    where
+      by-desk : (entry : Record) (next : ℕ) (is : Bool) → OfNumbers format sheet next (cond is (parsed entry next) (refused (refusalOf 0 20 0)))
+      by-desk entry next true = between-none format sheet next
+      by-desk entry next false = no-number format sheet next 0 20 refl
+
+  record2-of-numbers : (carried : Carried) (sheet : List ℕ) (at : ℕ) → OfNumbers format sheet at (decodeRecord2 format carried sheet at)
+  unfolding decodeRecord2
+  record2-of-numbers carried sheet at =
+      bind-of-numbers format sheet at (format .readNumber maxNumber sheet at) _ (any-number sheet at) λ code afterCode.
+      by-code code afterCode (isShorthand code) (isCode code)
+    where
+      by-code : (code afterCode : ℕ) (short is : Bool)
+          → OfNumbers format sheet afterCode
+          (cond short (withCode (standsFor code) (decodeShorthand format carried (standsFor code) sheet afterCode))
+          (cond is (withCode code (decodeWrittenOut format carried code sheet afterCode)) (refused (refusalOf code 17 0))))
+      by-code code afterCode true is =
+          coded-of-numbers format sheet afterCode (standsFor code) (decodeShorthand format carried (standsFor code) sheet afterCode)
+          (checked-of-numbers true carried sheet afterCode (decodeRest format (standsFor code) (deskBefore carried) sheet afterCode)
+          (rest-of-numbers (standsFor code) (deskBefore carried) sheet afterCode))
+      by-code code afterCode false true =
+          coded-of-numbers format sheet afterCode code (decodeWrittenOut format carried code sheet afterCode)
+          (checked-of-numbers false carried sheet afterCode (decodeFields format code sheet afterCode) (fields-of-numbers code sheet afterCode))
+      by-code code afterCode false false = no-number format sheet afterCode code 17 refl
+
+  pub edition-of-numbers : (version : Version) → EditionOfNumbers format (editionFor version format)
+  edition-of-numbers version1 = record { header-of-numbers = header-of-numbers; record-of-numbers = λ carried. record-of-numbers }
+  edition-of-numbers version2 = record { header-of-numbers = header2-of-numbers; record-of-numbers = record2-of-numbers }

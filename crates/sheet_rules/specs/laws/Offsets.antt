@@ -13,6 +13,7 @@ use Rattle.rules.specs.Hall.{Hall, hallLimits}
 use Rattle.rules.specs.Numbers.{Parsed, Refusal, allowed, bind, maxNumber, parsed, refusal, refusalOf, refused}
 use Rattle.rules.specs.Table.{openTable}
 use Rattle.sheet_rules.specs.Edition1.{Format, archiveEdition, archiveFormat}
+use Rattle.sheet_rules.specs.Edition2.{version1}
 use Rattle.sheet_rules.specs.Lawful.{LawfulNumbers}
 use Rattle.sheet_rules.specs.Lines.{answerLine, decimal, endLine, line, linesFrom, linesOf, printed, refusalLine}
 use Rattle.sheet_rules.specs.Offsets.{EditionOfNumbers, Located, NumbersBetween, OfNumbers, PrintsRefusal, ShowsByte, WholeLines, ending, endingIn, refusesNumber}
@@ -21,7 +22,7 @@ use Rattle.sheet_rules.specs.Sheet.{Carried, Edition, Reading, Record, R
 use Rattle.sheet_rules.specs.Sheet.{ifOpens, maxBytes, more, noDesk, opened, openingNumber, reading, stop, unopened}
 use Rattle.sheet_rules.specs.Tally.{Tally, addStep, zeros}
 use Rattle.sheet_rules.specs.laws.Numbers.{allowed-never-19, numbers-lawful}
-use Rattle.sheet_rules.specs.laws.NumbersBetween.{between-append, between-one, edition1-of-numbers, fill-inside, fill-kept, located-after, no-number}
+use Rattle.sheet_rules.specs.laws.NumbersBetween.{between-append, between-one, edition-of-numbers, fill-inside, fill-kept, located-after, no-number}
 use Rattle.sheet_rules.specs.laws.NumbersBetween.{refused-past}
 use Rattle.sheet_rules.specs.laws.Sheet.{opening-never-four, too-long}
 
@@ -147,7 +148,7 @@ module _ {format : Format} (numbers : LawfulNumbers (format .readNumber)) where
 
 -- 19 ends no reading of a sheet in the archive.
 pub archive-of-numbers : EditionOfNumbers archiveFormat archiveEdition
-archive-of-numbers = edition1-of-numbers (numbers-lawful allowed) (omega arith)
+archive-of-numbers = edition-of-numbers (numbers-lawful allowed) (omega arith) version1
 
 pub archive-never-19 : (sheet : List ℕ) (reason : Refusal) → ending (reading archiveEdition sheet) ≡ some reason → reason .number ≡ 19 → ⊥
 archive-never-19 sheet reason e is =

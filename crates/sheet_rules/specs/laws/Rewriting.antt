@@ -6,25 +6,25 @@ use mathlib.Core.Bool.{Bool, true, false, cond}
 use mathlib.Core.List.{List, [], _∷_, _++_}
 use mathlib.Core.Logic.{inl, inr, ⊎-elim}
 use mathlib.Core.Option.{Option, none, some}
-use lib.ListN.{length, drop}
-use lib.Dec.{ltb}
-use borrow.Author.Tests.{ltb-true, lt-ltb}
+use lib.ListN.{length}
+use lib.Dec.{leb, ltb}
+use borrow.Author.Tests.{le-leb, leb-false, leb-true, ltb-true}
 use Rattle.rules.specs.Bytes.{IsBytes}
-use Rattle.rules.specs.Hall.{Hall, hallLimits, hallOf}
-use Rattle.rules.specs.Numbers.{Refusal, maxNumber, parsed}
-use Rattle.rules.specs.laws.table.EncodedStep.{hall-opens, limits-fit}
-use Rattle.sheet_rules.specs.Edition1.{Format, archiveEdition, archiveFormat, decodeHeader, edition1, encodeNumber, hallEdition, hallFormat}
-use Rattle.sheet_rules.specs.Lawful.{LawfulNumbers, Stands}
+use Rattle.rules.specs.Hall.{Hall}
+use Rattle.rules.specs.Numbers.{Refusal, maxNumber}
+use Rattle.sheet_rules.specs.Edition1.{Format, archiveEdition, archiveFormat, edition1, hallEdition, hallFormat}
+use Rattle.sheet_rules.specs.Edition2.{Version, editionFor}
+use Rattle.sheet_rules.specs.Lawful.{Exact, Lawful, LawfulNumbers}
 use Rattle.sheet_rules.specs.Lines.{decimal, digits, linesOf, printed, spaced}
 use Rattle.sheet_rules.specs.Offsets.{endingIn}
-use Rattle.sheet_rules.specs.Rewriting.{RefusedSheet, Shortened, ShortenedOrRefused, entriesIn, meaningOf, refusedSheetLine, rewrite, shorten, writeReading}
-use Rattle.sheet_rules.specs.Rewriting.{writeUnless}
+use Rattle.sheet_rules.specs.Rewriting.{Rewritten, RewrittenOrRefused, Shortened, ShortenedOrRefused, entriesIn, meaningOf, refusedSheetLine, rewrite, shorten}
+use Rattle.sheet_rules.specs.Rewriting.{unlessTooLong, writeReading, writeUnless}
 use Rattle.sheet_rules.specs.Sheet.{Accepted, Carried, Edition, GoodMeaning, Meaning, Reading, Record, Records, carriedAfter, complete, encodeRecords, encodeSheet}
-use Rattle.sheet_rules.specs.Sheet.{lentTable, maxBytes, more, noDesk, opened, openingNumber, reading, stop, unopened, whole}
+use Rattle.sheet_rules.specs.Sheet.{maxBytes, more, noDesk, opened, reading, stop, unopened, whole}
 use Rattle.sheet_rules.specs.laws.Edition1.{archive-lawful, hall-exact, hall-lawful}
+use Rattle.sheet_rules.specs.laws.Editions.{FirstNumber, first-byte, one-first-number, starts-small}
 use Rattle.sheet_rules.specs.laws.Exact.{accepted-bytes, accepted-no-longer}
 use Rattle.sheet_rules.specs.laws.Longest.{refused-length}
-use Rattle.sheet_rules.specs.laws.Parsing.{bind-parsed}
 use Rattle.sheet_rules.specs.laws.Sheet.{accepted-good, opened-from, reading-back}
 
 -- ---- Records that nothing ended are whole.
@@ -44,13 +44,96 @@ nothing-ends-whole : (entries : List Record) → endingIn (whole entries) ≡ no
 nothing-ends-whole [] = refl
 nothing-ends-whole (entry ∷ entries) = nothing-ends-whole entries
 
--- An accepted sheet is written with its meaning.
-pub rewrite-accepted : (from to : Edition) (sheet : List ℕ) (meaning : Meaning) → Accepted from sheet meaning → rewrite from to sheet ≡ encodeSheet to meaning
+-- An accepted sheet is written with its meaning, unless that is too long.
+pub rewrite-accepted : (from to : Edition) (sheet : List ℕ) (meaning : Meaning) → Accepted from sheet meaning
+    → rewrite from to sheet ≡ unlessTooLong (encodeSheet to meaning)
 unfolding rewrite
 rewrite-accepted from to sheet meaning e =
     ap (writeReading to) e
     ∙ ap (λ (end : Option Refusal). writeUnless to end (meaningOf (meaning .header) (whole (meaning .records)))) (nothing-ends-whole (meaning .records))
-    ∙ ap (λ (entries : List Record). encodeSheet to (record { header = meaning .header; records = entries })) (entries-whole (meaning .records))
+    ∙ ap (λ (entries : List Record). unlessTooLong (encodeSheet to (record { header = meaning .header; records = entries }))) (entries-whole (meaning .records))
+
+not-too-long : (sheet : List ℕ) → length sheet ≤ maxBytes → unlessTooLong sheet ≡ sheet
+not-too-long sheet short = simp (le-leb (length sheet) maxBytes short)
+
+pub rewrite-short : (from to : Edition) (sheet : List ℕ) (meaning : Meaning) → Accepted from sheet meaning → length (encodeSheet to meaning) ≤ maxBytes
+    → rewrite from to sheet ≡ encodeSheet to meaning
+rewrite-short from to sheet meaning e short = rewrite-accepted from to sheet meaning e ∙ not-too-long (encodeSheet to meaning) short
+
+-- ---- Whatever the editions, a sheet is rewritten or refused.
+module _ {from to : Edition} {maxSession : ℕ} (from-lawful : Lawful from maxSession) (to-lawful : Lawful to maxSession) where
+  pub rewritten : (sheet : List ℕ) (meaning : Meaning) → Accepted from sheet meaning → length (encodeSheet to meaning) ≤ maxBytes
+      → Rewritten from to sheet (rewrite from to sheet)
+  rewritten sheet meaning e short =
+      let output : rewrite from to sheet ≡ encodeSheet to meaning = rewrite-short from to sheet meaning e short in
+      record {
+        meaning = meaning;
+        was-accepted = e;
+        written = output;
+        is-accepted =
+            subst (λ (bytes : List ℕ). Accepted to bytes meaning) (sym output)
+            (reading-back to-lawful meaning (accepted-good from-lawful sheet meaning e) short);
+      }
+
+  pub rewritten-or-refused : (sheet : List ℕ) → RewrittenOrRefused from to sheet (rewrite from to sheet)
+  unfolding rewrite
+  rewritten-or-refused sheet = by-reading (reading from sheet) refl
+    where
+      by-length : (meaning : Meaning) → Accepted from sheet meaning → (short : Bool) → leb (length (encodeSheet to meaning)) maxBytes ≡ short
+          → RewrittenOrRefused from to sheet (rewrite from to sheet)
+      by-length meaning e true is = inl (rewritten sheet meaning e (leb-true (length (encodeSheet to meaning)) maxBytes is))
+      by-length meaning e false is =
+          inr
+          (inl
+          (record {
+            meaning = meaning;
+            was-accepted = e;
+            over = leb-false (length (encodeSheet to meaning)) maxBytes is;
+            line = rewrite-accepted from to sheet meaning e ∙ ap (λ (short : Bool). cond short (encodeSheet to meaning) (refusedSheetLine 18 0)) is;
+          }))
+
+      by-ending : (hall : Hall) (records : Records) → reading from sheet ≡ opened hall records → (end : Option Refusal) → endingIn records ≡ end
+          → RewrittenOrRefused from to sheet (rewrite from to sheet)
+      by-ending hall records opens none e =
+          by-length (meaningOf hall records) (opens ∙ ap (opened hall) (records-whole records e)) (leb (length (encodeSheet to (meaningOf hall records))) maxBytes) refl
+      by-ending hall records opens (some reason) e = inr (inr (record { reason = reason; ends = simp (opens, e); line = simp (opens, e) }))
+
+      by-reading : (found : Reading) → reading from sheet ≡ found → RewrittenOrRefused from to sheet (rewrite from to sheet)
+      by-reading (unopened reason) e = inr (inr (record { reason = reason; ends = simp e; line = simp e }))
+      by-reading (opened hall records) e = by-ending hall records e (endingIn records) refl
+
+-- Its lines stay the same,
+pub rewritten-prints-the-same : {from to : Edition} {sheet output : List ℕ} → Rewritten from to sheet output → printed to output ≡ printed from sheet
+unfolding printed
+rewritten-prints-the-same is = ap linesOf (is .is-accepted ∙ sym (is .was-accepted))
+
+-- and if the first edition is exact, the way back gives the first bytes again.
+pub back-again : {from to : Edition} {maxSession : ℕ} → Lawful from maxSession → Exact from → {sheet output : List ℕ} → IsBytes sheet → Rewritten from to sheet output
+    → rewrite to from output ≡ sheet
+back-again {from} {to} lawful exact {sheet} {output} are is =
+    let bytes : sheet ≡ encodeSheet from (is .meaning) = accepted-bytes lawful exact sheet (is .meaning) are (is .was-accepted) in
+    let short = opened-from from sheet (is .meaning .header) (whole (is .meaning .records)) (is .was-accepted) .short in
+    rewrite-short to from output (is .meaning) (is .is-accepted) (omega (arith, short, ap length bytes)) ∙ sym bytes
+
+-- ---- The output fits into 65,536 bytes.
+pub rewritten-fits : (from to : Edition) (sheet : List ℕ) → length (rewrite from to sheet) ≤ maxBytes
+unfolding rewrite
+rewritten-fits from to sheet = by-reading (reading from sheet)
+  where
+    line-fits : (number offset : ℕ) → length (refusedSheetLine number offset) ≤ maxBytes
+    line-fits number offset = omega (arith, refused-length number offset)
+
+    by-length : (bytes : List ℕ) (short : Bool) → leb (length bytes) maxBytes ≡ short → length (cond short bytes (refusedSheetLine 18 0)) ≤ maxBytes
+    by-length bytes true is = leb-true (length bytes) maxBytes is
+    by-length bytes false is = line-fits 18 0
+
+    by-ending : (end : Option Refusal) (meaning : Meaning) → length (writeUnless to end meaning) ≤ maxBytes
+    by-ending none meaning = by-length (encodeSheet to meaning) (leb (length (encodeSheet to meaning)) maxBytes) refl
+    by-ending (some reason) meaning = line-fits (reason .number) (reason .offset)
+
+    by-reading : (found : Reading) → length (writeReading to found) ≤ maxBytes
+    by-reading (unopened reason) = line-fits (reason .number) (reason .offset)
+    by-reading (opened hall records) = by-ending (endingIn records) (meaningOf hall records)
 
 -- ---- Formats do not change what edition 1 writes.
 records-written : (format other : Format) (carried : Carried) (entries : List Record) → encodeRecords (edition1 format) carried entries ≡ encodeRecords (edition1 other) carried entries
@@ -70,62 +153,39 @@ read-by-both meaning good short =
     (reading-back hall-lawful meaning good short, subst (λ (bytes : List ℕ). Accepted archiveEdition bytes meaning) same (reading-back archive-lawful meaning good (omega (arith, short, ap length same))))
 
 -- ---- Shortening.
-shortened : (sheet : List ℕ) (meaning : Meaning) → Accepted archiveEdition sheet meaning → Shortened sheet (shorten sheet)
+shortened-short : (sheet : List ℕ) (meaning : Meaning) → Accepted archiveEdition sheet meaning → length (encodeSheet hallEdition meaning) ≤ length sheet
+shortened-short sheet meaning e =
+    subst (λ (bytes : List ℕ). length bytes ≤ length sheet) (same-written archiveFormat hallFormat meaning) (accepted-no-longer archive-lawful sheet meaning e)
+
+archive-short : (sheet : List ℕ) (meaning : Meaning) → Accepted archiveEdition sheet meaning → length sheet ≤ maxBytes
+archive-short sheet meaning e = opened-from archiveEdition sheet (meaning .header) (whole (meaning .records)) e .short
+
+pub shortened : (sheet : List ℕ) (meaning : Meaning) → Accepted archiveEdition sheet meaning → Shortened sheet (shorten sheet)
 shortened sheet meaning e =
-    let output : shorten sheet ≡ encodeSheet hallEdition meaning = rewrite-accepted archiveEdition hallEdition sheet meaning e in
-    let short : length (encodeSheet hallEdition meaning) ≤ length sheet =
-    subst (λ (bytes : List ℕ). length bytes ≤ length sheet) (same-written archiveFormat hallFormat meaning) (accepted-no-longer archive-lawful sheet meaning e) in
-    let was = opened-from archiveEdition sheet (meaning .header) (whole (meaning .records)) e in
+    let short : length (encodeSheet hallEdition meaning) ≤ length sheet = shortened-short sheet meaning e in
+    let fits : length (encodeSheet hallEdition meaning) ≤ maxBytes = omega (arith, short, archive-short sheet meaning e) in
     record {
-      meaning = meaning;
-      was-accepted = e;
-      written = output;
-      is-accepted =
-          subst (λ (bytes : List ℕ). Accepted hallEdition bytes meaning) (sym output)
-          (reading-back hall-lawful meaning (accepted-good archive-lawful sheet meaning e) (omega (arith, short, was .short)));
-      no-longer = omega (arith, short, ap length output);
+      rewritten = rewritten archive-lawful hall-lawful sheet meaning e fits;
+      no-longer = omega (arith, short, ap length (rewrite-short archiveEdition hallEdition sheet meaning e fits));
     }
 
 pub shortened-or-refused : (sheet : List ℕ) → ShortenedOrRefused sheet (shorten sheet)
-unfolding rewrite
-shortened-or-refused sheet = by-reading (reading archiveEdition sheet) refl
-  where
-    by-ending : (hall : Hall) (records : Records) → reading archiveEdition sheet ≡ opened hall records → (end : Option Refusal) → endingIn records ≡ end
-        → ShortenedOrRefused sheet (shorten sheet)
-    by-ending hall records opens none e =
-        inl (shortened sheet (meaningOf hall records) (opens ∙ ap (opened hall) (records-whole records e)))
-    by-ending hall records opens (some reason) e = inr (record { reason = reason; ends = simp (opens, e); line = simp (opens, e) })
-
-    by-reading : (found : Reading) → reading archiveEdition sheet ≡ found → ShortenedOrRefused sheet (shorten sheet)
-    by-reading (unopened reason) e = inr (record { reason = reason; ends = simp e; line = simp e })
-    by-reading (opened hall records) e = by-ending hall records e (endingIn records) refl
+shortened-or-refused sheet =
+    ⊎-elim (λ is. inl (shortened sheet (is .meaning) (is .was-accepted)))
+    (⊎-elim
+    (λ long. absurd (omega (arith, long .over, shortened-short sheet (long .meaning) (long .was-accepted), archive-short sheet (long .meaning) (long .was-accepted))))
+    (λ refusal. inr refusal))
+    (rewritten-or-refused archive-lawful hall-lawful sheet)
 
 pub shortest-stays : (sheet : List ℕ) (meaning : Meaning) → IsBytes sheet → Accepted hallEdition sheet meaning → shorten sheet ≡ sheet
 shortest-stays sheet meaning are e =
     let bytes : sheet ≡ encodeSheet hallEdition meaning = accepted-bytes hall-lawful hall-exact sheet meaning are e in
     let old : sheet ≡ encodeSheet archiveEdition meaning = bytes ∙ same-written hallFormat archiveFormat meaning in
-    let was = opened-from hallEdition sheet (meaning .header) (whole (meaning .records)) e in
+    let short = opened-from hallEdition sheet (meaning .header) (whole (meaning .records)) e .short in
     let accepted : Accepted archiveEdition sheet meaning =
     subst (λ (text : List ℕ). Accepted archiveEdition text meaning) (sym old)
-    (reading-back archive-lawful meaning (accepted-good hall-lawful sheet meaning e) (omega (arith, was .short, ap length old))) in
-    rewrite-accepted archiveEdition hallEdition sheet meaning accepted ∙ sym bytes
-
-pub prints-the-same : (sheet : List ℕ) (meaning : Meaning) → Accepted archiveEdition sheet meaning
-    → printed hallEdition (shorten sheet) ≡ printed archiveEdition sheet
-unfolding printed
-prints-the-same sheet meaning e = let is = shortened sheet meaning e in ap linesOf (is .is-accepted ∙ sym (is .was-accepted))
-
--- ---- The output fits into 65,536 bytes.
-pub shortened-fits : (sheet : List ℕ) → length (shorten sheet) ≤ maxBytes
-shortened-fits sheet = ⊎-elim accepted refused (shortened-or-refused sheet)
-  where
-    accepted : Shortened sheet (shorten sheet) → length (shorten sheet) ≤ maxBytes
-    accepted is =
-        let was = opened-from archiveEdition sheet (is .meaning .header) (whole (is .meaning .records)) (is .was-accepted) in
-        omega (arith, is .no-longer, was .short)
-
-    refused : RefusedSheet sheet (shorten sheet) → length (shorten sheet) ≤ maxBytes
-    refused is = omega (arith, refused-length (is .reason .number) (is .reason .offset), ap length (is .line))
+    (reading-back archive-lawful meaning (accepted-good hall-lawful sheet meaning e) (omega (arith, short, ap length old))) in
+    rewrite-short archiveEdition hallEdition sheet meaning accepted (omega (arith, short, ap length bytes)) ∙ sym bytes
 
 -- ---- The line of a refused sheet is no sheet: it starts with a digit, and no hall has so many desks.
 record Starts (bytes : List ℕ) : Type 0 where
@@ -162,36 +222,10 @@ unfolding refusedSheetLine decimal
 line-starts number offset = starts-then (32 ∷ spaced (offset ∷ [])) (digits-start 19 number)
 
 module _ (format : Format) (numbers : LawfulNumbers (format .readNumber)) where
-  -- a first byte from 48 to 57 is read as so many desks
-  first-desks : (sheet : List ℕ) (starts : Starts sheet) (value next : ℕ) → format .readNumber maxNumber sheet 0 ≡ parsed value next
-      → value ≡ starts .first
-  unfolding encodeNumber
-  first-desks sheet starts value next read =
-      let one : encodeNumber (starts .first) ≡ starts .first ∷ [] = simp (lt-ltb (starts .first) 128 (omega (arith, starts .high))) in
-      let there : sheet ≡ (starts .first ∷ []) ++ drop 1 sheet =
-      starts .are ∙ ap (λ (rest : List ℕ). starts .first ∷ rest) (sym (ap (drop 1) (starts .are))) in
-      let stands : Stands (encodeNumber (starts .first)) sheet 0 1 =
-      subst (λ (bytes : List ℕ). Stands bytes sheet 0 1) (sym one) (record { content = there; end = refl }) in
-      let both : parsed (starts .first) 1 ≡ parsed value next =
-      sym (numbers .read-back maxNumber (starts .first) (omega (arith, starts .high)) (omega arith) sheet 0 1 stands) ∙ read in
-      sym (cc both)
-
-  -- the first number of a header is its desks
-  header-desks : (sheet : List ℕ) (hall : Hall) (next : ℕ) → edition1 format .decodeHeader sheet 0 ≡ parsed hall next
-      → (after : ℕ) × (format .readNumber maxNumber sheet 0 ≡ parsed (hall .desks) after)
-  unfolding decodeHeader
-  header-desks sheet hall next e =
-      let desks = bind-parsed (format .readNumber maxNumber sheet 0) _ hall next e in
-      let screens = bind-parsed (format .readNumber maxNumber sheet (desks .1)) _ hall next (desks .3) in
-      let positions = bind-parsed (format .readNumber maxNumber sheet (screens .1)) _ hall next (screens .3) in
-      let same : hallOf (desks .0) (screens .0) (positions .0) ≡ hall = cc (positions .3) in
-      (desks .1, desks .2 ∙ ap (λ (found : Hall). parsed (found .desks) (desks .1)) same)
-
-  pub line-no-sheet : (number offset : ℕ) (meaning : Meaning) → Accepted (edition1 format) (refusedSheetLine number offset) meaning → ⊥
-  unfolding openingNumber
-  line-no-sheet number offset meaning e =
+  pub line-no-sheet : (version : Version) (number offset : ℕ) (meaning : Meaning) → Accepted (editionFor version format) (refusedSheetLine number offset) meaning → ⊥
+  line-no-sheet version number offset meaning e =
       let starts = line-starts number offset in
-      let was = opened-from (edition1 format) (refusedSheetLine number offset) (meaning .header) (whole (meaning .records)) e in
-      let read = header-desks (refusedSheetLine number offset) (meaning .header) (was .next) (was .read) in
-      let asked = limits-fit hallLimits (meaning .header) (hall-opens hallLimits (meaning .header) lentTable (was .accepted) .0) in
-      omega (arith, asked .desks .1, starts .low, first-desks (refusedSheetLine number offset) starts (meaning .header .desks) (read .0) (read .1))
+      let digit : FirstNumber format (refusedSheetLine number offset) (starts .first) =
+      subst (λ (bytes : List ℕ). FirstNumber format bytes (starts .first)) (sym (starts .are)) (first-byte format numbers (starts .first) (starts .rest) (omega (arith, starts .high))) in
+      let read = starts-small format version (refusedSheetLine number offset) meaning e in
+      omega (arith, read .2, starts .low, one-first-number format (refusedSheetLine number offset) (read .0) (starts .first) (read .1) digit)
