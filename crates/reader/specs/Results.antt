@@ -3,7 +3,8 @@ use Prim.Native.Nat.{ℕ}
 use Rattle.rules.specs.Hall.{Hall, hallOf}
 use Rattle.rules.specs.Numbers.{Padding, Parsed, Refusal, allowed, barred, decodeNumber, parsed, refusalOf, refused}
 use Rattle.sheet_rules.specs.Edition1.{Format}
-use Rattle.sheet_rules.specs.Sheet.{Carried, Record, lastDesk, noDesk, recordFor}
+use Rattle.sheet_rules.specs.Edition2.{Version, editionFor, version1, version2}
+use Rattle.sheet_rules.specs.Sheet.{Carried, Edition, Record, lastDesk, noDesk, recordFor}
 use Rattle.reader.specs.declared.Padding.{Padding as ReaderPadding}
 use Rattle.reader.specs.declared.Padding.the-variants.{Allowed, Barred}
 use Rattle.reader.specs.declared.Refusal.{Refusal as ReaderRefusal}
@@ -12,6 +13,9 @@ use Rattle.reader.specs.declared.Number.the-variants.{Refused, Value}
 use Rattle.reader.specs.declared.ParsedRecord.{ParsedRecord}
 use Rattle.reader.specs.declared.ParsedRecord.the-variants.{Refused as RefusedRecord, Whole as WholeRecord}
 use Rattle.reader.specs.declared.Format.{Format as ReaderFormat}
+use Rattle.reader.specs.declared.Version.{Version as ReaderVersion}
+use Rattle.reader.specs.declared.Version.the-variants.{One, Two}
+use Rattle.reader.specs.declared.Edition.{Edition as ReaderEdition}
 use Rattle.reader.specs.declared.Carried.{Carried as CarriedOver}
 use Rattle.reader.specs.declared.Carried.the-variants.{LastDesk, NoDesk}
 use Rattle.reader.specs.declared.Record.{Record as ReadRecord}
@@ -33,6 +37,14 @@ paddingOf Barred = barred
 
 abbrev pub formatOf : ReaderFormat → Format
 formatOf format = record { readNumber = decodeNumber (paddingOf (format .padding)); maxSession = format .«max_session» }
+
+-- The rules' edition for a reader's edition.
+abbrev pub versionOf : ReaderVersion → Version
+versionOf One = version1
+versionOf Two = version2
+
+abbrev pub editionOf : ReaderEdition → Edition
+editionOf edition = editionFor (versionOf (edition .version)) (formatOf (edition .format))
 
 abbrev pub carriedOf : CarriedOver → Carried
 carriedOf NoDesk = noDesk

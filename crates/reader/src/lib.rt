@@ -5,13 +5,14 @@ use fields::SESSION;
 use fields::follows;
 ghost use mathlib.Core.Path.{_≡_};
 ghost use Prim.Native.Nat.{_≤_, _<_};
-ghost use Rattle.rules.specs.Numbers.{allows as allowsPadded, judge as judged, refusal, refusalOf};
-ghost use Rattle.sheet_rules.specs.Edition1.{decodeField, decodeFields, decodeRest, edition1, withCode};
+ghost use Rattle.rules.specs.Numbers.{allows as allowsPadded, bind, judge as judged, refusal, refusalOf};
+ghost use Rattle.sheet_rules.specs.Edition1.{archiveEdition, decodeField, decodeFields, decodeHeader, decodeRecord, decodeRest, hallEdition, withCode};
+ghost use Rattle.sheet_rules.specs.Edition2.{checkDesk, decodeCoded, decodeHeader2, decodeRecord2, deskBefore, expectNumber, hallEdition2, repeats as repeatsDesk};
 ghost use Rattle.sheet_rules.specs.Sheet.{beginSheet, follows as followsCode};
-ghost use Rattle.reader.specs.Results.{carriedOf, formatOf, headerResult, numberResult, paddingOf, reasonOf, recordResult};
+ghost use Rattle.reader.specs.Results.{carriedOf, editionOf, formatOf, headerResult, numberResult, paddingOf, reasonOf, recordResult};
 
 // The most bytes of a sheet.
-const MAX_BYTES: usize = 65536;
+pub const MAX_BYTES: usize = 65536;
 
 // A program reads at most so many bytes: one more than a sheet may have.
 pub const READ_BYTES: usize = MAX_BYTES + 1;
@@ -25,7 +26,7 @@ pub enum Padding {
     Barred,
 }
 
-// What may differ between readers of one edition.
+// How numbers are read.
 pub struct Format {
     pub padding: Padding,
     // The largest session.
@@ -46,6 +47,61 @@ impl Format {
     };
 }
 
+// The layout of a header and of a record.
+pub enum Version {
+    // P, c, L; every record has its desk.
+    One,
+    // 0, 2, P, c, L; a record whose desk is that of the record before has a shorthand code and no desk.
+    Two,
+}
+
+// An edition of the day sheet.
+pub struct Edition {
+    pub version: Version,
+    pub format: Format,
+}
+
+impl Edition {
+    // The hall's sheets of edition 1.
+    pub const HALL: Edition = Edition {
+        version: Version::One,
+        format: Format::HALL,
+    };
+
+    // The sheets in the archive.
+    pub const ARCHIVE: Edition = Edition {
+        version: Version::One,
+        format: Format::ARCHIVE,
+    };
+
+    // The hall's sheets of edition 2.
+    pub const HALL_2: Edition = Edition {
+        version: Version::Two,
+        format: Format::HALL,
+    };
+}
+
+// The hall's edition 1.
+pub fn edition_1() -> Edition
+    ensures { λ r. ⌜ editionOf r ≡ hallEdition ⌝ }
+{
+    Edition::HALL
+}
+
+// The hall's edition 2.
+pub fn edition_2() -> Edition
+    ensures { λ r. ⌜ editionOf r ≡ hallEdition2 ⌝ }
+{
+    Edition::HALL_2
+}
+
+// The edition of the sheets in the archive.
+pub fn archive_edition() -> Edition
+    ensures { λ r. ⌜ editionOf r ≡ archiveEdition ⌝ }
+{
+    Edition::ARCHIVE
+}
+
 // What ends a reading: the code that its line shows (0 if no code was read), the reply number, and the offset of the first byte of the number
 // that is refused (0 if none is).
 pub struct Refusal {
@@ -64,12 +120,18 @@ const TOO_LARGE: u16 = 16;
 const NO_CODE: u16 = 17;
 
 // 18: the sheet is too long.
-const TOO_LONG: u16 = 18;
+pub const TOO_LONG: u16 = 18;
 
 // 19: the number is padded.
 const PADDED: u16 = 19;
 
-// The refusal with a reply number that shows no offset: 1 to 3, 17 and 18. No code was read; `refuse_code` puts one in.
+// 20: a shorthand code in the first record, or a desk written out though it is the one before.
+const WRONG_DESK: u16 = 20;
+
+// 21: not a sheet of edition 2.
+const WRONG_EDITION: u16 = 21;
+
+// The refusal with a reply number that shows no offset: 1 to 3, 17, 18 and 20. No code was read; `refuse_record` puts one in.
 pub fn refuse_with(number: u16) -> Refusal
     ensures { λ r. ⌜ reasonOf r ≡ refusalOf 0 number 0 ⌝ }
 {
@@ -86,7 +148,7 @@ pub enum Number {
     Refused(Refusal),
 }
 
-// The refusal of the number at an offset, with code 0; `refuse_record` puts the code of a record.
+// The refusal of the number at an offset (21 shows none, so 0), with code 0; `refuse_record` puts the code of a record.
 fn refuse(number: u16, at: usize) -> Number
     ensures { λ r. ⌜ numberResult r ≡ refusal 0 number at ⌝ }
 {
@@ -281,9 +343,9 @@ fn read_fields(sheet: &[u8], at: usize, format: Format, code: u16) -> ParsedReco
     }
 }
 
-// Reads the record at an offset, given what the record before left: its code, and then its fields.
-pub fn read_record(sheet: &[u8], at: usize, format: Format, carried: Carried) -> ParsedRecord
-    ensures { λ r. ⌜ recordResult r ≡ edition1 (formatOf format) .decodeRecord (carriedOf carried) (now (sheet .entry)) at ⌝ }
+// Reads a record of edition 1: its code, and then its fields.
+fn read_record_1(sheet: &[u8], at: usize, format: Format) -> ParsedRecord
+    ensures { λ r. ⌜ recordResult r ≡ decodeRecord (formatOf format) (now (sheet .entry)) at ⌝ }
 {
     match read_number(sheet, at, format, MAX_NUMBER) {
         Number::Refused(reason) => ParsedRecord::Refused(reason),
@@ -296,6 +358,88 @@ pub fn read_record(sheet: &[u8], at: usize, format: Format, carried: Carried) ->
             }
             read_fields(sheet, after_code, format, code)
         }
+    }
+}
+
+// Whether a desk is that of the record before.
+pub fn repeats(carried: Carried, desk: u16) -> bool
+    ensures { λ r. ⌜ r ≡ repeatsDesk (carriedOf carried) desk ⌝ }
+{
+    match carried {
+        Carried::NoDesk => false,
+        Carried::LastDesk(last) => last == desk,
+    }
+}
+
+// The desk that a shorthand code means. (Before the first record there is none; `check_desk` refuses a record that is read with this 0.)
+fn desk_before(carried: Carried) -> u16
+    ensures { λ r. ⌜ r ≡ deskBefore (carriedOf carried) ⌝ }
+{
+    match carried {
+        Carried::NoDesk => 0,
+        Carried::LastDesk(desk) => desk,
+    }
+}
+
+// A record of edition 2 whose fields were read: refused unless it has a shorthand code exactly if its desk is that of the record before.
+fn check_desk(shorthand: bool, carried: Carried, code: u16, fields: ParsedRecord) -> ParsedRecord
+    ensures { λ r. ⌜ recordResult r ≡ withCode code (bind (recordResult fields) (checkDesk shorthand (carriedOf carried))) ⌝ }
+{
+    match fields {
+        ParsedRecord::Refused(reason) => refuse_record(code, reason),
+        ParsedRecord::Whole(entry, next) => {
+            if repeats(carried, entry.desk) == shorthand {
+                return ParsedRecord::Whole(entry, next);
+            }
+            refuse_record(code, refuse_with(WRONG_DESK))
+        }
+    }
+}
+
+// Reads the rest of a record of edition 2 whose code was read.
+fn read_coded(sheet: &[u8], at: usize, format: Format, carried: Carried, code: u16) -> ParsedRecord
+    ensures { λ r. ⌜ recordResult r ≡ decodeCoded (formatOf format) (carriedOf carried) code (now (sheet .entry)) at ⌝ }
+{
+    if code < 1 {
+        return refuse_code(code);
+    }
+    if code <= 5 {
+        return check_desk(false, carried, code, read_fields(sheet, at, format, code));
+    }
+    if code < 9 {
+        return refuse_code(code);
+    }
+    if 13 < code {
+        return refuse_code(code);
+    }
+    let stands_for = code - 8;
+    check_desk(
+        true,
+        carried,
+        stands_for,
+        read_rest(sheet, at, format, stands_for, desk_before(carried)),
+    )
+}
+
+// Reads a record of edition 2, given what the record before left: its code, and then its fields.
+fn read_record_2(sheet: &[u8], at: usize, format: Format, carried: Carried) -> ParsedRecord
+    ensures { λ r. ⌜ recordResult r ≡ decodeRecord2 (formatOf format) (carriedOf carried) (now (sheet .entry)) at ⌝ }
+{
+    match read_number(sheet, at, format, MAX_NUMBER) {
+        Number::Refused(reason) => ParsedRecord::Refused(reason),
+        Number::Value(code, after_code) => read_coded(sheet, after_code, format, carried, code),
+    }
+}
+
+// Reads the record at an offset, given what the record before left.
+pub fn read_record(sheet: &[u8], at: usize, edition: Edition, carried: Carried) -> ParsedRecord
+    ensures { λ r. ⌜ recordResult r ≡ editionOf edition .decodeRecord (carriedOf carried) (now (sheet .entry)) at ⌝ }
+{
+    let format = edition.format;
+    let version = edition.version;
+    match version {
+        Version::One => read_record_1(sheet, at, format),
+        Version::Two => read_record_2(sheet, at, format, carried),
     }
 }
 
@@ -312,9 +456,9 @@ pub enum ParsedHeader {
     Refused(Refusal),
 }
 
-// Reads the header at an offset.
-fn read_header(sheet: &[u8], at: usize, format: Format) -> ParsedHeader
-    ensures { λ r. ⌜ headerResult r ≡ edition1 (formatOf format) .decodeHeader (now (sheet .entry)) at ⌝ }
+// Reads P, c and L at an offset: the header of edition 1, and the end of that of edition 2.
+fn read_hall(sheet: &[u8], at: usize, format: Format) -> ParsedHeader
+    ensures { λ r. ⌜ headerResult r ≡ decodeHeader (formatOf format .readNumber) (now (sheet .entry)) at ⌝ }
 {
     match read_number(sheet, at, format, MAX_NUMBER) {
         Number::Refused(reason) => ParsedHeader::Refused(reason),
@@ -345,12 +489,52 @@ fn read_header(sheet: &[u8], at: usize, format: Format) -> ParsedHeader
     }
 }
 
+// Reads a number that must have one value.
+fn expect_number(sheet: &[u8], at: usize, format: Format, expected: u16) -> Number
+    ensures { λ r. ⌜ numberResult r ≡ expectNumber (formatOf format .readNumber) expected (now (sheet .entry)) at ⌝ }
+{
+    match read_number(sheet, at, format, MAX_NUMBER) {
+        Number::Refused(reason) => Number::Refused(reason),
+        Number::Value(value, next) => {
+            if value == expected {
+                return Number::Value(value, next);
+            }
+            refuse(WRONG_EDITION, 0)
+        }
+    }
+}
+
+// Reads a header of edition 2: 0, 2, and then P, c and L.
+fn read_header_2(sheet: &[u8], at: usize, format: Format) -> ParsedHeader
+    ensures { λ r. ⌜ headerResult r ≡ decodeHeader2 (formatOf format .readNumber) (now (sheet .entry)) at ⌝ }
+{
+    match expect_number(sheet, at, format, 0) {
+        Number::Refused(reason) => ParsedHeader::Refused(reason),
+        Number::Value(_, after_zero) => match expect_number(sheet, after_zero, format, 2) {
+            Number::Refused(reason) => ParsedHeader::Refused(reason),
+            Number::Value(_, after_edition) => read_hall(sheet, after_edition, format),
+        },
+    }
+}
+
+// Reads the header at an offset.
+fn read_header(sheet: &[u8], at: usize, edition: Edition) -> ParsedHeader
+    ensures { λ r. ⌜ headerResult r ≡ editionOf edition .decodeHeader (now (sheet .entry)) at ⌝ }
+{
+    let format = edition.format;
+    let version = edition.version;
+    match version {
+        Version::One => read_hall(sheet, at, format),
+        Version::Two => read_header_2(sheet, at, format),
+    }
+}
+
 // Begins to read a sheet: refuses one that is too long, and reads the header.
-pub fn begin_sheet(sheet: &[u8], format: Format) -> ParsedHeader
-    ensures { λ r. ⌜ headerResult r ≡ beginSheet (edition1 (formatOf format)) (now (sheet .entry)) ⌝ }
+pub fn begin_sheet(sheet: &[u8], edition: Edition) -> ParsedHeader
+    ensures { λ r. ⌜ headerResult r ≡ beginSheet (editionOf edition) (now (sheet .entry)) ⌝ }
 {
     if MAX_BYTES < sheet.len() {
         return ParsedHeader::Refused(refuse_with(TOO_LONG));
     }
-    read_header(sheet, 0, format)
+    read_header(sheet, 0, edition)
 }
