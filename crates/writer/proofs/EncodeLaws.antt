@@ -1,5 +1,5 @@
 -- The shortest form of a number, by the number of its bytes.
-use Prim.Native.Nat.{ℕ, zero, suc, _+_, _/_, _%_, _≤_, _<_}
+use Prim.Native.Nat.{ℕ, _+_, _/_, _%_, _≤_, _<_}
 use native.Mathlib.Omega.{arith}
 use mathlib.Core.Path.{_≡_}
 use mathlib.Core.Bool.{Bool, true, false, cond}
@@ -7,7 +7,7 @@ use mathlib.Core.List.{List, [], _∷_}
 use lib.ListN.{length}
 use lib.Dec.{ltb}
 use borrow.Author.Tests.{lt-ltb, le-ltb}
-use Rattle.sheet_rules.specs.Edition1.{encodeField, encodeNumber, shortest}
+use Rattle.sheet_rules.specs.Edition1.{encodeNumber, shortest}
 
 module _ (value : ℕ) where
   pub encode-one : value < 128 → encodeNumber value ≡ value ∷ []
@@ -24,25 +24,7 @@ module _ (value : ℕ) where
   encode-three large larger most =
       simp (le-ltb value 128 large, le-ltb (value / 128) 128 larger, lt-ltb (value / 128 / 128) 128 (omega arith))
 
--- No number takes more than three bytes.
-shortest-length : (most value : ℕ) → length (shortest most value) ≤ most
-shortest-length zero value = omega arith
-shortest-length (suc most) value = by-size (ltb value 128) (shortest-length most (value / 128))
-  where
-    by-size : (small : Bool) → length (shortest most (value / 128)) ≤ most
-        → length (cond {A = List ℕ} small (value ∷ []) ((value % 128 + 128) ∷ shortest most (value / 128))) ≤ suc most
-    by-size true few = omega arith
-    by-size false few = omega (arith, few)
-
-pub at-most-three : (value : ℕ) → length (encodeNumber value) ≤ 3
-unfolding encodeNumber
-at-most-three value = shortest-length 3 value
-
-pub field-at-most-three : (present : Bool) (value : ℕ) → length (encodeField present value) ≤ 3
-field-at-most-three true value = at-most-three value
-field-at-most-three false value = omega arith
-
--- And none takes less than one.
+-- No number takes less than one byte.
 pub at-least-one : (value : ℕ) → 1 ≤ length (encodeNumber value)
 unfolding encodeNumber
 at-least-one value = by-size (ltb value 128)

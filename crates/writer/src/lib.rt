@@ -5,28 +5,19 @@ use fields::POSITION;
 use fields::SCREEN;
 use fields::SESSION;
 use fields::follows;
+use reader::Carried;
+use reader::Edition;
 use reader::Header;
 use reader::Record;
-ghost use mathlib.Core.Path.{_≡_};
+use reader::Version;
+use reader::repeats;
 ghost use Prim.Native.Nat.{_≤_, _<_};
-ghost use lib.ListN.{length};
 ghost use Rattle.buffer.specs.Put.{Fits, Put};
-ghost use Rattle.reader.specs.Results.{headerOf, recordOf};
-ghost use Rattle.sheet_rules.specs.Edition1.{encodeField, encodeHeader, encodeNumber, encodeRecord};
+ghost use mathlib.Core.List.{_++_};
+ghost use Rattle.reader.specs.Results.{carriedOf, editionOf, headerOf, recordOf};
+ghost use Rattle.sheet_rules.specs.Edition1.{encodeField, encodeHeader, encodeNumber, encodeRecord, encodeRest};
+ghost use Rattle.sheet_rules.specs.Edition2.{encodeHeader2, encodeRecord2, shorthandFor};
 ghost use Rattle.sheet_rules.specs.Sheet.{follows as followsCode};
-
-// How many bytes a number has in its shortest form.
-fn number_length(value: u16) -> usize
-    ensures { λ r. ⌜ r ≡ length (encodeNumber value) ⌝ }
-{
-    if value < 128 {
-        return 1;
-    }
-    if value / 128 < 128 {
-        return 2;
-    }
-    3
-}
 
 // Puts a number: groups of seven bits, lowest first; the top bit of a byte (128) says that another follows.
 // Precondition: the buffer has room for it.
@@ -46,18 +37,6 @@ fn put_number(out: &mut [u8], at: usize, value: u16) -> usize
     put_byte(out, third, (high / 128) as u8)
 }
 
-// How many bytes a field has: none, if it does not follow the code.
-// Precondition: the code is one of the five, as for `follows`.
-fn field_length(code: u16, field: usize, value: u16) -> usize
-    requires { ⌜ (1 ≤ code) × (code ≤ 5) × (field < 4) ⌝ }
-    ensures { λ r. ⌜ r ≡ length (encodeField (followsCode code field) value) ⌝ }
-{
-    if follows(code, field) {
-        return number_length(value);
-    }
-    0
-}
-
 // Puts a field if it follows the code.
 // Precondition: the code is one of the five, as for `follows`, and the buffer has room for the field.
 fn put_field(out: &mut [u8], at: usize, code: u16, field: usize, value: u16) -> usize
@@ -70,48 +49,102 @@ fn put_field(out: &mut [u8], at: usize, code: u16, field: usize, value: u16) -> 
     at
 }
 
-// How many bytes a record has.
-// Precondition: the code is one of the five, as for `follows`.
-pub fn record_length(entry: Record) -> usize
-    requires { ⌜ (1 ≤ entry .code) × (entry .code ≤ 5) ⌝ }
-    ensures { λ r. ⌜ r ≡ length (encodeRecord (recordOf entry)) ⌝ }
+// Puts the fields after the desk.
+// Precondition: the code is one of the five, as for `follows`, and the buffer has room for the fields.
+fn put_rest(out: &mut [u8], at: usize, entry: Record) -> usize
+    requires { ⌜ (1 ≤ entry .code) × (entry .code ≤ 5) × Fits (now out) at (encodeRest (recordOf entry)) ⌝ }
+    ensures { λ r. ⌜ Put (now (out .entry)) (now (out .exit)) at (encodeRest (recordOf entry)) r ⌝ }
 {
     let code = entry.code;
-    number_length(code)
-        + field_length(code, DESK, entry.desk)
-        + field_length(code, SCREEN, entry.screen)
-        + field_length(code, POSITION, entry.position)
-        + field_length(code, SESSION, entry.session)
+    let after_screen = put_field(out, at, code, SCREEN, entry.screen);
+    let after_position = put_field(out, after_screen, code, POSITION, entry.position);
+    put_field(out, after_position, code, SESSION, entry.session)
 }
 
-// Puts a record: its code, and then its fields.
+// Puts a record with its desk written out: its code, and then its fields.
 // Precondition: the code is one of the five, as for `follows`, and the buffer has room for the record.
-pub fn put_record(out: &mut [u8], at: usize, entry: Record) -> usize
+fn put_written_out(out: &mut [u8], at: usize, entry: Record) -> usize
     requires { ⌜ (1 ≤ entry .code) × (entry .code ≤ 5) × Fits (now out) at (encodeRecord (recordOf entry)) ⌝ }
     ensures { λ r. ⌜ Put (now (out .entry)) (now (out .exit)) at (encodeRecord (recordOf entry)) r ⌝ }
 {
     let code = entry.code;
     let after_code = put_number(out, at, code);
     let after_desk = put_field(out, after_code, code, DESK, entry.desk);
-    let after_screen = put_field(out, after_desk, code, SCREEN, entry.screen);
-    let after_position = put_field(out, after_screen, code, POSITION, entry.position);
-    put_field(out, after_position, code, SESSION, entry.session)
+    put_rest(out, after_desk, entry)
 }
 
-// How many bytes a header has.
-pub fn header_length(header: Header) -> usize
-    ensures { λ r. ⌜ r ≡ length (encodeHeader (headerOf header)) ⌝ }
+// Puts a record with a shorthand code: the code, and then the fields after the desk.
+// Precondition: the code is one of the five, as for `follows`, and the buffer has room for the record.
+fn put_shorthand(out: &mut [u8], at: usize, entry: Record) -> usize
+    requires { ⌜ (1 ≤ entry .code) × (entry .code ≤ 5) × Fits (now out) at (encodeNumber (shorthandFor (entry .code)) ++ encodeRest (recordOf entry)) ⌝ }
+    ensures { λ r. ⌜ Put (now (out .entry)) (now (out .exit)) at (encodeNumber (shorthandFor (entry .code)) ++ encodeRest (recordOf entry)) r ⌝ }
 {
-    number_length(header.desks) + number_length(header.screens) + number_length(header.positions)
+    let after_code = put_number(out, at, entry.code + 8);
+    put_rest(out, after_code, entry)
 }
 
-// Puts a header: P, c and L.
-// Precondition: the buffer has room for it.
-pub fn put_header(out: &mut [u8], at: usize, header: Header) -> usize
+// Puts a record of edition 2, given what the record before left.
+// Precondition: the code is one of the five, as for `follows`, and the buffer has room for the record.
+fn put_record_2(out: &mut [u8], at: usize, carried: Carried, entry: Record) -> usize
+    requires { ⌜ (1 ≤ entry .code) × (entry .code ≤ 5) × Fits (now out) at (encodeRecord2 (carriedOf carried) (recordOf entry)) ⌝ }
+    ensures { λ r. ⌜ Put (now (out .entry)) (now (out .exit)) at (encodeRecord2 (carriedOf carried) (recordOf entry)) r ⌝ }
+{
+    if repeats(carried, entry.desk) {
+        return put_shorthand(out, at, entry);
+    }
+    put_written_out(out, at, entry)
+}
+
+// Puts a record, given what the record before left.
+// Precondition: the code is one of the five, as for `follows`, and the buffer has room for the record.
+pub fn put_record(
+    out: &mut [u8],
+    at: usize,
+    edition: Edition,
+    carried: Carried,
+    entry: Record,
+) -> usize
+    requires { ⌜ (1 ≤ entry .code) × (entry .code ≤ 5) × Fits (now out) at (editionOf edition .encodeRecord (carriedOf carried) (recordOf entry)) ⌝ }
+    ensures { λ r. ⌜ Put (now (out .entry)) (now (out .exit)) at (editionOf edition .encodeRecord (carriedOf carried) (recordOf entry)) r ⌝ }
+{
+    let version = edition.version;
+    match version {
+        Version::One => put_written_out(out, at, entry),
+        Version::Two => put_record_2(out, at, carried, entry),
+    }
+}
+
+// Puts P, c and L: the header of edition 1, and the end of that of edition 2.
+// Precondition: the buffer has room for them.
+fn put_hall(out: &mut [u8], at: usize, header: Header) -> usize
     requires { ⌜ Fits (now out) at (encodeHeader (headerOf header)) ⌝ }
     ensures { λ r. ⌜ Put (now (out .entry)) (now (out .exit)) at (encodeHeader (headerOf header)) r ⌝ }
 {
     let after_desks = put_number(out, at, header.desks);
     let after_screens = put_number(out, after_desks, header.screens);
     put_number(out, after_screens, header.positions)
+}
+
+// Puts a header of edition 2: 0, 2, and then P, c and L.
+// Precondition: the buffer has room for it.
+fn put_header_2(out: &mut [u8], at: usize, header: Header) -> usize
+    requires { ⌜ Fits (now out) at (encodeHeader2 (headerOf header)) ⌝ }
+    ensures { λ r. ⌜ Put (now (out .entry)) (now (out .exit)) at (encodeHeader2 (headerOf header)) r ⌝ }
+{
+    let after_zero = put_number(out, at, 0);
+    let after_edition = put_number(out, after_zero, 2);
+    put_hall(out, after_edition, header)
+}
+
+// Puts a header.
+// Precondition: the buffer has room for it.
+pub fn put_header(out: &mut [u8], at: usize, edition: Edition, header: Header) -> usize
+    requires { ⌜ Fits (now out) at (editionOf edition .encodeHeader (headerOf header)) ⌝ }
+    ensures { λ r. ⌜ Put (now (out .entry)) (now (out .exit)) at (editionOf edition .encodeHeader (headerOf header)) r ⌝ }
+{
+    let version = edition.version;
+    match version {
+        Version::One => put_hall(out, at, header),
+        Version::Two => put_header_2(out, at, header),
+    }
 }

@@ -88,3 +88,21 @@ put-on {before} {middle} {after} {at} {between} {next} {bytes} {more} first seco
       written = second .written ∙ (λ i. overwriteAt (first .written i) (first .offset i) more) ∙ overwrite-on before at bytes more;
       offset = omega (arith, second .offset, first .offset, length-append bytes more);
     }
+
+-- ---- Bytes put at the start of a buffer.
+module _ {out outAfter bytes : List ℕ} {next : ℕ} (put : Put out outAfter 0 bytes next) where
+  front : outAfter ≡ bytes ++ drop next out
+  unfolding overwriteAt
+  front = put .written ∙ ap (λ (n : ℕ). bytes ++ drop n out) (sym (put .offset))
+
+  long : length bytes ≡ next
+  long = omega (arith, put .offset)
+
+  pub put-within : next ≤ length outAfter
+  put-within = omega (arith, ap length front, length-append bytes (drop next out), long)
+
+  pub put-first : take next outAfter ≡ bytes
+  put-first = ap (take next) front ∙ take-at bytes (drop next out) next long
+
+  pub put-rest : drop next outAfter ≡ drop next out
+  put-rest = ap (drop next) front ∙ drop-at bytes (drop next out) next long

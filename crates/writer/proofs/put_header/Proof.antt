@@ -1,31 +1,40 @@
 -- `writer::put_header` meets its contract.
-use native.Mathlib.Omega.{arith}
-use lib.ListN.{length-append}
 use borrow.Author.Needs.{needs}
-use Rattle.buffer.specs.laws.Put.{put-on}
-use Rattle.sheet_rules.specs.Edition1.{encodeHeader}
 use Rattle.writer.proofs.put_header.Statement.{statement}
 use Rattle.writer.proofs.put_header.Tie as tie
 
-put-number-requires : tie.Need-put-number-requires
-unfolding encodeHeader
-put-number-requires c κs = omega (arith, simp length-append at (c .before .before .pre))
+enum-told : tie.Need-enum-told
+enum-told c = search needs
 
-put-number-requires-2 : tie.Need-put-number-requires-2
-unfolding encodeHeader
-put-number-requires-2 c κs = omega (arith, simp length-append at (c .before .before .before .before .before .before .pre), c .before .before .before .put-number .ensures .offset, c .before .before .before .put-number .kept)
+put-hall-requires : tie.Need-put-hall-requires
+put-hall-requires c κs =
+    let pre = c .before .before .before .before .pre in
+    simp (c .before .enum-told .given .1) at pre
 
-put-number-requires-3 : tie.Need-put-number-requires-3
-unfolding encodeHeader
-put-number-requires-3 c κs = omega (arith, simp length-append at (c .before .before .before .before .before .before .before .before .before .before .pre), c .before .before .before .before .before .before .before .put-number .ensures .offset, c .before .before .before .before .before .before .before .put-number .kept, c .before .before .before .put-number2 .ensures .offset, c .before .before .before .put-number2 .kept)
+enum-told-2 : tie.Need-enum-told-2
+enum-told-2 c = search needs
+
+put-header-2-requires : tie.Need-put-header-2-requires
+put-header-2-requires c κs =
+    let pre = c .before .before .before .before .pre in
+    simp (c .before .enum-told2 .given .1) at pre
 
 same-length : tie.Need-same-length
 same-length c = search needs
 
 returns : tie.Need-returns
-unfolding encodeHeader
-returns c = put-on (c .before .before .before .before .before .before .before .before .before .before .put-number .ensures) (put-on (c .before .before .before .before .before .before .put-number2 .ensures) (c .before .before .put-number3 .ensures))
+returns c =
+    let version = c .before .before .before .before .enum-told .given .1 in
+    simp version (c .before .before .put-hall .ensures)
+
+same-length-2 : tie.Need-same-length-2
+same-length-2 c = search needs
+
+returns-2 : tie.Need-returns-2
+returns-2 c =
+    let version = c .before .before .before .before .enum-told2 .given .1 in
+    simp version (c .before .before .put-header-2 .ensures)
 
 pub put-header-spec : {M : Type 1} → statement M
 put-header-spec =
-    tie.close (tie.spec put-number-requires put-number-requires-2 put-number-requires-3 same-length returns)
+    tie.close (tie.spec enum-told put-hall-requires enum-told-2 put-header-2-requires same-length returns same-length-2 returns-2)
