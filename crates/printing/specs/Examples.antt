@@ -10,7 +10,7 @@ use Rattle.reader.specs.declared.Carried.the-variants.{NoDesk}
 use Rattle.sheet.specs.declared.State.{State}
 use Rattle.sheet_rules.specs.Edition1.{decodeHeader, hallEdition}
 use Rattle.sheet_rules.specs.Lines.{decimal, endLine, line, printed}
-use Rattle.sheet_rules.specs.Sheet.{lentTable, reading}
+use Rattle.sheet_rules.specs.Sheet.{Edition, lentTable, reading}
 use Rattle.tally.specs.Counts.{toTally}
 use Rattle.tally.specs.declared.Tally.{Tally}
 use Rattle.printing.specs.Output.{HandedOver}
@@ -21,7 +21,7 @@ emptyState finished =
     record { offset = 0; index = 0; carried = NoDesk; tally = record { accepted = 0; refused = 0; «handed_back» = 0 }; finished = finished }
 
 -- `0 0 15 0` and `end 0 0 0`, each with its newline, are 19 bytes;
-pub all-of-empty : HandedOver [] true 19
+pub all-of-empty : HandedOver hallEdition [] true 19
 unfolding printed reading decodeHeader decodeNumber decimal line endLine
 all-of-empty = record {
   some = omega arith;
@@ -32,10 +32,10 @@ all-of-empty = record {
 }
 
 pub all-are-19 : 19 ≡ length (printed hallEdition [])
-all-are-19 = complete-output [] 19 all-of-empty
+all-are-19 = complete-output hallEdition [] 19 all-of-empty
 
 -- the first line alone is 9.
-pub first-of-empty : HandedOver [] false 9
+pub first-of-empty : HandedOver hallEdition [] false 9
 unfolding printed reading decodeHeader decodeNumber decimal line endLine
 first-of-empty = record {
   some = omega arith;
@@ -46,10 +46,10 @@ first-of-empty = record {
 }
 
 -- No constant number of bytes meets the contract: 0 bytes for no sheet, and 1 byte not for the empty sheet.
-pub never-nothing : (sheet : List ℕ) (complete : Bool) → HandedOver sheet complete 0 → ⊥
-never-nothing sheet complete handed = omega (arith, handed .some)
+pub never-nothing : (edition : Edition) (sheet : List ℕ) (complete : Bool) → HandedOver edition sheet complete 0 → ⊥
+never-nothing edition sheet complete handed = omega (arith, handed .some)
 
-pub never-one-byte : (complete : Bool) → HandedOver [] complete 1 → ⊥
+pub never-one-byte : (complete : Bool) → HandedOver hallEdition [] complete 1 → ⊥
 unfolding printed reading decodeHeader decodeNumber decimal line endLine
 never-one-byte complete handed = by-end (handed .state .finished) (handed .state .tally) (handed .reached .output)
   where

@@ -10,12 +10,12 @@ use Rattle.rules.specs.Numbers.{Refusal, parsed, refusalOf}
 use Rattle.rules.specs.Steps.{Answer, Result, decide}
 use Rattle.rules.specs.Table.{openTable, openedTable}
 use Rattle.buffer.specs.Put.{Put}
+use Rattle.buffer.specs.laws.Put.{put-first, put-rest, put-within}
 use Rattle.sheet.specs.laws.Length.{line-some}
 use Rattle.reply.specs.Answer.{answerOf, tableResult}
-use Rattle.sheet_rules.specs.Edition1.{hallEdition}
+use Rattle.sheet_rules.specs.Lawful.{Lawful}
 use Rattle.sheet_rules.specs.Lines.{answerLine, endLine, line, linesFrom, linesOf, printed, refusalLine}
-use Rattle.sheet_rules.specs.Sheet.{afterOpening, beginSheet, ifOpens, lentTable, opened, openingNumber, reading, unopened}
-use Rattle.sheet_rules.specs.SheetTheorems.{hall-edition-lawful}
+use Rattle.sheet_rules.specs.Sheet.{Edition, afterOpening, beginSheet, ifOpens, lentTable, opened, openingNumber, reading, unopened}
 use Rattle.sheet_rules.specs.Tally.{zeros}
 use Rattle.sheet_rules.specs.laws.Sheet.{begun, begun-header, opening-answer, reading-opens}
 use Rattle.sheet.specs.Batch.{Started, callsOf, finishedAt, remainingRecords, startTable}
@@ -23,7 +23,6 @@ use Rattle.reader.specs.declared.Carried.the-variants.{NoDesk}
 use Rattle.reply.specs.declared.Reply.{Reply}
 use Rattle.tally.specs.declared.Tally.{Tally}
 use Rattle.sheet.specs.declared.State.{State}
-use Rattle.sheet.proofs.BatchLaws.{put-first, put-rest, put-within}
 
 -- before anything is read, and at the first record
 abbrev noTally : Tally
@@ -42,16 +41,16 @@ opening-number : (hall : Hall) (reply : Reply) (after : List ℕ) {number : ℕ}
 opening-number hall reply after tells is-number =
     sym (ap (λ (answer : Answer). answer .number) (opening-answer hall)) ∙ sym (ap (λ (done : Result (List ℕ)). done .answer .number) tells) ∙ sym is-number
 
-reads-by : (sheet : List ℕ) {hall : Hall} {next number : ℕ} → beginSheet hallEdition sheet ≡ parsed hall next
+reads-by : (edition : Edition) (sheet : List ℕ) {hall : Hall} {next number : ℕ} → beginSheet edition sheet ≡ parsed hall next
     → openingNumber hall ≡ number
-    → reading hallEdition sheet ≡ afterOpening hallEdition sheet (ifOpens number hall next)
-reads-by sheet read opening = reading-opens hallEdition sheet (begun hallEdition sheet read opening)
+    → reading edition sheet ≡ afterOpening edition sheet (ifOpens number hall next)
+reads-by edition sheet read opening = reading-opens edition sheet (begun edition sheet read opening)
 
-module _ {sheet out outAfter : List ℕ} {end : ℕ} where
+module _ {edition : Edition} {sheet out outAfter : List ℕ} {end : ℕ} where
   -- The reading ended before a record: the header's line and the last line are all there is.
-  pub started-stopped : {reason : Refusal} {after : List ℕ} {is : State} → reading hallEdition sheet ≡ unopened reason → after ≡ lentTable
+  pub started-stopped : {reason : Refusal} {after : List ℕ} {is : State} → reading edition sheet ≡ unopened reason → after ≡ lentTable
       → Put out outAfter 0 (refusalLine 0 reason ++ endLine zeros) end → is ≡ finishedAt atHeader
-      → Started sheet out is after outAfter end
+      → Started edition sheet out is after outAfter end
   unfolding printed
   started-stopped {reason} reads same put finished = rw finished (record {
     within = put-within put;
@@ -64,45 +63,45 @@ module _ {sheet out outAfter : List ℕ} {end : ℕ} where
   })
 
   -- The header was read, and the board replied to the opening.
-  module _ (reply : Reply) {hall : Hall} {next : ℕ} {after : List ℕ} {number : ℕ} (read : beginSheet hallEdition sheet ≡ parsed hall next)
+  module _ (reply : Reply) {hall : Hall} {next : ℕ} {after : List ℕ} {number : ℕ} (read : beginSheet edition sheet ≡ parsed hall next)
       (tells : tableResult reply after ≡ openTable hallLimits hall lentTable) (is-number : number ≡ answerOf reply .number) where
     pub started-refused : {is : State} {reason : Refusal} → (number ≡ 0 → ⊥) → reason ≡ refusalOf 0 number 0
         → Put out outAfter 0 (refusalLine 0 reason ++ endLine zeros) end
         → is ≡ finishedAt atHeader
-        → Started sheet out is after outAfter end
+        → Started edition sheet out is after outAfter end
     unfolding openTable openingNumber
     started-refused some is-reason =
-        started-stopped (reads-by sheet read opening ∙ by-number number some .0 ∙ ap unopened (sym is-reason))
+        started-stopped (reads-by edition sheet read opening ∙ by-number number some .0 ∙ ap unopened (sym is-reason))
         (ap (λ (done : Result (List ℕ)). done .after) tells ∙ ap (λ (n : ℕ). decide n lentTable 0 (openedTable hall lentTable) .after) opening ∙ by-number number some .1)
       where
         opening : openingNumber hall ≡ number
         opening = opening-number hall reply after tells is-number
 
         by-number : (n : ℕ) → (n ≡ 0 → ⊥)
-            → (afterOpening hallEdition sheet (ifOpens n hall next) ≡ unopened (refusalOf 0 n 0)) × (decide n lentTable 0 (openedTable hall lentTable) .after ≡ lentTable)
+            → (afterOpening edition sheet (ifOpens n hall next) ≡ unopened (refusalOf 0 n 0)) × (decide n lentTable 0 (openedTable hall lentTable) .after ≡ lentTable)
         by-number zero some = absurd (some refl)
         by-number (suc n) some = (refl, refl)
 
-    pub started-opened : number ≡ 0 → Put out outAfter 0 (line 0 0 0 0) end → Started sheet out (atFirst next) after outAfter end
+    pub started-opened : {maxSession : ℕ} → Lawful edition maxSession → number ≡ 0 → Put out outAfter 0 (line 0 0 0 0) end → Started edition sheet out (atFirst next) after outAfter end
     unfolding printed
-    started-opened none put = record {
+    started-opened lawful none put = record {
       within = put-within put;
       output =
-          (λ i. put-first put i ++ linesFrom (leaves i) 1 zeros (remainingRecords sheet (atFirst next)))
-          ∙ ap (λ (answer : Answer). answerLine 0 0 answer ++ linesFrom (openTable hallLimits hall lentTable .after) 1 zeros (remainingRecords sheet (atFirst next))) (sym answers)
+          (λ i. put-first put i ++ linesFrom (leaves i) 1 zeros (remainingRecords edition sheet (atFirst next)))
+          ∙ ap (λ (answer : Answer). answerLine 0 0 answer ++ linesFrom (openTable hallLimits hall lentTable .after) 1 zeros (remainingRecords edition sheet (atFirst next))) (sym answers)
           ∙ sym (ap linesOf reads);
       some = omega (arith, put .offset, line-some 0 0 0 0);
       run = sym (ap callsOf reads);
       table = leaves ∙ sym (ap startTable reads);
       rest = put-rest put;
-      numbered = omega (arith, hall-edition-lawful .header-moves sheet 0 hall next (begun-header hallEdition sheet read) .past);
+      numbered = omega (arith, lawful .header-moves sheet 0 hall next (begun-header edition sheet read) .past);
     }
       where
         opening : openingNumber hall ≡ 0
         opening = opening-number hall reply after tells is-number ∙ none
 
-        reads : reading hallEdition sheet ≡ opened hall (remainingRecords sheet (atFirst next))
-        reads = reads-by sheet read opening
+        reads : reading edition sheet ≡ opened hall (remainingRecords edition sheet (atFirst next))
+        reads = reads-by edition sheet read opening
 
         leaves : after ≡ openTable hallLimits hall lentTable .after
         leaves = ap (λ (done : Result (List ℕ)). done .after) tells

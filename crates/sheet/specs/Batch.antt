@@ -10,10 +10,9 @@ use Rattle.rules.specs.Steps.{Call, end}
 use Rattle.rules.specs.Table.{openTable, stepTable}
 use Rattle.buffer.specs.Put.{Put}
 use Rattle.reader.specs.Results.{carriedOf}
-use Rattle.sheet_rules.specs.Edition1.{hallEdition}
 use Rattle.sheet_rules.specs.Lines.{linesFrom, printed}
 use Rattle.sheet_rules.specs.Run.{callsIn}
-use Rattle.sheet_rules.specs.Sheet.{Reading, Records, decodeRecords, lentTable, opened, reading, unopened}
+use Rattle.sheet_rules.specs.Sheet.{Edition, Reading, Records, decodeRecords, lentTable, opened, reading, unopened}
 use Rattle.tally.specs.Counts.{toTally}
 use Rattle.sheet.specs.declared.State.{State}
 
@@ -25,17 +24,17 @@ abbrev pub recordRoom : ℕ
 recordRoom = 84 + endRoom
 
 -- The records that remain to be read.
-abbrev pub remainingRecords : List ℕ → State → Records
-remainingRecords sheet state = decodeRecords hallEdition (length sheet) (carriedOf (state .carried)) sheet (state .offset)
+abbrev pub remainingRecords : Edition → List ℕ → State → Records
+remainingRecords edition sheet state = decodeRecords edition (length sheet) (carriedOf (state .carried)) sheet (state .offset)
 
 -- The bytes of a sheet's output that remain to be printed: none after the last line, else the lines from the next record on.
-abbrev pub remainingOutput : List ℕ → State → List ℕ → List ℕ
-remainingOutput sheet state table =
-    cond (state .finished) [] (linesFrom table (state .index) (toTally (state .tally)) (remainingRecords sheet state))
+abbrev pub remainingOutput : Edition → List ℕ → State → List ℕ → List ℕ
+remainingOutput edition sheet state table =
+    cond (state .finished) [] (linesFrom table (state .index) (toTally (state .tally)) (remainingRecords edition sheet state))
 
 -- The calls that remain to be run.
-abbrev pub remainingCalls : List ℕ → State → List Call
-remainingCalls sheet state = cond (state .finished) [] (callsIn (remainingRecords sheet state))
+abbrev pub remainingCalls : Edition → List ℕ → State → List Call
+remainingCalls edition sheet state = cond (state .finished) [] (callsIn (remainingRecords edition sheet state))
 
 -- A bound on the batches that remain: each but the last reads at least one record, and a record has at least one byte.
 abbrev pub batchesLeft : List ℕ → State → ℕ
@@ -46,10 +45,10 @@ finishedAt state = record { offset = state .offset; index = state .index; carrie
 
 -- Bytes that lead from one state and table to another: followed by what remains after them, they are what remained before.
 -- The table is as the calls that were run leave it; how many these are is left free.
-pub record Emitted (sheet : List ℕ) (was : State) (before bytes : List ℕ) (is : State) (after : List ℕ) : Type 0 where
-  pub output : bytes ++ remainingOutput sheet is after ≡ remainingOutput sheet was before
+pub record Emitted (edition : Edition) (sheet : List ℕ) (was : State) (before bytes : List ℕ) (is : State) (after : List ℕ) : Type 0 where
+  pub output : bytes ++ remainingOutput edition sheet is after ≡ remainingOutput edition sheet was before
   pub calls : List Call
-  pub run : calls ++ remainingCalls sheet is ≡ remainingCalls sheet was
+  pub run : calls ++ remainingCalls edition sheet is ≡ remainingCalls edition sheet was
   pub table : after ≡ end (stepTable hallLimits) before calls
 
 -- Fewer batches remain, unless none did. A record's number is at most its offset, so that it does not overflow.
@@ -58,15 +57,15 @@ pub record Progress (sheet : List ℕ) (was is : State) : Type 0 where
   pub numbered : is .index ≤ is .offset
 
 -- A part of a batch: the bytes are in the buffer, from an offset on.
-pub record PartialBatch (sheet : List ℕ) (was : State) (before out : List ℕ) (at : ℕ) (is : State) (after outAfter : List ℕ) (next : ℕ) : Type 0 where
+pub record PartialBatch (edition : Edition) (sheet : List ℕ) (was : State) (before out : List ℕ) (at : ℕ) (is : State) (after outAfter : List ℕ) (next : ℕ) : Type 0 where
   pub bytes : List ℕ
   pub put : Put out outAfter at bytes next
-  pub emitted : Emitted sheet was before bytes is after
+  pub emitted : Emitted edition sheet was before bytes is after
 
 -- A batch: its bytes are the first of the buffer, and the rest of the buffer is unchanged.
-pub record Batch (sheet : List ℕ) (was : State) (before out : List ℕ) (is : State) (after outAfter : List ℕ) (put : ℕ) : Type 0 where
+pub record Batch (edition : Edition) (sheet : List ℕ) (was : State) (before out : List ℕ) (is : State) (after outAfter : List ℕ) (put : ℕ) : Type 0 where
   pub within : put ≤ length outAfter
-  pub emitted : Emitted sheet was before (take put outAfter) is after
+  pub emitted : Emitted edition sheet was before (take put outAfter) is after
   pub rest : drop put outAfter ≡ drop put out
   pub progress : Progress sheet was is
 
@@ -82,16 +81,16 @@ callsOf (unopened reason) = []
 callsOf (opened hall records) = callsIn records
 
 -- the table after all calls of a sheet
-abbrev pub sheetTable : List ℕ → List ℕ
-sheetTable sheet = end (stepTable hallLimits) (startTable (reading hallEdition sheet)) (callsOf (reading hallEdition sheet))
+abbrev pub sheetTable : Edition → List ℕ → List ℕ
+sheetTable edition sheet = end (stepTable hallLimits) (startTable (reading edition sheet)) (callsOf (reading edition sheet))
 
 -- The first bytes of the output: the header's line, or all lines where the reading ends before a record.
-pub record Started (sheet out : List ℕ) (is : State) (after outAfter : List ℕ) (put : ℕ) : Type 0 where
+pub record Started (edition : Edition) (sheet out : List ℕ) (is : State) (after outAfter : List ℕ) (put : ℕ) : Type 0 where
   pub within : put ≤ length outAfter
-  pub output : take put outAfter ++ remainingOutput sheet is after ≡ printed hallEdition sheet
+  pub output : take put outAfter ++ remainingOutput edition sheet is after ≡ printed edition sheet
   pub some : 1 ≤ put
-  pub run : remainingCalls sheet is ≡ callsOf (reading hallEdition sheet)
-  pub table : after ≡ startTable (reading hallEdition sheet)
+  pub run : remainingCalls edition sheet is ≡ callsOf (reading edition sheet)
+  pub table : after ≡ startTable (reading edition sheet)
   pub rest : drop put outAfter ≡ drop put out
   pub numbered : is .index ≤ is .offset
 
@@ -116,10 +115,10 @@ bytesOf [] = []
 bytesOf (batch ∷ batches) = batch .bytes ++ bytesOf batches
 
 -- Each batch starts at the state and the table that the last one left, and only where that state is not finished.
-abbrev pub Batches : List ℕ → State → List ℕ → List BatchResult → Type 0
-Batches sheet was before [] = Unit {0}
-Batches sheet was before (batch ∷ batches) =
+abbrev pub Batches : Edition → List ℕ → State → List ℕ → List BatchResult → Type 0
+Batches edition sheet was before [] = Unit {0}
+Batches edition sheet was before (batch ∷ batches) =
     (was .finished ≡ false)
-    × Emitted sheet was before (batch .bytes) (batch .state) (batch .table)
+    × Emitted edition sheet was before (batch .bytes) (batch .state) (batch .table)
     × Progress sheet was (batch .state)
-    × Batches sheet (batch .state) (batch .table) batches
+    × Batches edition sheet (batch .state) (batch .table) batches

@@ -7,7 +7,7 @@ use board::take;
 use lines::put_end;
 use lines::put_line;
 use reader::Carried;
-use reader::Format;
+use reader::Edition;
 use reader::ParsedHeader;
 use reader::ParsedRecord;
 use reader::Record;
@@ -27,7 +27,7 @@ ghost use Prim.Native.Nat.{_+_, _≤_};
 ghost use lib.ListN.{length};
 ghost use Rattle.rules.specs.Bytes.{wordsOfBytes};
 ghost use Rattle.buffer.specs.Put.{Put};
-ghost use Rattle.reader.specs.Results.{reasonOf, recordOf};
+ghost use Rattle.reader.specs.Results.{editionOf, reasonOf, recordOf};
 ghost use Rattle.sheet_rules.specs.Lines.{endLine, refusalLine};
 ghost use Rattle.sheet_rules.specs.Sheet.{lentTable};
 ghost use Rattle.tally.specs.Counts.{toTally};
@@ -117,9 +117,16 @@ fn stop(out: &mut [u8], at: usize, state: State, reason: Refusal) -> Filled
 // Runs the step of the next record and puts its line, or the line of what ends the reading. After the last record it puts the last line.
 // Precondition: the last line was not put, the record number is at most the offset, and the buffer has room for a record's line and the
 // last line.
-fn put_record(sheet: &[u8], state: State, table: &mut [u8], out: &mut [u8], at: usize) -> Filled
+fn put_record(
+    sheet: &[u8],
+    edition: Edition,
+    state: State,
+    table: &mut [u8],
+    out: &mut [u8],
+    at: usize,
+) -> Filled
     requires { ⌜ (state .finished ≡ false) × (state .index ≤ state .offset) × (at + recordRoom ≤ length (now out)) ⌝ }
-    ensures partial { λ r. ⌜ PartialBatch (now (sheet .entry)) state (wordsOfBytes (now (table .entry))) (now (out .entry)) at (r .state) (wordsOfBytes (now (table .exit))) (now (out .exit)) (r .put) ⌝ }
+    ensures partial { λ r. ⌜ PartialBatch (editionOf edition) (now (sheet .entry)) state (wordsOfBytes (now (table .entry))) (now (out .entry)) at (r .state) (wordsOfBytes (now (table .exit))) (now (out .exit)) (r .put) ⌝ }
     ensures progress { λ r. ⌜ Progress (now (sheet .entry)) state (r .state) ⌝ }
 {
     let offset = state.offset;
@@ -127,7 +134,7 @@ fn put_record(sheet: &[u8], state: State, table: &mut [u8], out: &mut [u8], at: 
         return finish(out, at, state);
     }
     let carried = state.carried;
-    match read_record(sheet, offset, Format::HALL, carried) {
+    match read_record(sheet, offset, edition, carried) {
         ParsedRecord::Refused(reason) => stop(out, at, state, reason),
         ParsedRecord::Whole(entry, next) => {
             let r = run_record(table, entry);
@@ -162,9 +169,15 @@ fn put_record(sheet: &[u8], state: State, table: &mut [u8], out: &mut [u8], at: 
 // Fills the buffer with a batch: one record after another while there is room for one more line and the last line.
 // Precondition: the buffer has room for a record's line and the last line, so that each batch makes progress; the record number is at most
 // the offset, as in every state that `start` and `fill` return, so that it does not overflow.
-pub fn fill(sheet: &[u8], state: State, table: &mut [u8], out: &mut [u8]) -> Filled
+pub fn fill(
+    sheet: &[u8],
+    edition: Edition,
+    state: State,
+    table: &mut [u8],
+    out: &mut [u8],
+) -> Filled
     requires { ⌜ (state .index ≤ state .offset) × (recordRoom ≤ length (now out)) ⌝ }
-    ensures { λ r. ⌜ Batch (now (sheet .entry)) state (wordsOfBytes (now (table .entry))) (now (out .entry)) (r .state) (wordsOfBytes (now (table .exit))) (now (out .exit)) (r .put) ⌝ }
+    ensures { λ r. ⌜ Batch (editionOf edition) (now (sheet .entry)) state (wordsOfBytes (now (table .entry))) (now (out .entry)) (r .state) (wordsOfBytes (now (table .exit))) (now (out .exit)) (r .put) ⌝ }
 {
     let mut current = state;
     let mut at = 0;
@@ -175,7 +188,7 @@ pub fn fill(sheet: &[u8], state: State, table: &mut [u8], out: &mut [u8]) -> Fil
                 put: at,
             };
         }
-        let filled = put_record(sheet, current, table, out, at);
+        let filled = put_record(sheet, edition, current, table, out, at);
         current = filled.state;
         at = filled.put;
     }
@@ -188,9 +201,9 @@ pub fn fill(sheet: &[u8], state: State, table: &mut [u8], out: &mut [u8]) -> Fil
 // The first batch: begins to read the sheet, opens the hall in the table and puts the header's line.
 // Precondition: the words of the table are those that the rules lend, `lentTable`, all zeros; the buffer has room for a record's line and
 // the last line.
-pub fn start(sheet: &[u8], table: &mut [u8], out: &mut [u8]) -> Filled
+pub fn start(sheet: &[u8], edition: Edition, table: &mut [u8], out: &mut [u8]) -> Filled
     requires { ⌜ (wordsOfBytes (now table) ≡ lentTable) × (recordRoom ≤ length (now out)) ⌝ }
-    ensures { λ r. ⌜ Started (now (sheet .entry)) (now (out .entry)) (r .state) (wordsOfBytes (now (table .exit))) (now (out .exit)) (r .put) ⌝ }
+    ensures { λ r. ⌜ Started (editionOf edition) (now (sheet .entry)) (now (out .entry)) (r .state) (wordsOfBytes (now (table .exit))) (now (out .exit)) (r .put) ⌝ }
 {
     let none = Tally {
         accepted: 0,
@@ -205,7 +218,7 @@ pub fn start(sheet: &[u8], table: &mut [u8], out: &mut [u8]) -> Filled
         tally: none,
         finished: false,
     };
-    match begin_sheet(sheet, Format::HALL) {
+    match begin_sheet(sheet, edition) {
         ParsedHeader::Refused(reason) => stop(out, 0, header_state, reason),
         ParsedHeader::Whole(header, next) => {
             let r = open(table, header.desks, header.screens, header.positions);

@@ -7,6 +7,7 @@ use lib.ListN.{length}
 use lib.Seq.{length-take-le}
 use borrow.Author.Needs.{needs}
 use Rattle.rules.specs.Bytes.{wordsOfBytes}
+use Rattle.reader.specs.Results.{editionOf}
 use Rattle.sheet.specs.Batch.{batchesLeft}
 use Rattle.sheet.specs.laws.Batches.{fewer-left}
 use Rattle.sheet_rules.specs.laws.Sheet.{lent-bytes}
@@ -16,11 +17,11 @@ use Rattle.printing.proofs.print.Statement.{statement}
 use Rattle.printing.proofs.print.Tie as tie
 
 abbrev Inv-loop : tie.InvT-loop
-Inv-loop sheet table₀ out₀ put state₀ bytes₀ taken₀ table out state bytes taken =
-    (4774 ≡ length table) × (65536 ≡ length out) × (state .index ≤ state .offset) × (1 ≤ bytes) × Reached sheet bytes state (wordsOfBytes table)
+Inv-loop sheet edition table₀ out₀ put state₀ bytes₀ taken₀ table out state bytes taken =
+    (4774 ≡ length table) × (65536 ≡ length out) × (state .index ≤ state .offset) × (1 ≤ bytes) × Reached (editionOf edition) sheet bytes state (wordsOfBytes table)
 
 abbrev μ-loop : tie.MeasureT-loop
-μ-loop sheet table₀ out₀ put state₀ bytes₀ taken₀ table out state bytes taken = batchesLeft sheet state
+μ-loop sheet edition table₀ out₀ put state₀ bytes₀ taken₀ table out state bytes taken = batchesLeft sheet state
 
 large-buffer-requires : tie.Need-large-buffer-requires Inv-loop μ-loop
 large-buffer-requires c κs = search needs
@@ -38,7 +39,7 @@ array-share-prefix-out : tie.Need-array-share-prefix-out Inv-loop μ-loop
 array-share-prefix-out c = c .before .before .before .start .ensures .within
 
 slice-aggregate-write-all : tie.Need-slice-aggregate-write-all Inv-loop μ-loop
-slice-aggregate-write-all c = let start = c .before .before .before .before .start in sym (length-take-le (start .result .put) (start .last .1 .1 .0) (start .ensures .within))
+slice-aggregate-write-all c = let start = c .before .before .before .before .start in sym (length-take-le (start .result .put) (start .last .1 .1 .1 .0) (start .ensures .within))
 
 write-all-requires : tie.Need-write-all-requires Inv-loop μ-loop
 write-all-requires c κs = search needs
@@ -46,7 +47,7 @@ write-all-requires c κs = search needs
 loop-holds : tie.Need-loop-holds Inv-loop μ-loop
 loop-holds c =
     let start = c .before .before .before .before .before .start in
-    (omega (arith, start .kept .1 .0), omega (arith, start .kept .1 .1 .0, c .before .before .before .before .before .before .before .before .large-buffer .ensures), start .ensures .numbered, start .ensures .some, reached-start (start .ensures))
+    (omega (arith, start .kept .1 .1 .0), omega (arith, start .kept .1 .1 .1 .0, c .before .before .before .before .before .before .before .before .large-buffer .ensures), start .ensures .numbered, start .ensures .some, reached-start (start .ensures))
 
 returns : tie.Need-returns Inv-loop μ-loop
 returns c =
@@ -71,7 +72,7 @@ array-share-prefix-out-2 : tie.Need-array-share-prefix-out-2 Inv-loop μ-loop
 array-share-prefix-out-2 c = c .before .before .before .fill .ensures .within
 
 slice-aggregate-write-all-2 : tie.Need-slice-aggregate-write-all-2 Inv-loop μ-loop
-slice-aggregate-write-all-2 c = let fill = c .before .before .before .before .fill in sym (length-take-le (fill .result .put) (fill .last .1 .1 .1 .0) (fill .ensures .within))
+slice-aggregate-write-all-2 c = let fill = c .before .before .before .before .fill in sym (length-take-le (fill .result .put) (fill .last .1 .1 .1 .1 .0) (fill .ensures .within))
 
 write-all-requires-2 : tie.Need-write-all-requires-2 Inv-loop μ-loop
 write-all-requires-2 c κs = search needs
@@ -83,7 +84,7 @@ loop-again : tie.Need-loop-again Inv-loop μ-loop
 loop-again c =
     let inv = c .before .before .before .before .before .before .before .before .before .before .loop .inv in
     let fill = c .before .before .before .before .before .fill in
-    (omega (arith, inv .0, fill .kept .1 .1 .0), omega (arith, inv .1, fill .kept .1 .1 .1 .0), fill .ensures .progress .numbered, omega (arith, inv .3), reached-batch (inv .4) (fill .ensures))
+    (omega (arith, inv .0, fill .kept .1 .1 .1 .0), omega (arith, inv .1, fill .kept .1 .1 .1 .1 .0), fill .ensures .progress .numbered, omega (arith, inv .3), reached-batch (inv .4) (fill .ensures))
 
 returns-2 : tie.Need-returns-2 Inv-loop μ-loop
 returns-2 c =

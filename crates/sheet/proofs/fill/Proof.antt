@@ -3,6 +3,7 @@ use native.Mathlib.Omega.{arith}
 use mathlib.Core.Path.{_≡_, refl, _∙_}
 use lib.ListN.{length}
 use Rattle.rules.specs.Bytes.{wordsOfBytes}
+use Rattle.reader.specs.Results.{editionOf}
 use Rattle.sheet.specs.Batch.{batchesLeft}
 use Rattle.sheet.specs.laws.Batches.{fewer-left}
 use Rattle.sheet.proofs.BatchLaws.{InBatch, batch-finished, batch-full, in-batch-first, in-batch-next, in-batch-within}
@@ -10,10 +11,10 @@ use Rattle.sheet.proofs.fill.Statement.{statement}
 use Rattle.sheet.proofs.fill.Tie as tie
 
 abbrev Inv-loop : tie.InvT-loop
-Inv-loop sheet table₀ out₀ current₀ at₀ table out current at = (length table ≡ length table₀) × InBatch sheet current₀ (wordsOfBytes table₀) out₀ current (wordsOfBytes table) out at
+Inv-loop sheet edition table₀ out₀ current₀ at₀ table out current at = (length table ≡ length table₀) × InBatch (editionOf edition) sheet current₀ (wordsOfBytes table₀) out₀ current (wordsOfBytes table) out at
 
 abbrev μ-loop : tie.MeasureT-loop
-μ-loop sheet table₀ out₀ current₀ at₀ table out current at = batchesLeft sheet current
+μ-loop sheet edition table₀ out₀ current₀ at₀ table out current at = batchesLeft sheet current
 
 loop-holds : tie.Need-loop-holds Inv-loop μ-loop
 loop-holds c = (refl, in-batch-first (c .before .before .before .pre .0))
@@ -42,7 +43,7 @@ loop-again : tie.Need-loop-again Inv-loop μ-loop
 loop-again c =
     let put = c .before .before .before .before .before .put-record in
     let inv = c .before .before .before .before .before .before .before .before .before .before .loop .inv in
-    (put .kept .1 .1 .0 ∙ inv .0, in-batch-next (inv .1) (put .ensures .0) (put .ensures .1) (put .kept .1 .1 .1 .0))
+    (put .kept .1 .1 .1 .0 ∙ inv .0, in-batch-next (inv .1) (put .ensures .0) (put .ensures .1) (put .kept .1 .1 .1 .1 .0))
 
 same-length-3 : tie.Need-same-length-3 Inv-loop μ-loop
 same-length-3 c = omega (arith, c .before .loop .inv .0)

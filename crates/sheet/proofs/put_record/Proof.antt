@@ -4,15 +4,21 @@ use mathlib.Core.Path.{_≡_, sym, ap, _∙_}
 use borrow.Author.Needs.{needs}
 use Rattle.rules.specs.Numbers.{parsed}
 use Rattle.sheet_rules.specs.laws.Longest.{line-length}
-use Rattle.reader.specs.Results.{recordOf, recordResult}
+use Rattle.reader.specs.Results.{editionOf, recordOf, recordResult}
+use Rattle.reader.specs.laws.Editions.{edition-lawful}
+use Rattle.sheet_rules.specs.Lawful.{Lawful}
 use Rattle.sheet.proofs.BatchLaws.{finished-progress, nextRecord, reading-stopped, record-progress, record-ran, sheet-ended}
 use Rattle.sheet.proofs.put_record.Statement.{statement}
 use Rattle.sheet.proofs.put_record.Tie as tie
 
+-- the edition is lawful
+lawful : (start : tie.Start) → Lawful (editionOf (start .args .edition)) (start .args .edition .format .«max_session»)
+lawful start = edition-lawful (start .args .edition) (omega (arith, start .good .1 .0))
+
 -- the record that was read
 record-read : (c : tie.After-known-told2) →
     let a = c .before .before .before .before .before .before .before .before .args in
-    nextRecord (a .sheet .now) (a .state) ≡ parsed (recordOf (c .before .entry .given .0 .0)) (c .before .entry .given .0 .1 .0)
+    nextRecord (editionOf (a .edition)) (a .sheet .now) (a .state) ≡ parsed (recordOf (c .before .entry .given .0 .0)) (c .before .entry .given .0 .1 .0)
 record-read c = sym (c .before .before .before .read-record .ensures) ∙ ap recordResult (c .before .entry .given .1)
 
 finish-requires : tie.Need-finish-requires
@@ -25,7 +31,7 @@ returns : tie.Need-returns
 returns c =
     let start = c .before .before .before .before .before .before .before .before in
     let last = c .before .before .finish .ensures in
-    (sheet-ended (start .pre .0) (c .before .before .before .before .if1 .taken) (last .0) (last .1), finished-progress (last .1) (start .pre .1))
+    (sheet-ended (lawful start) (start .pre .0) (c .before .before .before .before .if1 .taken) (last .0) (last .1), finished-progress (last .1) (start .pre .1))
 
 read-record-requires : tie.Need-read-record-requires
 read-record-requires c κs = search needs
@@ -80,7 +86,7 @@ returns-2 c =
     let start = after-read .before .before .before .before .before in
     let last = c .before .before .stop .ensures in
     let read = sym (after-read .read-record .ensures) ∙ ap recordResult (matched .reason .given .1) in
-    (reading-stopped (start .pre .0) (after-read .before .if1 .left) read (last .0) (last .1), finished-progress (last .1) (start .pre .1))
+    (reading-stopped (lawful start) (start .pre .0) (after-read .before .if1 .left) read (last .0) (last .1), finished-progress (last .1) (start .pre .1))
 
 same-length-3 : tie.Need-same-length-3
 same-length-3 c = search needs
@@ -94,7 +100,7 @@ returns-3 c =
     let inside = c .before .before .before .before .before .before .before .before .before .before .before .before .before .before .before .before .before .before .if1 .left in
     let read = record-read (c .before .before .before .before .before .before .before .before .before .before .before .before .before .before) in
     let ran-step = c .before .before .before .before .before .before .before .before .before .before .before .before .run-record in
-    (record-ran (start .pre .0) inside read (ran-step .result) (ran-step .ensures .words) (c .before .before .before .before .before .before .before .before .before .number .ensures) (c .before .before .before .before .before .before .before .before .session .ensures) (c .before .add-step-lent .ensures) (c .before .before .before .before .before .put-line .ensures), record-progress (start .pre .0) inside read (start .pre .1))
+    (record-ran (lawful start) (start .pre .0) inside read (ran-step .result) (ran-step .ensures .words) (c .before .before .before .before .before .before .before .before .before .number .ensures) (c .before .before .before .before .before .before .before .before .session .ensures) (c .before .add-step-lent .ensures) (c .before .before .before .before .before .put-line .ensures), record-progress (lawful start) (start .pre .0) inside read (start .pre .1))
 
 pub put-record-spec : {M : Type 1} → statement M
 put-record-spec =

@@ -7,17 +7,24 @@ use Rattle.rules.specs.Hall.{hallLimits}
 use Rattle.rules.specs.Numbers.{parsed}
 use Rattle.rules.specs.Table.{openTable}
 use Rattle.sheet_rules.specs.laws.Longest.{line-length}
-use Rattle.reader.specs.Results.{headerOf, headerResult}
+use Rattle.reader.specs.Results.{editionOf, headerOf, headerResult}
 use Rattle.reply.specs.Answer.{tableResult}
-use Rattle.sheet_rules.specs.Edition1.{hallEdition}
+use Rattle.reader.specs.laws.Editions.{edition-lawful}
+use Rattle.sheet_rules.specs.Lawful.{Lawful}
 use Rattle.sheet_rules.specs.Sheet.{beginSheet, lentTable}
 use Rattle.sheet_rules.specs.laws.Sheet.{not-begun, reading-opens}
 use Rattle.sheet.proofs.StartLaws.{started-opened, started-refused, started-stopped}
 use Rattle.sheet.proofs.start.Statement.{statement}
 use Rattle.sheet.proofs.start.Tie as tie
 
+-- the edition is lawful
+lawful : (start : tie.Start) → Lawful (editionOf (start .args .edition)) (start .args .edition .format .«max_session»)
+lawful start = edition-lawful (start .args .edition) (omega (arith, start .good .1 .0))
+
 -- the header that was read
-header-read : (c : tie.After-known-told2) → beginSheet hallEdition (c .before .before .before .before .before .before .before .args .sheet .now) ≡ parsed (headerOf (c .before .header .given .0 .0)) (c .before .header .given .0 .1 .0)
+header-read : (c : tie.After-known-told2) →
+    let start = c .before .before .before .before .before .before .before in
+    beginSheet (editionOf (start .args .edition)) (start .args .sheet .now) ≡ parsed (headerOf (c .before .header .given .0 .0)) (c .before .header .given .0 .1 .0)
 header-read c = sym (c .before .before .before .begin-sheet .ensures) ∙ ap headerResult (c .before .header .given .1)
 
 -- what the board replied to the opening
@@ -75,7 +82,8 @@ returns-2 c =
     let start = after-read .before .before .before .before in
     let last = c .before .before .stop .ensures in
     let read = sym (after-read .begin-sheet .ensures) ∙ ap headerResult (matched .reason .given .1) in
-    started-stopped (reading-opens hallEdition (start .args .sheet .now) (not-begun hallEdition (start .args .sheet .now) read)) (start .pre .0) (last .0) (last .1)
+    let edition = editionOf (start .args .edition) in
+    started-stopped (reading-opens edition (start .args .sheet .now) (not-begun edition (start .args .sheet .now) read)) (start .pre .0) (last .0) (last .1)
 
 same-length-4 : tie.Need-same-length-4
 same-length-4 c = search needs
@@ -86,7 +94,7 @@ same-length-5 c = search needs
 returns-3 : tie.Need-returns-3
 returns-3 c =
     let after-number = c .before .before .before .before .before in
-    started-opened (after-number .before .before .before .«open» .result) (header-read (after-number .before .before .before .before .before)) (opening after-number) (after-number .number .ensures) (c .before .before .before .before .if1 .left) (c .before .before .put-line .ensures)
+    started-opened (after-number .before .before .before .«open» .result) (header-read (after-number .before .before .before .before .before)) (opening after-number) (after-number .number .ensures) (lawful (after-number .before .before .before .before .before .before .before .before .before .before .before .before)) (c .before .before .before .before .if1 .left) (c .before .before .put-line .ensures)
 
 pub start-spec : {M : Type 1} → statement M
 start-spec =

@@ -8,6 +8,7 @@ use lib.ListN.{length}
 use Rattle.rules.specs.Hall.{hallLimits}
 use Rattle.rules.specs.Steps.{Call, end}
 use Rattle.rules.specs.Table.{stepTable}
+use Rattle.sheet_rules.specs.Sheet.{Edition}
 use Rattle.sheet.specs.Batch.{BatchResult, Batches, Emitted, Progress, Started, batchesLeft, bytesOf, lastState, lastTable, remainingCalls}
 use Rattle.sheet.specs.Batch.{remainingOutput, sheetTable}
 use Rattle.sheet.specs.declared.State.{State}
@@ -20,64 +21,64 @@ end-append table (call ∷ calls) more = end-append (stepTable hallLimits table 
 -- ---- Bytes emitted.
 
 -- no byte, and no call
-pub emitted-none : {sheet : List ℕ} {state : State} {table : List ℕ} → Emitted sheet state table [] state table
+pub emitted-none : {edition : Edition} {sheet : List ℕ} {state : State} {table : List ℕ} → Emitted edition sheet state table [] state table
 emitted-none = record { output = refl; calls = []; run = refl; table = refl }
 
 -- some bytes, and more after them
-pub emitted-append : {sheet : List ℕ} {first : State} {table bytes : List ℕ} {second : State} {middle more : List ℕ} {third : State} {last : List ℕ}
-    → Emitted sheet first table bytes second middle → Emitted sheet second middle more third last
-    → Emitted sheet first table (bytes ++ more) third last
-emitted-append {sheet} {first} {table} {bytes} {second} {middle} {more} {third} {last} one two = record {
-  output = append-assoc bytes more (remainingOutput sheet third last) ∙ ap (λ (rest : List ℕ). bytes ++ rest) (two .output) ∙ one .output;
+pub emitted-append : {edition : Edition} {sheet : List ℕ} {first : State} {table bytes : List ℕ} {second : State} {middle more : List ℕ} {third : State} {last : List ℕ}
+    → Emitted edition sheet first table bytes second middle → Emitted edition sheet second middle more third last
+    → Emitted edition sheet first table (bytes ++ more) third last
+emitted-append {edition} {sheet} {first} {table} {bytes} {second} {middle} {more} {third} {last} one two = record {
+  output = append-assoc bytes more (remainingOutput edition sheet third last) ∙ ap (λ (rest : List ℕ). bytes ++ rest) (two .output) ∙ one .output;
   calls = one .calls ++ two .calls;
   run =
-      append-assoc (one .calls) (two .calls) (remainingCalls sheet third)
+      append-assoc (one .calls) (two .calls) (remainingCalls edition sheet third)
       ∙ ap (λ (rest : List Call). one .calls ++ rest) (two .run)
       ∙ one .run;
   table = two .table ∙ ap (λ (words : List ℕ). end (stepTable hallLimits) words (two .calls)) (one .table) ∙ sym (end-append table (one .calls) (two .calls));
 }
 
 -- bytes that lead to a finished state are all that remained
-pub emitted-all : {sheet : List ℕ} {was : State} {before bytes : List ℕ} {is : State} {after : List ℕ} → Emitted sheet was before bytes is after
+pub emitted-all : {edition : Edition} {sheet : List ℕ} {was : State} {before bytes : List ℕ} {is : State} {after : List ℕ} → Emitted edition sheet was before bytes is after
     → is .finished ≡ true
-    → bytes ≡ remainingOutput sheet was before
-emitted-all {sheet} {was} {before} {bytes} {is} {after} emitted finished =
-    let none : remainingOutput sheet is after ≡ [] = simp finished in
+    → bytes ≡ remainingOutput edition sheet was before
+emitted-all {edition} {sheet} {was} {before} {bytes} {is} {after} emitted finished =
+    let none : remainingOutput edition sheet is after ≡ [] = simp finished in
     sym (append-nil bytes) ∙ ap (λ (rest : List ℕ). bytes ++ rest) (sym none) ∙ emitted .output
 
 -- ---- The table that the remaining calls will leave: no batch changes it.
-abbrev pub finalTable : List ℕ → State → List ℕ → List ℕ
-finalTable sheet state table = end (stepTable hallLimits) table (remainingCalls sheet state)
+abbrev pub finalTable : Edition → List ℕ → State → List ℕ → List ℕ
+finalTable edition sheet state table = end (stepTable hallLimits) table (remainingCalls edition sheet state)
 
-pub final-table-at-start : {sheet out : List ℕ} {first : State} {table outAfter : List ℕ} {put : ℕ} → Started sheet out first table outAfter put
-    → finalTable sheet first table ≡ sheetTable sheet
+pub final-table-at-start : {edition : Edition} {sheet out : List ℕ} {first : State} {table outAfter : List ℕ} {put : ℕ} → Started edition sheet out first table outAfter put
+    → finalTable edition sheet first table ≡ sheetTable edition sheet
 final-table-at-start started = λ i. end (stepTable hallLimits) (started .table i) (started .run i)
 
-pub final-table-kept : {sheet : List ℕ} {was : State} {before bytes : List ℕ} {is : State} {after : List ℕ} → Emitted sheet was before bytes is after
-    → finalTable sheet is after ≡ finalTable sheet was before
-final-table-kept {sheet} {was} {before} {bytes} {is} emitted =
-    ap (λ (words : List ℕ). end (stepTable hallLimits) words (remainingCalls sheet is)) (emitted .table)
-    ∙ sym (end-append before (emitted .calls) (remainingCalls sheet is))
+pub final-table-kept : {edition : Edition} {sheet : List ℕ} {was : State} {before bytes : List ℕ} {is : State} {after : List ℕ} → Emitted edition sheet was before bytes is after
+    → finalTable edition sheet is after ≡ finalTable edition sheet was before
+final-table-kept {edition} {sheet} {was} {before} {bytes} {is} emitted =
+    ap (λ (words : List ℕ). end (stepTable hallLimits) words (remainingCalls edition sheet is)) (emitted .table)
+    ∙ sym (end-append before (emitted .calls) (remainingCalls edition sheet is))
     ∙ ap (end (stepTable hallLimits) before) (emitted .run)
 
 -- at a finished state no call remains
-pub final-table-at-end : (sheet : List ℕ) (state : State) (table : List ℕ) → state .finished ≡ true → finalTable sheet state table ≡ table
-final-table-at-end sheet state table finished = let none : remainingCalls sheet state ≡ [] = simp finished in ap (end (stepTable hallLimits) table) none
+pub final-table-at-end : (edition : Edition) (sheet : List ℕ) (state : State) (table : List ℕ) → state .finished ≡ true → finalTable edition sheet state table ≡ table
+final-table-at-end edition sheet state table finished = let none : remainingCalls edition sheet state ≡ [] = simp finished in ap (end (stepTable hallLimits) table) none
 
 -- ---- Batches.
-pub batches-emitted : (sheet : List ℕ) (was : State) (before : List ℕ) (batches : List BatchResult) → Batches sheet was before batches
-    → Emitted sheet was before (bytesOf batches) (lastState was batches) (lastTable before batches)
-batches-emitted sheet was before [] each = emitted-none
-batches-emitted sheet was before (batch ∷ batches) each = emitted-append (each .1) (batches-emitted sheet (batch .state) (batch .table) batches (each .3))
+pub batches-emitted : (edition : Edition) (sheet : List ℕ) (was : State) (before : List ℕ) (batches : List BatchResult) → Batches edition sheet was before batches
+    → Emitted edition sheet was before (bytesOf batches) (lastState was batches) (lastTable before batches)
+batches-emitted edition sheet was before [] each = emitted-none
+batches-emitted edition sheet was before (batch ∷ batches) each = emitted-append (each .1) (batches-emitted edition sheet (batch .state) (batch .table) batches (each .3))
 
 pub fewer-left : {sheet : List ℕ} {was is : State} → was .finished ≡ false → Progress sheet was is → batchesLeft sheet is < batchesLeft sheet was
 fewer-left {sheet} {was} unfinished progress = let left : 1 ≤ batchesLeft sheet was = simp unfinished (omega arith) in omega (arith, progress .fewer)
 
-pub batches-bounded : (sheet : List ℕ) (was : State) (before : List ℕ) (batches : List BatchResult) → Batches sheet was before batches
+pub batches-bounded : (edition : Edition) (sheet : List ℕ) (was : State) (before : List ℕ) (batches : List BatchResult) → Batches edition sheet was before batches
     → length batches + batchesLeft sheet (lastState was batches) ≤ batchesLeft sheet was
-batches-bounded sheet was before [] each = omega arith
-batches-bounded sheet was before (batch ∷ batches) each =
-    omega (arith, fewer-left (each .0) (each .2), batches-bounded sheet (batch .state) (batch .table) batches (each .3))
+batches-bounded edition sheet was before [] each = omega arith
+batches-bounded edition sheet was before (batch ∷ batches) each =
+    omega (arith, fewer-left (each .0) (each .2), batches-bounded edition sheet (batch .state) (batch .table) batches (each .3))
 
 pub batches-left-bounded : (sheet : List ℕ) (state : State) → batchesLeft sheet state ≤ suc (length sheet)
 batches-left-bounded sheet state = by-end (state .finished)
