@@ -1,157 +1,138 @@
--- The two walks over the records of a sheet: one measures them, the other puts them.
+-- The walk over the records of a sheet, which puts them one after another.
 use Prim.Native.Nat.{ℕ, _+_, _≤_, _<_}
 use native.Mathlib.Omega.{arith}
 use mathlib.Core.Path.{_≡_, refl, sym, ap, _∙_, subst}
+use mathlib.Core.Bool.{Bool, true, false}
 use mathlib.Core.List.{List, [], _++_, append-assoc, append-nil}
-use mathlib.Core.Option.{Option, none, some}
+use mathlib.Core.Option.{some}
 use lib.ListN.{length, length-append}
-use Rattle.buffer.specs.Put.{Fits, Put}
+use lib.Dec.{leb}
+use borrow.Author.Tests.{leb-false, leb-true}
+use Rattle.buffer.specs.Put.{Put}
 use Rattle.buffer.specs.laws.Put.{put-none, put-on}
 use Rattle.rules.specs.Numbers.{Refusal, parsed, refused}
 use Rattle.rules.specs.laws.history.StepEffects.{in-range}
-use Rattle.sheet_rules.specs.Edition1.{archiveEdition, hallEdition}
+use Rattle.sheet_rules.specs.Lawful.{Lawful}
 use Rattle.sheet_rules.specs.Offsets.{endingIn}
 use Rattle.sheet_rules.specs.Rewriting.{entriesIn}
-use Rattle.sheet_rules.specs.Sheet.{Carried, Record, Records, carriedAfter, decodeRecords, encodeRecords, more, noDesk}
-use Rattle.sheet_rules.specs.SheetTheorems.{archive-edition-lawful}
+use Rattle.sheet_rules.specs.Sheet.{Carried, Edition, Record, Records, carriedAfter, complete, decodeRecords, encodeRecords, maxBytes, more, noDesk}
 use Rattle.sheet_rules.specs.laws.Sheet.{records-end, records-more, records-stop}
-use Rattle.rewriter.specs.Measure.{NothingEnds, Size, bytes, endedBy, measure, recordsFrom, recordsSize, writtenFrom}
+use Rattle.rewriter.specs.Build.{PutRecords, PutUnlessLong, recordsFrom, writtenFor}
 
--- ---- Sizes: bytes before those that are measured.
-abbrev addTo : ℕ → Size → Size
-addTo n (bytes m) = bytes (n + m)
-addTo n (endedBy reason) = endedBy reason
+module _ (from to : Edition) (sheet : List ℕ) where
+  -- The records that are left at an offset, and what is written for them.
+  abbrev leftFrom : Carried → ℕ → Records
+  leftFrom carried at = decodeRecords from (length sheet) carried sheet at
 
-add-none : (size : Size) → addTo 0 size ≡ size
-add-none (bytes m) = let same : 0 + m ≡ m = omega arith in ap bytes same
-add-none (endedBy reason) = refl
+  abbrev writtenAfter : Carried → Records → List ℕ
+  writtenAfter carried records = encodeRecords to carried (entriesIn records)
 
-add-both : (n m : ℕ) (size : Size) → addTo (n + m) size ≡ addTo n (addTo m size)
-add-both n m (bytes k) = let same : n + m + k ≡ n + (m + k) = omega arith in ap bytes same
-add-both n m (endedBy reason) = refl
+  -- Bytes were put before an offset. Unless they are more than 65,536, they and those of the records that are left are all.
+  pub record Building (out : List ℕ) (first start offset : ℕ) (carried : Carried) (outNow : List ℕ) (at : ℕ) : Type 0 where
+    pub done : List ℕ
+    pub rest : List ℕ
+    pub put : Put out outNow start done at
+    pub all : done ++ rest ≡ writtenFor to (recordsFrom from sheet first)
+    pub left : at ≤ maxBytes → rest ≡ writtenAfter carried (leftFrom carried offset)
+    pub ends : endingIn (leftFrom carried offset) ≡ endingIn (recordsFrom from sheet first)
+    pub same : length outNow ≡ length out
 
-measure-append : (end : Option Refusal) (first second : List ℕ) → measure end (first ++ second) ≡ addTo (length first) (measure end second)
-measure-append none first second = ap bytes (length-append first second)
-measure-append (some reason) first second = refl
-
--- ---- The records that are left at an offset, what is written for them, and their size.
-abbrev pub leftFrom : List ℕ → Carried → ℕ → Records
-leftFrom sheet carried at = decodeRecords archiveEdition (length sheet) carried sheet at
-
-abbrev writtenAfter : Carried → Records → List ℕ
-writtenAfter carried records = encodeRecords hallEdition carried (entriesIn records)
-
-abbrev sizeAfter : Carried → Records → Size
-sizeAfter carried records = measure (endingIn records) (writtenAfter carried records)
-
--- So many bytes were measured before an offset: with those that are left, they are all.
-pub record Measuring (sheet : List ℕ) (first at : ℕ) (carried : Carried) (total : ℕ) : Type 0 where
-  pub sized : addTo total (sizeAfter carried (leftFrom sheet carried at)) ≡ recordsSize (recordsFrom sheet first)
-  pub few : total ≤ at
-
-pub measuring-first : (sheet : List ℕ) (first : ℕ) → Measuring sheet first first noDesk 0
-measuring-first sheet first = record { sized = add-none _; few = omega arith }
-
--- Bytes were put before an offset: with those that are left, they are all.
-pub record Putting (sheet out : List ℕ) (first start from : ℕ) (carried : Carried) (outNow : List ℕ) (at : ℕ) : Type 0 where
-  pub done : List ℕ
-  pub put : Put out outNow start done at
-  pub all : done ++ writtenAfter carried (leftFrom sheet carried from) ≡ writtenFrom sheet first
-  pub ends : endingIn (leftFrom sheet carried from) ≡ none
-  pub same : length outNow ≡ length out
-
-pub putting-first : (sheet out : List ℕ) (first start : ℕ) → NothingEnds sheet first
-    → Putting sheet out first start first noDesk out start
-putting-first sheet out first start ends = record { done = []; put = put-none out start; all = refl; ends = ends; same = refl }
-
--- ---- A record that was read.
-pub record WasRead (sheet : List ℕ) (carried : Carried) (at : ℕ) (entry : Record) (next : ℕ) : Type 0 where
-  pub read : archiveEdition .decodeRecord carried sheet at ≡ parsed entry next
-
-module _ {sheet : List ℕ} {carried : Carried} {at : ℕ} {entry : Record} {next : ℕ} (was : WasRead sheet carried at entry next) where
-  pub record-code : (1 ≤ entry .code) × (entry .code ≤ 5)
-  record-code = in-range (entry .code) 5 (archive-edition-lawful .record-code carried sheet at entry next (was .read))
-
-  pub record-past : at < next
-  record-past = archive-edition-lawful .record-moves carried sheet at entry next (was .read) .past
-
-  pub record-inside : next ≤ length sheet
-  record-inside = archive-edition-lawful .record-moves carried sheet at entry next (was .read) .inside
-
-  pub record-no-longer : at + length (hallEdition .encodeRecord carried entry) ≤ next
-  record-no-longer = archive-edition-lawful .record-no-longer carried sheet at entry next (was .read)
-
-  records-after : at < length sheet → leftFrom sheet carried at ≡ more entry (leftFrom sheet (carriedAfter entry) next)
-  records-after inside = records-more archive-edition-lawful carried sheet at entry next inside (was .read)
-
--- ---- Measuring.
-module _ {sheet : List ℕ} {first at : ℕ} {carried : Carried} {total : ℕ} (was : Measuring sheet first at carried total) where
-  pub measuring-next : {entry : Record} {next count : ℕ} → at < length sheet → WasRead sheet carried at entry next
-      → count ≡ length (hallEdition .encodeRecord carried entry)
-      → Measuring sheet first next (carriedAfter entry) (total + count)
-  measuring-next {entry} {next} {count} inside read counted = record {
-    sized =
-        ap (λ (n : ℕ). addTo (total + n) (sizeAfter (carriedAfter entry) (leftFrom sheet (carriedAfter entry) next))) counted
-        ∙ add-both total (length (hallEdition .encodeRecord carried entry)) (sizeAfter (carriedAfter entry) (leftFrom sheet (carriedAfter entry) next))
-        ∙ ap (addTo total) (sym (measure-append (endingIn (leftFrom sheet (carriedAfter entry) next)) (hallEdition .encodeRecord carried entry) _))
-        ∙ ap (λ (records : Records). addTo total (sizeAfter carried records)) (sym (records-after read inside))
-        ∙ was .sized;
-    few = omega (arith, was .few, record-no-longer read, counted);
+  pub building-first : (out : List ℕ) (first start : ℕ) → Building out first start first noDesk out start
+  building-first out first start = record {
+    done = [];
+    rest = writtenFor to (recordsFrom from sheet first);
+    put = put-none out start;
+    all = refl;
+    left = λ short. refl;
+    ends = refl;
+    same = refl;
   }
 
-  pub measuring-stopped : {reason : Refusal} → at < length sheet → archiveEdition .decodeRecord carried sheet at ≡ refused reason
-      → endedBy reason ≡ recordsSize (recordsFrom sheet first)
-  measuring-stopped {reason} inside read =
-      ap (λ (records : Records). addTo total (sizeAfter carried records)) (sym (records-stop archive-edition-lawful carried sheet at reason inside read)) ∙ was .sized
+  -- A record that was read.
+  pub record WasRead (carried : Carried) (at : ℕ) (entry : Record) (next : ℕ) : Type 0 where
+    pub read : from .decodeRecord carried sheet at ≡ parsed entry next
 
-  pub measuring-ended : length sheet ≤ at → bytes total ≡ recordsSize (recordsFrom sheet first)
-  measuring-ended outside =
-      let same : total ≡ total + 0 = omega arith in
-      ap bytes same ∙ ap (λ (records : Records). addTo total (sizeAfter carried records)) (sym (records-end archive-edition-lawful carried sheet at outside)) ∙ was .sized
+module _ {from to : Edition} {maxSession : ℕ} (lawful : Lawful from maxSession) {sheet : List ℕ} where
+  module _ {carried : Carried} {at : ℕ} {entry : Record} {next : ℕ} (was : WasRead from to sheet carried at entry next) where
+    pub record-code : (1 ≤ entry .code) × (entry .code ≤ 5)
+    record-code = in-range (entry .code) 5 (lawful .record-code carried sheet at entry next (was .read))
 
--- ---- Putting.
-module _ {sheet out : List ℕ} {first start from : ℕ} {carried : Carried} {outNow : List ℕ} {at : ℕ} (was : Putting sheet out first start from carried outNow at) where
-  module _ {entry : Record} {next : ℕ} (inside : from < length sheet) (read : WasRead sheet carried from entry next) where
-    one-more : leftFrom sheet carried from ≡ more entry (leftFrom sheet (carriedAfter entry) next)
-    one-more = records-after read inside
+    pub record-past : at < next
+    record-past = lawful .record-moves carried sheet at entry next (was .read) .past
 
-    entry-then-rest : (was .done ++ hallEdition .encodeRecord carried entry) ++ writtenAfter (carriedAfter entry) (leftFrom sheet (carriedAfter entry) next) ≡ writtenFrom sheet first
-    entry-then-rest =
-        append-assoc (was .done) (hallEdition .encodeRecord carried entry) _
-        ∙ ap (λ (records : Records). was .done ++ writtenAfter carried records) (sym one-more)
-        ∙ was .all
+    records-after : at < length sheet → leftFrom from to sheet carried at ≡ more entry (leftFrom from to sheet (carriedAfter entry) next)
+    records-after inside = records-more lawful carried sheet at entry next inside (was .read)
 
-    pub putting-fits : Fits out start (writtenFrom sheet first) → Fits outNow at (hallEdition .encodeRecord carried entry)
-    putting-fits room =
-        omega (
-          arith,
-          room,
-          was .same,
-          was .put .offset,
-          ap length entry-then-rest,
-          length-append (was .done ++ hallEdition .encodeRecord carried entry) (writtenAfter (carriedAfter entry) (leftFrom sheet (carriedAfter entry) next)),
-          length-append (was .done) (hallEdition .encodeRecord carried entry),
-        )
+  module _ {out : List ℕ} {first start offset : ℕ} {carried : Carried} {outNow : List ℕ} {at : ℕ}
+      (was : Building from to sheet out first start offset carried outNow at) where
+    module _ {entry : Record} {next : ℕ} (inside : offset < length sheet) (read : WasRead from to sheet carried offset entry next) where
+      -- the record, and those after it
+      abbrev later : List ℕ
+      later = writtenAfter from to sheet (carriedAfter entry) (leftFrom from to sheet (carriedAfter entry) next)
 
-    pub putting-next : {outNext : List ℕ} {after : ℕ} → Put outNow outNext at (hallEdition .encodeRecord carried entry) after → length outNext ≡ length outNow
-        → Putting sheet out first start next (carriedAfter entry) outNext after
-    putting-next put kept = record {
-      done = was .done ++ hallEdition .encodeRecord carried entry;
-      put = put-on (was .put) put;
-      all = entry-then-rest;
-      ends = sym (ap endingIn one-more) ∙ was .ends;
-      same = kept ∙ was .same;
+      one-more : at ≤ maxBytes → was .rest ≡ to .encodeRecord carried entry ++ later
+      one-more short = was .left short ∙ ap (writtenAfter from to sheet carried) (records-after read inside)
+
+      same-end : endingIn (leftFrom from to sheet (carriedAfter entry) next) ≡ endingIn (recordsFrom from sheet first)
+      same-end = sym (ap endingIn (records-after read inside)) ∙ was .ends
+
+      building-put : {outNext : List ℕ} {after : ℕ} → at ≤ maxBytes → Put outNow outNext at (to .encodeRecord carried entry) after
+          → length outNext ≡ length outNow
+          → Building from to sheet out first start next (carriedAfter entry) outNext after
+      building-put short put kept = record {
+        done = was .done ++ to .encodeRecord carried entry;
+        rest = later;
+        put = put-on (was .put) put;
+        all =
+            append-assoc (was .done) (to .encodeRecord carried entry) later
+            ∙ ap (λ (bytes : List ℕ). was .done ++ bytes) (sym (one-more short))
+            ∙ was .all;
+        left = λ still. refl;
+        ends = same-end;
+        same = kept ∙ was .same;
+      }
+
+      building-long : maxBytes < at → Building from to sheet out first start next (carriedAfter entry) outNow at
+      building-long long = record {
+        done = was .done;
+        rest = was .rest;
+        put = was .put;
+        all = was .all;
+        left = λ short. absurd (omega (arith, short, long));
+        ends = same-end;
+        same = was .same;
+      }
+
+      pub building-next : {outNext : List ℕ} {after : ℕ} → PutUnlessLong outNow outNext at (to .encodeRecord carried entry) after → length outNext ≡ length outNow
+          → Building from to sheet out first start next (carriedAfter entry) outNext after
+      building-next {outNext} {after} put kept = by-length (leb at maxBytes) refl
+        where
+          by-length : (short : Bool) → leb at maxBytes ≡ short → Building from to sheet out first start next (carriedAfter entry) outNext after
+          by-length true is = let short = leb-true at maxBytes is in building-put short (put .short short) kept
+          by-length false is =
+              let long = leb-false at maxBytes is in
+              let unchanged = put .long long in
+              subst (λ (n : ℕ). Building from to sheet out first start next (carriedAfter entry) outNext n) (sym (unchanged .1))
+              (subst (λ (buffer : List ℕ). Building from to sheet out first start next (carriedAfter entry) buffer at) (sym (unchanged .0)) (building-long long))
+
+    -- a record is refused
+    pub building-stopped : {reason : Refusal} → offset < length sheet → from .decodeRecord carried sheet offset ≡ refused reason
+        → endingIn (recordsFrom from sheet first) ≡ some reason
+    building-stopped {reason} inside read = sym (was .ends) ∙ ap endingIn (records-stop lawful carried sheet offset reason inside read)
+
+    -- no record is left
+    pub building-ended : length sheet ≤ offset → PutRecords to (recordsFrom from sheet first) out start outNow at
+    building-ended outside = record {
+      none-ends = sym (was .ends) ∙ ap endingIn none-left;
+      short = λ short. subst (λ (bytes : List ℕ). Put out outNow start bytes at) (whole short) (was .put);
+      long = λ long. omega (arith, long, was .put .offset, length-append (was .done) (was .rest), ap length (was .all));
     }
+      where
+        none-left : leftFrom from to sheet carried offset ≡ complete
+        none-left = records-end lawful carried sheet offset outside
 
-  -- no record is refused
-  pub putting-never-stops : {reason : Refusal} → from < length sheet → archiveEdition .decodeRecord carried sheet from ≡ refused reason → ⊥
-  putting-never-stops {reason} inside read =
-      let stopped : some reason ≡ none = sym (ap endingIn (records-stop archive-edition-lawful carried sheet from reason inside read)) ∙ was .ends in
-      let z : _≡_ {A = ℕ} 0 1 = cc in
-      omega arith
-
-  pub putting-ended : length sheet ≤ from → Put out outNow start (writtenFrom sheet first) at
-  putting-ended outside =
-      let all : was .done ≡ writtenFrom sheet first =
-      sym (append-nil (was .done)) ∙ ap (λ (records : Records). was .done ++ writtenAfter carried records) (sym (records-end archive-edition-lawful carried sheet from outside)) ∙ was .all in
-      subst (λ (written : List ℕ). Put out outNow start written at) all (was .put)
+        whole : at ≤ maxBytes → was .done ≡ writtenFor to (recordsFrom from sheet first)
+        whole short =
+            sym (append-nil (was .done))
+            ∙ ap (λ (bytes : List ℕ). was .done ++ bytes) (sym (was .left short ∙ ap (writtenAfter from to sheet carried) none-left))
+            ∙ was .all

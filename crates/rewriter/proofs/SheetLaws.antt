@@ -1,21 +1,22 @@
--- What is written for a sheet, by what was found of it: its header, the size of its records, or what ended its reading.
-use Prim.Native.Nat.{ℕ, zero, suc, _+_, _≤_}
+-- What is written for a sheet, by what was found of it: its header and its records, or what ended its reading.
+use Prim.Native.Nat.{ℕ, zero, suc, _≤_, _<_}
 use native.Mathlib.Omega.{arith}
 use mathlib.Core.Path.{_≡_, refl, sym, ap, _∙_}
 use mathlib.Core.List.{List, _++_}
-use mathlib.Core.Option.{Option, none, some}
-use lib.ListN.{length, length-append, length-replicate}
+use mathlib.Core.Option.{Option, some}
+use lib.ListN.{length, length-append, length-replicate, take}
+use borrow.Author.Tests.{le-leb, lt-leb}
 use Rattle.board.specs.Opening.{OpeningAnswer}
+use Rattle.buffer.specs.Put.{Put}
+use Rattle.buffer.specs.laws.Put.{put-first, put-on}
 use Rattle.rules.specs.Hall.{Hall}
 use Rattle.rules.specs.Numbers.{Refusal, parsed, refusalOf, refused}
 use Rattle.rules.specs.Steps.{Answer}
-use Rattle.sheet_rules.specs.Edition1.{archiveEdition, encodeHeader, hallEdition}
 use Rattle.sheet_rules.specs.Offsets.{endingIn}
-use Rattle.sheet_rules.specs.Rewriting.{meaningOf, refusedSheetLine, rewrite, shorten, writeReading, writeUnless}
-use Rattle.sheet_rules.specs.Sheet.{beginSheet, encodeSheet, ifOpens, lentTable, openSheet, openingNumber}
-use Rattle.sheet_rules.specs.SheetTheorems.{shortened-always-fits}
+use Rattle.sheet_rules.specs.Rewriting.{meaningOf, refusedSheetLine, rewrite, unlessTooLong, writeReading, writeUnless}
+use Rattle.sheet_rules.specs.Sheet.{Edition, Records, beginSheet, encodeSheet, ifOpens, lentTable, maxBytes, openSheet, opened, openingNumber}
 use Rattle.sheet_rules.specs.laws.Sheet.{begun, opening-answer, reading-opens}
-use Rattle.rewriter.specs.Measure.{NothingEnds, bytes, endedBy, measure, recordsFrom, recordsSize, writtenFrom}
+use Rattle.rewriter.specs.Build.{PutRecords, recordsFrom, writtenFor}
 
 -- ---- The opening.
 
@@ -25,54 +26,50 @@ unfolding lentTable
 opening-number hall said is-number =
     sym (ap (λ (a : Answer). a .number) (said lentTable (length-replicate {A = ℕ} 2387 0) ∙ opening-answer hall)) ∙ sym is-number
 
-module _ (sheet : List ℕ) {hall : Hall} {next number : ℕ} (found : beginSheet archiveEdition sheet ≡ parsed hall next) (opening : openingNumber hall ≡ number) where
-  pub sheet-opens : number ≡ 0 → parsed hall next ≡ openSheet archiveEdition sheet
-  sheet-opens accepted = sym (begun archiveEdition sheet found (opening ∙ accepted))
+module _ (edition : Edition) (sheet : List ℕ) {hall : Hall} {next number : ℕ} (found : beginSheet edition sheet ≡ parsed hall next) (opening : openingNumber hall ≡ number) where
+  pub sheet-opens : number ≡ 0 → parsed hall next ≡ openSheet edition sheet
+  sheet-opens accepted = sym (begun edition sheet found (opening ∙ accepted))
 
-  pub sheet-refused : (number ≡ 0 → ⊥) → refused (refusalOf 0 number 0) ≡ openSheet archiveEdition sheet
-  sheet-refused not-accepted = sym (begun archiveEdition sheet found opening ∙ not-zero number not-accepted)
+  pub sheet-refused : (number ≡ 0 → ⊥) → refused (refusalOf 0 number 0) ≡ openSheet edition sheet
+  sheet-refused not-accepted = sym (begun edition sheet found opening ∙ not-zero number not-accepted)
     where
       not-zero : (n : ℕ) → (n ≡ 0 → ⊥) → ifOpens n hall next ≡ refused (refusalOf 0 n 0)
       not-zero zero not-accepted = absurd (not-accepted refl)
       not-zero (suc n) not-accepted = refl
 
 -- ---- What is written.
-pub writes-refusal : (sheet : List ℕ) {reason : Refusal} → refused reason ≡ openSheet archiveEdition sheet
-    → refusedSheetLine (reason .number) (reason .offset) ≡ shorten sheet
+pub writes-refusal : (from to : Edition) (sheet : List ℕ) {reason : Refusal} → refused reason ≡ openSheet from sheet
+    → refusedSheetLine (reason .number) (reason .offset) ≡ rewrite from to sheet
 unfolding rewrite
-writes-refusal sheet is = sym (ap (writeReading hallEdition) (reading-opens archiveEdition sheet (sym is)))
+writes-refusal from to sheet is = sym (ap (writeReading to) (reading-opens from sheet (sym is)))
 
--- the size says whether something ended the reading
-ended : (end : Option Refusal) (written : List ℕ) {reason : Refusal} → endedBy reason ≡ measure end written → end ≡ some reason
-ended none written e = absurd (let z : _≡_ {A = ℕ} 0 1 = cc in omega arith)
-ended (some reason) written e = cc
+pub writes-opened : (from to : Edition) (sheet : List ℕ) {hall : Hall} {first : ℕ} → parsed hall first ≡ openSheet from sheet
+    → writeReading to (opened hall (recordsFrom from sheet first)) ≡ rewrite from to sheet
+unfolding rewrite
+writes-opened from to sheet is = sym (ap (writeReading to) (reading-opens from sheet (sym is)))
 
-not-ended : (end : Option Refusal) (written : List ℕ) {n : ℕ} → bytes n ≡ measure end written → end ≡ none
-not-ended none written e = refl
-not-ended (some reason) written e = absurd (let z : _≡_ {A = ℕ} 0 1 = cc in omega arith)
+-- ---- A sheet that was built: its header and its records, or what ended its reading.
+module _ (to : Edition) (hall : Hall) (records : Records) where
+  pub writes-later-refusal : {reason : Refusal} → endingIn records ≡ some reason
+      → refusedSheetLine (reason .number) (reason .offset) ≡ writeReading to (opened hall records)
+  writes-later-refusal end = sym (ap (λ (e : Option Refusal). writeUnless to e (meaningOf hall records)) end)
 
-counted : (end : Option Refusal) (written : List ℕ) {n : ℕ} → bytes n ≡ measure end written → n ≡ length written
-counted none written e = cc
-counted (some reason) written e = absurd (let z : _≡_ {A = ℕ} 0 1 = cc in omega arith)
+  -- the header was put at the start of a buffer, and the records after it
+  module _ {empty headed built : List ℕ} {start end : ℕ} (header : Put empty headed 0 (to .encodeHeader hall) start) (put : PutRecords to records headed start built end) where
+    abbrev bytes : List ℕ
+    bytes = to .encodeHeader hall ++ writtenFor to records
 
-module _ (sheet : List ℕ) {hall : Hall} {first : ℕ} (is : parsed hall first ≡ openSheet archiveEdition sheet) where
-  pub writes-later-refusal : {reason : Refusal} → endedBy reason ≡ recordsSize (recordsFrom sheet first)
-      → refusedSheetLine (reason .number) (reason .offset) ≡ shorten sheet
-  unfolding rewrite
-  writes-later-refusal {reason} size =
-      let end : endingIn (recordsFrom sheet first) ≡ some reason = ended (endingIn (recordsFrom sheet first)) (writtenFrom sheet first) size in
-      sym (ap (writeReading hallEdition) (reading-opens archiveEdition sheet (sym is)) ∙ ap (λ (e : Option Refusal). writeUnless hallEdition e (meaningOf hall (recordsFrom sheet first))) end)
+    written : unlessTooLong bytes ≡ writeReading to (opened hall records)
+    unfolding encodeSheet
+    written = sym (ap (λ (e : Option Refusal). writeUnless to e (meaningOf hall records)) (put .none-ends))
 
-  module _ {n : ℕ} (size : bytes n ≡ recordsSize (recordsFrom sheet first)) where
-    pub nothing-ends : NothingEnds sheet first
-    nothing-ends = not-ended (endingIn (recordsFrom sheet first)) (writtenFrom sheet first) size
+    pub writes-too-long : maxBytes < end → refusedSheetLine 18 0 ≡ writeReading to (opened hall records)
+    writes-too-long long =
+        let over : maxBytes < length bytes = omega (arith, put .long long, header .offset, length-append (to .encodeHeader hall) (writtenFor to records)) in
+        sym (simp (lt-leb (length bytes) maxBytes over)) ∙ written
 
-    pub records-counted : n ≡ length (writtenFrom sheet first)
-    records-counted = counted (endingIn (recordsFrom sheet first)) (writtenFrom sheet first) size
-
-    pub writes-sheet : encodeHeader hall ++ writtenFrom sheet first ≡ shorten sheet
-    unfolding rewrite encodeSheet
-    writes-sheet = sym (ap (writeReading hallEdition) (reading-opens archiveEdition sheet (sym is)) ∙ ap (λ (e : Option Refusal). writeUnless hallEdition e (meaningOf hall (recordsFrom sheet first))) nothing-ends)
-
-    pub sheet-fits : length (encodeHeader hall) + n ≤ 65536
-    sheet-fits = omega (arith, records-counted, length-append (encodeHeader hall) (writtenFrom sheet first), ap length writes-sheet, shortened-always-fits sheet)
+    pub writes-sheet : end ≤ maxBytes → take end built ≡ writeReading to (opened hall records)
+    writes-sheet short =
+        let all : Put empty built 0 bytes end = put-on header (put .short short) in
+        let few : length bytes ≤ maxBytes = omega (arith, all .offset, short) in
+        put-first all ∙ sym (simp (le-leb (length bytes) maxBytes few)) ∙ written

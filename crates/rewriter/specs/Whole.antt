@@ -1,12 +1,13 @@
--- What follows from the contract of `shorten`.
+-- What follows from the contract of `rewrite`.
 use Prim.Native.Nat.{ℕ, _≤_}
 use native.Mathlib.Omega.{arith}
 use mathlib.Core.Path.{_≡_, _∙_}
 use mathlib.Core.List.{List, _++_}
 use lib.ListN.{length, take, drop}
 use borrow.Author.Tests.{le-leb}
-use Rattle.sheet_rules.specs.Rewriting.{shorten}
-use Rattle.sheet_rules.specs.SheetTheorems.{shortened-always-fits}
+use Rattle.sheet_rules.specs.Rewriting.{rewrite}
+use Rattle.sheet_rules.specs.Sheet.{Edition}
+use Rattle.sheet_rules.specs.SheetTheorems.{rewritten-always-fits}
 use Rattle.rewriter.specs.Output.{noRoom, put, writeWhole}
 use Rattle.rewriter.specs.laws.Output.{put-bytes, put-count, put-rest, put-within}
 
@@ -25,8 +26,9 @@ module _ (out bytes after : List ℕ) (n : ℕ) (written : put after n ≡ write
   within-the-buffer = put-within out bytes after n written
 
 -- A buffer of 65,536 bytes has room for every output.
-pub always-room : (sheet out : List ℕ) → 65536 ≤ length out → writeWhole out (shorten sheet) ≡ put (shorten sheet ++ drop (length (shorten sheet)) out) (length (shorten sheet))
-always-room sheet out large = simp (le-leb (length (shorten sheet)) (length out) (omega (arith, large, shortened-always-fits sheet)))
+module _ (from to : Edition) (sheet out : List ℕ) (large : 65536 ≤ length out) where
+  pub always-room : writeWhole out (rewrite from to sheet) ≡ put (rewrite from to sheet ++ drop (length (rewrite from to sheet)) out) (length (rewrite from to sheet))
+  always-room = simp (le-leb (length (rewrite from to sheet)) (length out) (omega (arith, large, rewritten-always-fits from to sheet)))
 
-pub no-room-never : (sheet out after : List ℕ) → 65536 ≤ length out → noRoom after ≡ writeWhole out (shorten sheet) → ⊥
-no-room-never sheet out after large full = let both : noRoom after ≡ put _ _ = full ∙ always-room sheet out large in let z : _≡_ {A = ℕ} 0 1 = cc in omega arith
+  pub no-room-never : (after : List ℕ) → noRoom after ≡ writeWhole out (rewrite from to sheet) → ⊥
+  no-room-never after full = let both : noRoom after ≡ put _ _ = full ∙ always-room in let z : _≡_ {A = ℕ} 0 1 = cc in omega arith

@@ -2,8 +2,7 @@
 use mathlib.Core.Path.{_≡_, sym, ap, _∙_}
 use borrow.Author.Needs.{needs}
 use Rattle.rules.specs.Numbers.{parsed, refused}
-use Rattle.reader.specs.Results.{headerOf, headerResult}
-use Rattle.sheet_rules.specs.Edition1.{archiveEdition}
+use Rattle.reader.specs.Results.{editionOf, headerOf, headerResult}
 use Rattle.sheet_rules.specs.Sheet.{beginSheet, openingNumber}
 use Rattle.sheet_rules.specs.laws.Sheet.{not-begun}
 use Rattle.rewriter.proofs.SheetLaws.{opening-number, sheet-opens, sheet-refused}
@@ -13,7 +12,8 @@ use Rattle.rewriter.proofs.open_sheet.Tie as tie
 -- the header that was read, and the number of its opening
 header-read : (c : tie.After-known-told2) →
     let header = c .before .header .given .0 in
-    beginSheet archiveEdition (c .before .before .before .before .before .args .sheet .now) ≡ parsed (headerOf (header .0)) (header .1 .0)
+    let start = c .before .before .before .before .before in
+    beginSheet (editionOf (start .args .edition)) (start .args .sheet .now) ≡ parsed (headerOf (header .0)) (header .1 .0)
 header-read c = sym (c .before .before .before .begin-sheet .ensures) ∙ ap headerResult (c .before .header .given .1)
 
 opening-is : (c : tie.After-number) → openingNumber (headerOf (c .before .before .before .header .given .0 .0)) ≡ c .number .result
@@ -40,13 +40,18 @@ refuse-with-requires c κs = search needs
 returns : tie.Need-returns
 returns c =
     let after-number = c .before .before in
-    ap refused (c .refuse-with .ensures) ∙ sheet-refused (after-number .before .before .before .before .before .before .before .args .sheet .now) (header-read (after-number .before .before)) (opening-is after-number) (c .before .if1 .taken)
+    let start = after-number .before .before .before .before .before .before .before in
+    ap refused (c .refuse-with .ensures) ∙ sheet-refused (editionOf (start .args .edition)) (start .args .sheet .now) (header-read (after-number .before .before)) (opening-is after-number) (c .before .if1 .taken)
 
 returns-2 : tie.Need-returns-2
-returns-2 c = sym (not-begun archiveEdition (c .before .before .before .before .before .args .sheet .now) (sym (c .before .before .before .begin-sheet .ensures) ∙ ap headerResult (c .before .reason .given .1)))
+returns-2 c =
+    let start = c .before .before .before .before .before in
+    sym (not-begun (editionOf (start .args .edition)) (start .args .sheet .now) (sym (c .before .before .before .begin-sheet .ensures) ∙ ap headerResult (c .before .reason .given .1)))
 
 returns-3 : tie.Need-returns-3
-returns-3 c = sheet-opens (c .before .before .before .before .before .before .before .before .args .sheet .now) (header-read (c .before .before .before)) (opening-is (c .before)) (c .if1 .left)
+returns-3 c =
+    let start = c .before .before .before .before .before .before .before .before in
+    sheet-opens (editionOf (start .args .edition)) (start .args .sheet .now) (header-read (c .before .before .before)) (opening-is (c .before)) (c .if1 .left)
 
 pub open-sheet-spec : {M : Type 1} → statement M
 open-sheet-spec =
