@@ -1,9 +1,12 @@
 // Prints the lines of one sheet after another: the cases of `tests/sheet_cases.txt`. On standard input, each sheet follows its
-// length, three bytes, low byte first.
+// edition, one byte, and its length, three bytes, low byte first.
 use libc::STDIN_FILENO;
 use libc::STDOUT_FILENO;
 use printing::print;
+use reader::Edition;
 use reader::READ_BYTES;
+use reader::edition_1;
+use reader::edition_2;
 
 // The most cases.
 const MAX_CASES: u64 = 1000;
@@ -11,6 +14,14 @@ const MAX_CASES: u64 = 1000;
 // The length that three bytes encode.
 fn length_of(low: u8, middle: u8, high: u8) -> usize {
     low as usize + middle as usize * 256 + high as usize * 65536
+}
+
+// The edition that a byte names: 2, or else 1.
+fn edition_of(byte: u8) -> Edition {
+    if byte == 2 {
+        return edition_2();
+    }
+    edition_1()
 }
 
 // A line with the number of a case.
@@ -23,11 +34,12 @@ fn print_title(case: u64) {
 // Reads the next sheet into a buffer and prints its lines. It returns false if the input has no further whole sheet, if the sheet does
 // not fit into the buffer, or if the lines could not be written.
 fn print_next(case: u64, bytes: &mut [u8]) -> bool {
-    let mut length = [0u8; 3];
-    if io::read_full(STDIN_FILENO, &mut length) < 3 {
+    let mut head = [0u8; 4];
+    if io::read_full(STDIN_FILENO, &mut head) < 4 {
         return false;
     }
-    let n = length_of(length[0], length[1], length[2]);
+    let edition = edition_of(head[0]);
+    let n = length_of(head[1], head[2], head[3]);
     if bytes.len() < n {
         return false;
     }
@@ -35,7 +47,7 @@ fn print_next(case: u64, bytes: &mut [u8]) -> bool {
         return false;
     }
     print_title(case);
-    let printed = print(&bytes[..n]);
+    let printed = print(&bytes[..n], edition);
     printed.complete
 }
 

@@ -16,6 +16,12 @@ read-full-requires c κs = search needs
 returns : tie.Need-returns
 returns c = search needs
 
+array-read-edition-of : tie.Need-array-read-edition-of
+array-read-edition-of c = search needs
+
+edition-of-requires : tie.Need-edition-of-requires
+edition-of-requires c κs = search needs
+
 array-read-length-of : tie.Need-array-read-length-of
 array-read-length-of c = search needs
 
@@ -35,7 +41,7 @@ slice-relend-prefix-read-full : tie.Need-slice-relend-prefix-read-full
 slice-relend-prefix-read-full c = search needs
 
 slice-aggregate-read-full-2 : tie.Need-slice-aggregate-read-full-2
-slice-aggregate-read-full-2 c = sym (length-take-le (c .before .before .length-of .result) (c .before .before .before .before .before .before .before .before .args .bytes .now) (slice-relend-prefix-read-full (c .before)))
+slice-aggregate-read-full-2 c = sym (length-take-le (c .before .before .length-of .result) (c .before .before .before .before .before .before .before .before .before .args .bytes .now) (slice-relend-prefix-read-full (c .before)))
 
 read-full-requires-2 : tie.Need-read-full-requires-2
 read-full-requires-2 c κs = search needs
@@ -53,7 +59,7 @@ slice-reshare-prefix-print : tie.Need-slice-reshare-prefix-print
 slice-reshare-prefix-print c = search needs
 
 slice-aggregate-print : tie.Need-slice-aggregate-print
-slice-aggregate-print c = sym (length-take-le (c .before .before .before .before .before .before .before .before .length-of .result) (c .before .before .before .before .before .read-full2 .last .1 .0 ++ drop (c .before .before .before .before .before .before .before .before .length-of .result) (c .before .before .before .before .before .before .before .before .before .before .before .before .before .before .args .bytes .now)) (slice-reshare-prefix-print (c .before)))
+slice-aggregate-print c = sym (length-take-le (c .before .before .before .before .before .before .before .before .length-of .result) (c .before .before .before .before .before .read-full2 .last .1 .0 ++ drop (c .before .before .before .before .before .before .before .before .length-of .result) (c .before .before .before .before .before .before .before .before .before .before .before .before .before .before .before .args .bytes .now)) (slice-reshare-prefix-print (c .before)))
 
 print-requires : tie.Need-print-requires
 print-requires c κs = search needs
@@ -71,6 +77,8 @@ print-next-spec =
     slice-aggregate-read-full
     read-full-requires
     returns
+    array-read-edition-of
+    edition-of-requires
     array-read-length-of
     array-read-length-of-2
     array-read-length-of-3

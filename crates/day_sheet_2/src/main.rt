@@ -1,0 +1,58 @@
+// The sheet program: reads a day sheet of edition 2 from standard input and prints its lines.
+use arguments::Request;
+use arguments::request_for;
+use libc::STDERR_FILENO;
+use libc::STDOUT_FILENO;
+use printing::print_input;
+use reader::edition_2;
+
+// Prints the help, and returns whether it could be written.
+fn print_help() -> bool {
+    io::write_all(STDOUT_FILENO, b"usage: day_sheet_2 < SHEET\n\n")
+        && io::write_all(
+            STDOUT_FILENO,
+            b"Runs the steps of a day sheet of edition 2 on a session board and prints a line for\n",
+        )
+        && io::write_all(
+            STDOUT_FILENO,
+            b"each record: record number, step code, reply number, session. With 15, 16 and 19 the\n",
+        )
+        && io::write_all(
+            STDOUT_FILENO,
+            b"last number is not a session: it is the offset of the number that is refused. The last\n",
+        )
+        && io::write_all(
+            STDOUT_FILENO,
+            b"line is 'end', steps accepted, steps refused by the board, sessions handed back.\n\n",
+        )
+        && io::write_all(
+            STDOUT_FILENO,
+            b"An error of reading or writing is a line on standard error; the exit status stays 0.\n",
+        )
+}
+
+fn main() {
+    // A longer argument does not fit, and is read as an empty one.
+    let mut first = [0u8; 8];
+    let n = os::arg(1, &mut first);
+    match request_for(os::arg_count(), &first[..n]) {
+        Request::Run => {
+            print_input(
+                edition_2(),
+                b"day_sheet_2: cannot read standard input",
+                b"day_sheet_2: cannot write standard output",
+            );
+        }
+        Request::Help => {
+            if !print_help() {
+                os::fail(b"day_sheet_2: cannot write standard output");
+            }
+        }
+        Request::Unknown => {
+            io::write_all(
+                STDERR_FILENO,
+                b"usage: day_sheet_2 < SHEET, or day_sheet_2 --help\n",
+            );
+        }
+    }
+}
