@@ -4,17 +4,16 @@
 mod sheet;
 
 use reference::sheet::Fault::{BadNumber, Padded, SheetShort};
-use reference::sheet::Format::{self, Archive, Shortest};
+use reference::sheet::Format::{self, Archive, Edition1};
 use reference::sheet::{Reader, MAX_BYTES};
 use sheet::{
-    lines, lines_after_opening, number_in, stopping_line, stopping_line_in, CASE_D, SMALLEST,
+    lines, lines_after_opening, number_in, stopping_line, stopping_line_in, CASE_D,
+    LINES_OF_CASE_D, SMALLEST,
 };
 
 #[test]
 fn case_d_whole() {
-    let expected = "0 0 0 0\n1 3 0 0\n2 1 0 300\n3 3 0 300\n4 4 0 300\n5 5 0 0\n6 2 0 300\n\
-                    7 5 0 300\n8 4 13 0\nend 7 1 1\n";
-    assert_eq!(lines(&CASE_D), expected);
+    assert_eq!(lines(&CASE_D), LINES_OF_CASE_D);
 }
 
 #[test]
@@ -25,12 +24,12 @@ fn the_empty_sheet() {
 /// Document 02, Job 3: "`81 00` in case L becomes 19 in the new reader only."
 #[test]
 fn case_l() {
-    for format in [Shortest, Archive] {
+    for format in [Edition1, Archive] {
         assert_eq!(number_in(format, &[0xFF, 0xFF, 0x03]), Ok(65_535));
         assert_eq!(number_in(format, &[0x80, 0x80, 0x04]), Err(BadNumber { offset: 0 }));
         assert_eq!(number_in(format, &[0x80]), Err(SheetShort { offset: 0 }));
     }
-    assert_eq!(number_in(Shortest, &[0x81, 0x00]), Err(Padded { offset: 0 }));
+    assert_eq!(number_in(Edition1, &[0x81, 0x00]), Err(Padded { offset: 0 }));
     assert_eq!(number_in(Archive, &[0x81, 0x00]), Ok(1));
 }
 
@@ -38,7 +37,7 @@ fn case_l() {
 /// have become too large.
 #[test]
 fn numbers_that_stop() {
-    for format in [Shortest, Archive] {
+    for format in [Edition1, Archive] {
         assert_eq!(number_in(format, &[]), Err(SheetShort { offset: 0 }));
         assert_eq!(number_in(format, &[0xFF, 0xFF]), Err(SheetShort { offset: 0 }));
         assert_eq!(number_in(format, &[0xFF, 0xFF, 0x83]), Err(BadNumber { offset: 0 }));
@@ -198,7 +197,7 @@ fn assert_offset_in(format: Format, before: &[u8], line: &str, offset: usize) {
 /// The same in both formats; and so does each padded number, with 19, in
 /// shortest form.
 fn assert_offset(before: &[u8], line: &str, offset: usize) {
-    assert_offset_in(Shortest, before, line, offset);
+    assert_offset_in(Edition1, before, line, offset);
     assert_offset_in(Archive, before, line, offset);
     for padded in PADDED_NUMBERS {
         let expected = format!("{line} 19 {offset}");

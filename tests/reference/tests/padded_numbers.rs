@@ -5,7 +5,7 @@
 mod sheet;
 
 use reference::sheet::Fault::Padded;
-use reference::sheet::Format::{Archive, Shortest};
+use reference::sheet::Format::{Archive, Edition1};
 use sheet::{encoded, in_groups, lines, lines_after_opening, lines_in, needed_groups, number_in};
 
 /// Every number in shortest form, and with zero groups up to the third byte.
@@ -13,11 +13,11 @@ use sheet::{encoded, in_groups, lines, lines_after_opening, lines_in, needed_gro
 fn every_number_of_every_length() {
     for number in 0..=65_535 {
         let needed = needed_groups(number);
-        assert_eq!(number_in(Shortest, &in_groups(number, needed)), Ok(number));
+        assert_eq!(number_in(Edition1, &in_groups(number, needed)), Ok(number));
         assert_eq!(number_in(Archive, &in_groups(number, needed)), Ok(number));
         for groups in needed + 1..=3 {
             let padded = in_groups(number, groups);
-            assert_eq!(number_in(Shortest, &padded), Err(Padded { offset: 0 }), "{padded:?}");
+            assert_eq!(number_in(Edition1, &padded), Err(Padded { offset: 0 }), "{padded:?}");
             assert_eq!(number_in(Archive, &padded), Ok(number));
         }
     }
@@ -25,18 +25,18 @@ fn every_number_of_every_length() {
 
 #[test]
 fn zero_is_one_byte() {
-    assert_eq!(number_in(Shortest, &[0x00]), Ok(0));
-    assert_eq!(number_in(Shortest, &[0x80, 0x00]), Err(Padded { offset: 0 }));
-    assert_eq!(number_in(Shortest, &[0x80, 0x80, 0x00]), Err(Padded { offset: 0 }));
+    assert_eq!(number_in(Edition1, &[0x00]), Ok(0));
+    assert_eq!(number_in(Edition1, &[0x80, 0x00]), Err(Padded { offset: 0 }));
+    assert_eq!(number_in(Edition1, &[0x80, 0x80, 0x00]), Err(Padded { offset: 0 }));
     assert_eq!(lines(&[0x00, 1, 1]), "0 0 1 0\nend 0 0 0\n");
     assert_eq!(lines_after_opening(&[3, 1, 1, 0x00]), "1 3 0 0\nend 1 0 0\n");
 }
 
 #[test]
 fn zero_groups_below_the_highest() {
-    assert_eq!(number_in(Shortest, &[0x80, 0x01]), Ok(128));
-    assert_eq!(number_in(Shortest, &[0x80, 0x80, 0x01]), Ok(16_384));
-    assert_eq!(number_in(Shortest, &[0x81, 0x80, 0x01]), Ok(16_385));
+    assert_eq!(number_in(Edition1, &[0x80, 0x01]), Ok(128));
+    assert_eq!(number_in(Edition1, &[0x80, 0x80, 0x01]), Ok(16_384));
+    assert_eq!(number_in(Edition1, &[0x81, 0x80, 0x01]), Ok(16_385));
 }
 
 #[test]

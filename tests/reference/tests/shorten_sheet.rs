@@ -4,7 +4,7 @@
 mod sheet;
 
 use reference::sheet::Format::Archive;
-use reference::sheet::{shortened, MAX_BYTES};
+use reference::sheet::{Conversion, MAX_BYTES};
 use sheet::{encoded, in_groups, lines, lines_in, needed_groups, CASE_D, SMALLEST};
 
 /// A hall and each step, with numbers of one, two and three groups.
@@ -19,6 +19,10 @@ fn numbers() -> Vec<u16> {
         &[3, 2, 64, 0],
     ];
     records.concat()
+}
+
+fn shortened(sheet: &[u8]) -> Vec<u8> {
+    Conversion::SHORTEN.output(sheet)
 }
 
 /// The output for a sheet that is refused is a line and nothing else.

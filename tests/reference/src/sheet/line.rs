@@ -36,6 +36,8 @@ impl From<Fault> for Columns {
             Fault::BadCode => (17, 0),
             Fault::SheetLong => (18, 0),
             Fault::Padded { offset } => (19, offset),
+            Fault::BadShorthand => (20, 0),
+            Fault::BadEdition => (21, 0),
         };
         Columns { number, session: offset as u32 }
     }
@@ -62,7 +64,7 @@ pub fn print_end(text: &mut Vec<u8>, tally: &Tally) {
     print(text, tally.handed_back, b'\n');
 }
 
-/// A number and what follows it. A sheet's lines may have 130,000 of them, so
+/// A number and what follows it. A sheet's lines may have 260,000 of them, so
 /// this does not use the library's formatting.
 fn print(text: &mut Vec<u8>, number: u32, then: u8) {
     let mut digits = [0; 11];

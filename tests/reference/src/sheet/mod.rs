@@ -4,23 +4,28 @@
 //! Document 02, Job 2: "When a number gives 15 or 16, the number reader's reply
 //! must carry the offset of that number's first byte, and the session column
 //! prints it". Job 3: "19 for a padded number, asked after 15 and 16, with its
-//! offset as in Job 2".
+//! offset as in Job 2". Job 4: "20 for a shorthand code in the first record or a
+//! desk written out though unchanged, 21 for a first number other than 0 or an
+//! edition other than 2, each straight after that number is read; 17 for codes
+//! outside both ranges; 20 after the record's fields."
 
+mod convert;
+mod format;
 mod line;
 mod number;
 mod program;
 mod record;
-mod shorten;
 mod tally;
 
+pub use self::convert::Conversion;
+pub use self::format::Format;
 pub use self::line::Columns;
-pub use self::number::{Fault, Format, Reader};
+pub use self::number::{Fault, Reader};
 pub use self::program::run_program;
-pub use self::shorten::{shortened, shortest};
 pub use self::tally::Tally;
 
 use self::line::{print_end, print_line};
-use self::record::{read_fields, step};
+use self::record::{read_fields, step, Code, DESK};
 use super::open;
 
 /// The longest sheet that is read.
@@ -48,7 +53,13 @@ fn begin(sheet: &[u8], format: Format) -> Result<Reader<'_>, Fault> {
     Ok(Reader::new(sheet, format))
 }
 
+/// P, c and L. Asks 21 of each number before them, straight after it is read.
 fn read_header(reader: &mut Reader) -> Result<[u16; 3], Fault> {
+    for &expected in reader.format().first_numbers() {
+        if reader.number()? != expected {
+            return Err(Fault::BadEdition);
+        }
+    }
     Ok([reader.number()?, reader.number()?, reader.number()?])
 }
 
@@ -69,13 +80,21 @@ struct Run {
     table: [u8; TABLE_BYTES],
     /// The current record; the header is record 0.
     record: u32,
+    /// That of the record before, whether the board accepted it or not.
+    desk_before: Option<u16>,
     tally: Tally,
     text: Vec<u8>,
 }
 
 impl Run {
     fn new() -> Run {
-        Run { table: [0; TABLE_BYTES], record: 0, tally: Tally::default(), text: Vec::new() }
+        Run {
+            table: [0; TABLE_BYTES],
+            record: 0,
+            desk_before: None,
+            tally: Tally::default(),
+            text: Vec::new(),
+        }
     }
 
     fn whole(&mut self, sheet: &[u8], format: Format) -> Result<(), Stop> {
@@ -98,13 +117,16 @@ impl Run {
     }
 
     /// The code is asked before its fields are read, and all fields are read
-    /// before the step asks its questions.
+    /// before the step asks its questions. A shorthand code prints as the code
+    /// that it stands for.
     fn one_record(&mut self, reader: &mut Reader) -> Result<(), Stop> {
-        let code = reader.number().map_err(stop_at(0))?;
-        let fields = read_fields(code, reader).map_err(stop_at(code))?;
-        let reply = step(code, fields, &mut self.table);
-        self.tally.count(code, reply);
-        self.line(code, reply.into());
+        let number = reader.number().map_err(stop_at(0))?;
+        let code = Code::of_number(number, reader.format()).map_err(stop_at(number))?;
+        let fields = read_fields(code, self.desk_before, reader).map_err(stop_at(code.step))?;
+        self.desk_before = Some(fields[DESK]);
+        let reply = step(code.step, fields, &mut self.table);
+        self.tally.count(code.step, reply);
+        self.line(code.step, reply.into());
         Ok(())
     }
 

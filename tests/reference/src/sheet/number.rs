@@ -1,16 +1,7 @@
 //! Numbers: groups of seven bits, lowest first; the top bit of a byte says
 //! that another follows.
 
-/// The format of a sheet's numbers.
-#[derive(Clone, Copy, Debug, PartialEq, Eq)]
-pub enum Format {
-    /// Document 02, Job 3: "Numbers with a zero group at the high end are
-    /// refused from now on; 0 itself is one byte."
-    Shortest,
-    /// Document 01: "Zero groups at the high end are allowed." Old sheets may
-    /// have them.
-    Archive,
-}
+use super::Format;
 
 /// What ends the reading of a sheet. A number that is refused has the offset
 /// of its first byte, counted from 0 at the start of the sheet.
@@ -26,6 +17,11 @@ pub enum Fault {
     SheetLong,
     /// 19
     Padded { offset: usize },
+    /// 20: a shorthand code in the first record, or a desk that is written out
+    /// though it is that of the record before.
+    BadShorthand,
+    /// 21: a first number other than 0, or an edition other than 2.
+    BadEdition,
 }
 
 const MAX_GROUPS: u32 = 3;
@@ -42,6 +38,10 @@ impl<'a> Reader<'a> {
         Reader { sheet, format, next: 0 }
     }
 
+    pub fn format(&self) -> Format {
+        self.format
+    }
+
     pub fn at_end(&self) -> bool {
         self.next == self.sheet.len()
     }
@@ -56,7 +56,7 @@ impl<'a> Reader<'a> {
             if byte & 0x80 == 0 {
                 let number = u16::try_from(number).map_err(|_| Fault::BadNumber { offset })?;
                 let is_padded = byte == 0 && group > 0;
-                if is_padded && self.format == Format::Shortest {
+                if is_padded && !self.format.allows_padding() {
                     return Err(Fault::Padded { offset });
                 }
                 return Ok(number);

@@ -2,6 +2,7 @@
 
 use super::super::{collect, drop, retire, swap, take, Reply};
 use super::number::{write_number, Fault, Reader};
+use super::Format;
 
 pub const TAKE: u16 = 1;
 pub const DROP: u16 = 2;
@@ -9,8 +10,16 @@ pub const SWAP: u16 = 3;
 pub const RETIRE: u16 = 4;
 pub const COLLECT: u16 = 5;
 
+/// From the code of a step to its shorthand code, which leaves the desk out.
+const TO_SHORTHAND: u16 = 8;
+const FIRST_SHORTHAND: u16 = TAKE + TO_SHORTHAND;
+const LAST_SHORTHAND: u16 = COLLECT + TO_SHORTHAND;
+
 /// Desk, screen, position, session; those that a code does not have are 0.
 pub type Fields = [u16; 4];
+
+/// The place of the desk.
+pub const DESK: usize = 0;
 
 /// Which of desk, screen, position and session follow each code.
 const FOLLOWS: [[bool; 4]; 5] = [
@@ -21,28 +30,77 @@ const FOLLOWS: [[bool; 4]; 5] = [
     [true, false, false, false],
 ];
 
-/// Precondition: the code is 1 to 5.
-fn follows(code: u16) -> [bool; 4] {
-    FOLLOWS[usize::from(code - TAKE)]
+/// The code of a record.
+#[derive(Clone, Copy)]
+pub struct Code {
+    /// 1 to 5: the code of the step, also where the desk is left out.
+    pub step: u16,
+    pub is_shorthand: bool,
 }
 
-pub fn read_fields(code: u16, reader: &mut Reader) -> Result<Fields, Fault> {
-    if !(TAKE..=COLLECT).contains(&code) {
-        return Err(Fault::BadCode);
+impl Code {
+    /// Asks 17.
+    pub fn of_number(number: u16, format: Format) -> Result<Code, Fault> {
+        match number {
+            TAKE..=COLLECT => Ok(Code { step: number, is_shorthand: false }),
+            FIRST_SHORTHAND..=LAST_SHORTHAND if format.has_shorthand() => {
+                Ok(Code { step: number - TO_SHORTHAND, is_shorthand: true })
+            }
+            _ => Err(Fault::BadCode),
+        }
     }
+
+    fn number(self) -> u16 {
+        if self.is_shorthand {
+            self.step + TO_SHORTHAND
+        } else {
+            self.step
+        }
+    }
+
+    fn follows(self) -> [bool; 4] {
+        let mut follows = FOLLOWS[usize::from(self.step - TAKE)];
+        follows[DESK] &= !self.is_shorthand;
+        follows
+    }
+}
+
+/// Asks 20 once all fields are read.
+pub fn read_fields(
+    code: Code,
+    desk_before: Option<u16>,
+    reader: &mut Reader,
+) -> Result<Fields, Fault> {
     let mut fields = [0; 4];
-    for (field, follows) in fields.iter_mut().zip(follows(code)) {
+    for (field, follows) in fields.iter_mut().zip(code.follows()) {
         if follows {
             *field = reader.number()?;
         }
     }
+    if code.is_shorthand {
+        fields[DESK] = desk_before.ok_or(Fault::BadShorthand)?;
+    } else if leaves_desk_out(reader.format(), fields[DESK], desk_before) {
+        return Err(Fault::BadShorthand);
+    }
     Ok(fields)
 }
 
-/// Appends a record. Precondition: the code is 1 to 5.
-pub fn write_record(sheet: &mut Vec<u8>, code: u16, fields: Fields) {
-    write_number(sheet, code);
-    for (field, follows) in fields.into_iter().zip(follows(code)) {
+/// A record of this desk has a shorthand code: the record before has the same desk.
+fn leaves_desk_out(format: Format, desk: u16, desk_before: Option<u16>) -> bool {
+    format.has_shorthand() && desk_before == Some(desk)
+}
+
+/// Appends a record. Precondition: the step's code is 1 to 5.
+pub fn write_record(
+    sheet: &mut Vec<u8>,
+    format: Format,
+    step: u16,
+    desk_before: Option<u16>,
+    fields: Fields,
+) {
+    let code = Code { step, is_shorthand: leaves_desk_out(format, fields[DESK], desk_before) };
+    write_number(sheet, code.number());
+    for (field, follows) in fields.into_iter().zip(code.follows()) {
         if follows {
             write_number(sheet, field);
         }

@@ -2,7 +2,7 @@
 
 #![allow(dead_code)] // each test file uses its own part of this
 
-use reference::sheet::Format::{self, Shortest};
+use reference::sheet::Format::{self, Edition1};
 use reference::sheet::{printed, Fault, Reader};
 
 pub const CASE_D: [u8; 27] = [
@@ -10,15 +10,27 @@ pub const CASE_D: [u8; 27] = [
     0x04, 0x01, 0x05, 0x01, 0x02, 0x01, 0x01, 0x05, 0x01, 0x04, 0x01,
 ];
 
+/// The same in edition 2.
+pub const CASE_D_2: [u8; 22] = [
+    0x00, 0x02, 0x01, 0x01, 0x01, 0x03, 0x01, 0x01, 0xAC, 0x02, 0x09, 0x01, 0x01, 0x0B, 0x01, 0x07,
+    0x0C, 0x0D, 0x0A, 0x01, 0x0D, 0x0C,
+];
+
+pub const LINES_OF_CASE_D: &str = "0 0 0 0\n1 3 0 0\n2 1 0 300\n3 3 0 300\n4 4 0 300\n5 5 0 0\n\
+    6 2 0 300\n7 5 0 300\n8 4 13 0\nend 7 1 1\n";
+
 /// A hall of 1, 1, 1 with nothing after it.
 pub const SMALLEST: [u8; 3] = [1, 1, 1];
+
+/// The same in edition 2.
+pub const SMALLEST_2: [u8; 5] = [0, 2, 1, 1, 1];
 
 pub fn lines_in(format: Format, sheet: &[u8]) -> String {
     String::from_utf8(printed(sheet, format)).expect("plain text")
 }
 
 pub fn lines(sheet: &[u8]) -> String {
-    lines_in(Shortest, sheet)
+    lines_in(Edition1, sheet)
 }
 
 /// The lines of a sheet that opens the smallest hall and continues with these
@@ -34,7 +46,7 @@ pub fn stopping_line_in(format: Format, sheet: &[u8]) -> String {
 }
 
 pub fn stopping_line(sheet: &[u8]) -> String {
-    stopping_line_in(Shortest, sheet)
+    stopping_line_in(Edition1, sheet)
 }
 
 /// The first number of a sheet.

@@ -1,0 +1,8 @@
+//! Reads a sheet of edition 2 from standard input and prints its lines.
+
+use reference::sheet::{printed, run_program, Format};
+use std::process::ExitCode;
+
+fn main() -> ExitCode {
+    run_program("day_sheet_2_reference", |sheet| printed(sheet, Format::Edition2))
+}
