@@ -12,8 +12,8 @@
 #   make soak           runs the comparisons with new seeds; MINUTES=10 says how long (default: 1)
 #   make fuzz           fuzzes the six calls, then the sheet programs, each for half of MINUTES; installs clang if missing
 #   make fuzz-selftest  shows that the fuzzing catches wrong boards, stray accesses and wrong programs (minutes)
-.PHONY: run host test lib bench proved edits gallery selftest soak fuzz fuzz-selftest help target/bin/day_sheet \
-    target/bin/shorten_sheet
+PROGRAMS = $(addprefix target/bin/,day_sheet shorten_sheet day_sheet_2 to_edition_2 to_edition_1)
+.PHONY: run host test lib bench proved edits gallery selftest soak fuzz fuzz-selftest help $(PROGRAMS)
 
 CARGO = cargo run --quiet --offline --release --manifest-path
 export CARGO_TARGET_DIR = $(CURDIR)/target/outside
@@ -44,19 +44,16 @@ test:
 lib:
 	@tools/build lib
 
-target/bin/day_sheet target/bin/shorten_sheet:
+$(PROGRAMS):
 	@tools/build $(@F)
 
-bench: lib target/bin/day_sheet target/bin/shorten_sheet
+bench: lib $(PROGRAMS)
 	@bench/c_board/compare.sh
 	@echo
 	@$(CARGO) bench/Cargo.toml
 	@cargo build --quiet --offline --release --manifest-path tests/reference/Cargo.toml
 	@echo
-	@for program in day_sheet shorten_sheet; do \
-	    echo "$$program:"; \
-	    $(CARGO) bench/sheets/Cargo.toml -- target/bin/$$program target/outside/release/$${program}_reference || exit 1; \
-	done
+	@$(CARGO) bench/sheets/Cargo.toml -- target/bin target/outside/release
 
 proved:
 	@tools/proved
@@ -74,11 +71,11 @@ selftest:
 	@tests/selftest.sh programs
 	@tests/selftest.sh stores
 
-soak: lib target/bin/day_sheet target/bin/shorten_sheet
-	@tests/soak.sh build target/bin/day_sheet target/bin/shorten_sheet $(MINUTES)
+soak: lib $(PROGRAMS)
+	@tests/soak.sh build target/bin $(MINUTES)
 
-fuzz: lib target/bin/day_sheet target/bin/shorten_sheet
-	@tests/fuzz/run.sh build target/bin/day_sheet target/bin/shorten_sheet $(MINUTES)
+fuzz: lib $(PROGRAMS)
+	@tests/fuzz/run.sh build target/bin $(MINUTES)
 
 fuzz-selftest:
 	@tests/selftest.sh fuzz

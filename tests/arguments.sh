@@ -6,16 +6,22 @@ usage() {
     exit 2
 }
 
-# places LIBDIR DAY_SHEET SHORTEN_SHEET: sets SESSION_BOARD_LIB, day_sheet and shorten_sheet to absolute paths
-places() {
+# The sheet programs, by name.
+sheet_programs="day_sheet shorten_sheet day_sheet_2 to_edition_2 to_edition_1"
+
+# archive_at LIBDIR: sets SESSION_BOARD_LIB to its absolute path
+archive_at() {
     [ -f "$1/libsession_board.a" ] || usage "no file $1/libsession_board.a"
-    for program in "$2" "$3"; do
-        [ -f "$program" ] && [ -x "$program" ] || usage "$program is not a program"
-    done
     SESSION_BOARD_LIB=$(cd "$1" && pwd)
-    day_sheet=$(cd "$(dirname "$2")" && pwd)/$(basename "$2")
-    shorten_sheet=$(cd "$(dirname "$3")" && pwd)/$(basename "$3")
     export SESSION_BOARD_LIB
+}
+
+# programs_at PROGRAMS: sets programs to the absolute path of the folder, which contains all sheet programs
+programs_at() {
+    for program in $sheet_programs; do
+        [ -f "$1/$program" ] && [ -x "$1/$program" ] || usage "$1/$program is not a program"
+    done
+    programs=$(cd "$1" && pwd)
 }
 
 # minutes N: 0 would test nothing, and libFuzzer would not stop

@@ -1,18 +1,18 @@
 #!/bin/sh
 # Runs the tests outside Rattle, up to the first failure (tests/README.md):
 #
-#     tests/run.sh LIBDIR DAY_SHEET SHORTEN_SHEET
+#     tests/run.sh LIBDIR PROGRAMS
 #
-# LIBDIR contains the archive libsession_board.a; DAY_SHEET runs a day sheet, and
-# SHORTEN_SHEET writes an old one in shortest form. Built files go to $TARGET, or
-# else to target/outside.
+# LIBDIR contains the archive libsession_board.a, and PROGRAMS the sheet programs.
+# Built files go to $TARGET, or else to target/outside.
 set -eu
 
 root=$(cd "$(dirname "$0")/.." && pwd)
-name=run words="LIBDIR DAY_SHEET SHORTEN_SHEET (LIBDIR contains libsession_board.a, the others are programs)"
+name=run words="LIBDIR PROGRAMS (folders: one contains libsession_board.a, the other the sheet programs)"
 . "$root/tests/arguments.sh"
-[ $# -eq 3 ] || usage "three arguments are needed"
-places "$1" "$2" "$3"
+[ $# -eq 2 ] || usage "two arguments are needed"
+archive_at "$1"
+programs_at "$2"
 CARGO_TARGET_DIR=${TARGET:-$root/target/outside}
 export CARGO_TARGET_DIR
 mkdir -p "$CARGO_TARGET_DIR"
@@ -52,6 +52,15 @@ tests_of() {
     awk -v crate="$1" '/^test result: ok/ { n += $4 } END { print crate ": " n " tests passed" }' "$log.full"
 }
 
+# sheet_vectors: every program of the vectors, and the reference of each
+sheet_vectors() {
+    set --
+    for program in $sheet_programs; do
+        set -- "$@" "--$program" "$programs/$program" "$rust/${program}_reference"
+    done
+    "$rust/sheet_vectors" "$@" "$root"/tests/vectors/*-sheets.txt
+}
+
 step "reference" 1 tests_of reference
 step "building compare" 0 build compare
 step "compare" 1 "$rust/compare"
@@ -61,15 +70,18 @@ step "host_test" 1 "$CARGO_TARGET_DIR/host_test"
 step "building sheets" 0 build sheets
 step "building the sheet programs in Rust" 0 build reference
 step "the tests of sheet_vectors" 0 tests_of sheets
-step "sheet_vectors" 1 "$rust/sheet_vectors" --day_sheet "$day_sheet" "$rust/day_sheet_reference" \
-    --shorten_sheet "$shorten_sheet" "$rust/shorten_sheet_reference" "$root"/tests/vectors/*-sheets.txt
+step "sheet_vectors" 1 sheet_vectors
 step "sheet_vectors with the old reader" 0 "$rust/sheet_vectors" \
     --day_sheet "$rust/archive_sheet_reference" "$rust/archive_sheet_reference" "$root/tests/vectors/job-02-sheets.txt"
-step "sheets" 1 "$rust/sheets" "$day_sheet" "$rust/day_sheet_reference"
-step "shortened" 1 "$rust/shortened" "$shorten_sheet" "$day_sheet"
-step "sheet_cases" 1 "$root/tests/sheet_cases.py" --check --reference "$rust/day_sheet_reference"
-step "tool" 1 "$root/tests/tool.sh" "$day_sheet" "$shorten_sheet"
-step "sheet_errors" 1 "$root/tests/sheet_errors.sh" "$day_sheet" "$shorten_sheet"
+for program in day_sheet day_sheet_2; do
+    step "sheets" 1 "$rust/sheets" $program "$programs"
+done
+for program in shorten_sheet to_edition_2 to_edition_1; do
+    step "converted" 1 "$rust/converted" $program "$programs"
+done
+step "sheet_cases" 1 "$root/tests/sheet_cases.py" --check --references "$rust"
+step "tool" 1 "$root/tests/tool.sh" "$programs"
+step "sheet_errors" 1 "$root/tests/sheet_errors.sh" "$programs"
 step "building the example" 0 link host_example "$root/examples/host.c"
 step "the example" 0 "$CARGO_TARGET_DIR/host_example"
 step "documents" 1 "$root/tests/documents.py"

@@ -2,12 +2,13 @@
 # Tests what the sheet programs do where they cannot read or write, and what
 # they answer to arguments:
 #
-#     tests/sheet_errors.sh DAY_SHEET SHORTEN_SHEET
+#     tests/sheet_errors.sh PROGRAMS        the folder that contains them
 set -eu
 
-[ $# -eq 2 ] && [ -x "$1" ] && [ -x "$2" ] || { echo "usage: $0 DAY_SHEET SHORTEN_SHEET"; exit 2; }
-day_sheet=$(cd "$(dirname "$1")" && pwd)/$(basename "$1")
-shorten_sheet=$(cd "$(dirname "$2")" && pwd)/$(basename "$2")
+name=sheet_errors words="PROGRAMS (a folder that contains the sheet programs)"
+. "$(dirname "$0")/arguments.sh"
+[ $# -eq 1 ] || usage "one argument is needed"
+programs_at "$1"
 work=$(mktemp -d)
 trap 'rm -rf "$work"' EXIT
 cd "$work"
@@ -58,10 +59,11 @@ unread_output() { (trap '' PIPE; exec 3<>unread 4>unread 3<&-; quick <sheet >&4)
 argument() { quick "$@" <>pipe >out; }
 full_help() { quick --help >/dev/full; }
 
-# errors NAME PROGRAM OUTPUT EMPTY: what both programs do alike. OUTPUT is what the
-# program writes for the file sheet, EMPTY what it writes for no bytes at all.
+# errors NAME SHEET OUTPUT EMPTY: what all programs do alike. OUTPUT is what the
+# program writes for SHEET, in printf's form too, EMPTY what it writes for no bytes at all.
 errors() {
-    name=$1 program=$2
+    name=$1 program=$programs/$1
+    printf "$2" >sheet
     usage="usage: $name < SHEET, or $name --help\n"
     input="$name: cannot read standard input: "
     output="$name: cannot write standard output: "
@@ -109,26 +111,74 @@ helps() {
     tr '\n' ' ' <help | grep -q "$2" || fail "--help: nothing about $1"
 }
 
-printf '\1\1\1\4\1' >sheet
-errors day_sheet "$day_sheet" '0 0 0 0\n1 4 13 0\nend 0 1 0\n' '0 0 15 0\nend 0 0 0\n'
-helps offsets 'With 15, 16 and 19'
+# repeated N BYTES: the bytes, in sed's form, N times
+repeated() {
+    head -c "$1" /dev/zero | sed "s/\x00/$2/g"
+}
 
-# 30,000 collects: more lines than a batch has room for. The reader takes a line and ends: a later write fails.
-{ printf '\1\1\1'; head -c 60000 /dev/zero | tr '\0' '\5' | sed 's/\x05\x05/\x05\x01/g'; } >long
+# From the file long. The reader takes a line and ends: a later write fails.
 broken_pipe() { (trap '' PIPE; quick <long) | head -n 1 >out; }
-run broken_pipe
-came "a pipe that is no longer read" 0 '0 0 0 0\n' "${output}Broken pipe\n"
-
-# The same sheet with a padded number.
-printf '\201\0\1\1\4\1' >sheet
-errors shorten_sheet "$shorten_sheet" '\1\1\1\4\1' '15 0\n'
-helps "what it writes" 'shortest form'
-helps "refused sheets" 'refused.* line\|line.* refused'
-
-# The longest sheet: 65,536 bytes in, 32,769 out.
-{ printf '\201\0\1\1'; head -c 65532 /dev/zero | sed 's/\x00\x00\x00\x00/\x85\x00\x81\x00/g'; } >long
+# From the file long, to a checksum.
 from_long() { quick <long | cksum >out; }
-run from_long
-came "the longest sheet" 0 "$({ printf '\1\1\1'; head -c 32766 /dev/zero | sed 's/\x00\x00/\x05\x01/g'; } | cksum)\n" ""
+
+# long_output WHAT EXPECTED...: the program writes for the file long what this command does
+long_output() {
+    what=$1
+    shift
+    run from_long
+    came "$what" 0 "$("$@" | cksum)\n" ""
+}
+
+# lines_of_day_sheet: more lines than a batch has room for
+lines_of_day_sheet() {
+    run broken_pipe
+    came "a pipe that is no longer read" 0 '0 0 0 0\n' "${output}Broken pipe\n"
+}
+
+# helps_about_refusals: the help of a program that writes sheets
+helps_about_refusals() {
+    helps "refused sheets" 'refused.* line\|line.* refused'
+}
+
+errors day_sheet '\1\1\1\4\1' '0 0 0 0\n1 4 13 0\nend 0 1 0\n' '0 0 15 0\nend 0 0 0\n'
+helps offsets 'With 15, 16 and 19'
+{ printf '\1\1\1'; repeated 30000 '\x05\x01'; } >long
+lines_of_day_sheet
+
+errors day_sheet_2 '\0\2\1\1\1\4\1\14' '0 0 0 0\n1 4 13 0\n2 4 13 0\nend 0 2 0\n' '0 0 15 0\nend 0 0 0\n'
+helps "its edition" 'edition 2'
+{ printf '\0\2\1\1\1\5\1'; repeated 65529 '\x0d'; } >long
+lines_of_day_sheet
+
+errors shorten_sheet '\201\0\1\1\4\1' '\1\1\1\4\1' '15 0\n'
+helps "what it writes" 'shortest form'
+helps_about_refusals
+# 65,536 bytes in, 32,769 out.
+{ printf '\201\0\1\1'; repeated 16383 '\x85\x00\x81\x00'; } >long
+long_in_shortest_form() { printf '\1\1\1'; repeated 16383 '\x05\x01'; }
+long_output "the longest sheet" long_in_shortest_form
+
+errors to_edition_2 '\1\1\1\4\1\4\1' '\0\2\1\1\1\4\1\14' '15 0\n'
+helps "what it reads" 'edition 1'
+helps "what it writes" 'edition 2'
+helps_about_refusals
+# 65,534 bytes in, 65,536 out; then one byte more in, so that the output is too long.
+long_in_edition_1() { printf '\2\1\1\2\2\1'; repeated 16382 '\x05\x01\x05\x02'; }
+long_in_edition_2() { printf '\0\2'; long_in_edition_1; }
+long_in_edition_1 >long
+long_output "the longest output" long_in_edition_2
+{ printf '\2\1\1'; repeated 16383 '\x05\x01\x05\x02'; } >long
+long_output "an output that is too long" echo 18 0
+
+errors to_edition_1 '\0\2\1\1\1\4\1\14' '\1\1\1\4\1\4\1' '15 0\n'
+helps "what it reads" 'edition 2'
+helps "what it writes" 'edition 1'
+helps_about_refusals
+# 32,773 bytes in, 65,536 out; then the longest sheet, whose output is too long.
+{ printf '\0\2\1\1\1\2\1\1'; repeated 32765 '\x0d'; } >long
+long_with_every_desk() { printf '\1\1\1\2\1\1'; repeated 32765 '\x05\x01'; }
+long_output "the longest output" long_with_every_desk
+{ printf '\0\2\1\1\1\5\1'; repeated 65529 '\x0d'; } >long
+long_output "an output that is too long" echo 18 0
 
 echo "sheet_errors: $checks passed"

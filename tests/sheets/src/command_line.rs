@@ -1,8 +1,10 @@
 //! The command line of a comparison:
 //!
-//!     NAME PROGRAM PROGRAM [--seed N] [--count N]   many sheets
-//!     NAME PROGRAM PROGRAM --seed N --sheet N       one of them again
-//!     NAME PROGRAM PROGRAM --hex 'BYTES'            a sheet as it was printed
+//!     NAME PROGRAM FOLDER [--seed N] [--count N]   many sheets
+//!     NAME PROGRAM FOLDER --seed N --sheet N       one of them again
+//!     NAME PROGRAM FOLDER --hex 'BYTES'            a sheet as it was printed
+//!
+//! PROGRAM is the name of the program to be tested; FOLDER contains the programs.
 
 use crate::bytes::{from_hex, hex};
 use crate::comparison::{Comparison, Tally};
@@ -16,7 +18,8 @@ use std::time::Instant;
 use std::{env, fs};
 
 struct Options {
-    programs: [PathBuf; 2],
+    program: String,
+    folder: PathBuf,
     seed: u64,
     count: u64,
     sheet: Option<u64>,
@@ -27,10 +30,10 @@ pub fn run_comparison<C: Comparison>() -> ExitCode {
     let options = match options::<C>(env::args().skip(1)) {
         Ok(options) => options,
         Err(error) => {
-            let (name, [first, second]) = (C::NAME, C::PROGRAMS);
+            let (name, programs) = (C::NAME, C::PROGRAMS.join("|"));
             eprintln!("{name}: {error}");
             eprintln!(
-                "usage: {name} {first} {second} [--seed N] [--count N | --sheet N | --hex BYTES]"
+                "usage: {name} {programs} FOLDER [--seed N] [--count N | --sheet N | --hex BYTES]"
             );
             return ExitCode::from(2);
         }
@@ -39,12 +42,14 @@ pub fn run_comparison<C: Comparison>() -> ExitCode {
 }
 
 fn options<C: Comparison>(mut arguments: impl Iterator<Item = String>) -> Result<Options, String> {
-    let mut program = || {
-        let path = arguments.next().ok_or("two programs are to be named")?;
-        fs::canonicalize(&path).map_err(|error| format!("{path}: {error}"))
-    };
-    let programs = [program()?, program()?];
-    let mut options = Options { programs, seed: 1, count: C::SHEETS, sheet: None, bytes: None };
+    let program = arguments.next().ok_or("a program is to be named")?;
+    if !C::PROGRAMS.contains(&program.as_str()) {
+        return Err(format!("{program} is not tested here"));
+    }
+    let folder = arguments.next().ok_or("the folder of the programs is to be named")?;
+    let folder = fs::canonicalize(&folder).map_err(|error| format!("{folder}: {error}"))?;
+    let mut options =
+        Options { program, folder, seed: 1, count: C::SHEETS, sheet: None, bytes: None };
     while let Some(name) = arguments.next() {
         let value = arguments.next().ok_or(format!("{name}: a value is missing"))?;
         let number = || value.parse::<u64>().map_err(|error| format!("{name} {value}: {error}"));
@@ -60,8 +65,8 @@ fn options<C: Comparison>(mut arguments: impl Iterator<Item = String>) -> Result
 }
 
 fn compare<C: Comparison>(options: &Options, folder: &Path) -> ExitCode {
-    let command = Command::<C>::new(&options.programs, folder);
-    let all = Sheets::of::<C>(options.seed);
+    let command = Command::<C>::new(options, folder);
+    let all = Sheets::of(&command.comparison, options.seed);
     if let Some(sheet) = &options.bytes {
         command.compare_one(sheet, &INPUT_MODES)
     } else if let Some(number) = options.sheet {
@@ -73,28 +78,31 @@ fn compare<C: Comparison>(options: &Options, folder: &Path) -> ExitCode {
 
 struct Command<C> {
     comparison: C,
+    /// The name of the comparison, and of the program.
+    name: String,
     /// The beginning of the same command line.
     line: String,
     runner: Runner,
 }
 
 impl<C: Comparison> Command<C> {
-    fn new(programs: &[PathBuf; 2], folder: &Path) -> Self {
-        let [first, second] = programs.each_ref().map(|program| program.display());
+    fn new(options: &Options, folder: &Path) -> Self {
+        let (name, program) = (C::NAME, &options.program);
         Command {
-            comparison: C::new(programs.clone()),
-            line: format!("{} {first} {second}", C::NAME),
+            comparison: C::new(program, &options.folder),
+            name: format!("{name}: {program}"),
+            line: format!("{name} {program} {}", options.folder.display()),
             runner: Runner::new(folder.to_path_buf()),
         }
     }
 
-    fn compare_many(&self, all: &Sheets, count: u64, folder: &Path) -> ExitCode {
+    fn compare_many(&self, all: &Sheets<C>, count: u64, folder: &Path) -> ExitCode {
         let begun = Instant::now();
-        match compare_all(&self.comparison, all, count, folder) {
+        match compare_all(all, count, folder) {
             Ok(tally) => {
                 println!("{tally}");
                 println!("seed {}, {:.1} s", all.seed, begun.elapsed().as_secs_f64());
-                judge::<C>(&tally, count)
+                self.judge(&tally, count)
             }
             Err(number) => {
                 println!("sheet {number} of seed {} differs", all.seed);
@@ -104,11 +112,25 @@ impl<C: Comparison> Command<C> {
         }
     }
 
+    /// No sheet differed; but what never occurred was never compared.
+    fn judge(&self, tally: &C::Tally, count: u64) -> ExitCode {
+        let name = &self.name;
+        let missing = tally.missing();
+        missing.iter().for_each(|missing| println!("{missing}"));
+        if missing.is_empty() {
+            println!("{name}: {count} sheets, 0 differences");
+            ExitCode::SUCCESS
+        } else {
+            println!("{name}: {count} sheets, 0 differences, {} never occurred", missing.len());
+            ExitCode::FAILURE
+        }
+    }
+
     fn compare_one(&self, sheet: &[u8], modes: &[InputMode]) -> ExitCode {
         match modes.iter().find(|&&mode| !self.differences(sheet, mode).is_empty()) {
             Some(&mode) => self.explain_smallest(sheet.to_vec(), mode),
             None => {
-                println!("{}: 1 sheet, 0 differences", C::NAME);
+                println!("{}: 1 sheet, 0 differences", self.name);
                 ExitCode::SUCCESS
             }
         }
@@ -123,25 +145,11 @@ impl<C: Comparison> Command<C> {
             println!("  {difference}");
         }
         println!("replay: {} --hex '{}'", self.line, hex(&sheet));
-        println!("{}: 1 difference", C::NAME);
+        println!("{}: 1 difference", self.name);
         ExitCode::FAILURE
     }
 
     fn differences(&self, sheet: &[u8], mode: InputMode) -> Vec<String> {
-        self.comparison.differences(sheet, mode, &self.runner, &mut C::Tally::default())
-    }
-}
-
-/// No sheet differed; but what never occurred was never compared.
-fn judge<C: Comparison>(tally: &C::Tally, count: u64) -> ExitCode {
-    let name = C::NAME;
-    let missing = tally.missing();
-    missing.iter().for_each(|missing| println!("{missing}"));
-    if missing.is_empty() {
-        println!("{name}: {count} sheets, 0 differences");
-        ExitCode::SUCCESS
-    } else {
-        println!("{name}: {count} sheets, 0 differences, {} never occurred", missing.len());
-        ExitCode::FAILURE
+        self.comparison.differences(sheet, mode, &self.runner, &mut self.comparison.tally())
     }
 }

@@ -2,22 +2,30 @@
 
 use crate::program::{InputMode, Runner};
 use std::fmt::Display;
-use std::path::PathBuf;
+use std::path::Path;
 
-pub trait Comparison: Sync {
+pub trait Comparison: Sync + Sized {
     /// Its name, as it prints it.
     const NAME: &'static str;
-    /// Its two programs, as the usage line names them.
-    const PROGRAMS: [&'static str; 2];
+    /// The programs that it can test.
+    const PROGRAMS: &'static [&'static str];
     /// How many sheets are compared, unless the command line says it.
     const SHEETS: u64;
 
     type Tally: Tally;
 
-    fn new(programs: [PathBuf; 2]) -> Self;
+    /// The comparison that tests this program, one of `PROGRAMS`; it and the other
+    /// programs are in the folder.
+    fn new(program: &str, folder: &Path) -> Self;
+
+    /// The sheets that it starts with.
+    fn fixed_sheets(&self) -> Vec<Vec<u8>>;
 
     /// The sheet of a number under a seed.
-    fn make_sheet(seed: u64, number: u64) -> Vec<u8>;
+    fn make_sheet(&self, seed: u64, number: u64) -> Vec<u8>;
+
+    /// A tally with nothing counted.
+    fn tally(&self) -> Self::Tally;
 
     /// Runs the programs on a sheet, and counts what that shows. The result is a
     /// line for each difference.
@@ -31,7 +39,7 @@ pub trait Comparison: Sync {
 }
 
 /// What was compared. What never occurred was never compared.
-pub trait Tally: Default + Display + Send {
+pub trait Tally: Display + Send {
     fn add(&mut self, other: &Self);
 
     /// What must occur in every comparison, but did not.

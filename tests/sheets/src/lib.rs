@@ -10,6 +10,7 @@ mod fixed;
 mod folder;
 mod make;
 mod many;
+mod numbers;
 mod offsets;
 mod program;
 #[path = "../../compare/src/rng.rs"]
@@ -19,7 +20,8 @@ mod shrink;
 pub use command_line::run_comparison;
 pub use comparison::{Comparison, Tally};
 pub use difference::{first_difference_in_bytes, first_difference_in_lines};
+pub use fixed::sheets as fixed_sheets;
 pub use folder::with_folder;
-pub use make::{archive_sheet, sheet};
+pub use make::sheet;
 pub use offsets::{width_of, WIDTHS};
 pub use program::{InputMode, Output, Runner};

@@ -1,46 +1,57 @@
 //! Random sheets: histories that lead to all refusals; the same with padded
-//! numbers, truncated or damaged; and random bytes.
+//! numbers, truncated or damaged, or wrong about edition 2; and random bytes.
 
-use crate::bytes::{put, MAX_IN_THREE};
+use crate::bytes::MAX_IN_THREE;
 use crate::damage::{cut, damage};
+use crate::numbers::{in_format, in_groups, leave_desk_out, shortest, Numbers, TO_SHORTHAND};
 use crate::rng::Rng;
+use reference::sheet::Format;
 
-/// The sheet of this number under this seed. Most are in shortest form: a padded
-/// number ends the reading, and hides what comes after it.
-pub fn sheet(seed: u64, number: u64) -> Vec<u8> {
-    any_sheet(&mut Rng::of_case(seed, number), mostly_shortest)
-}
-
-/// The same for sheets of the archive. Most have padded numbers.
-pub fn archive_sheet(seed: u64, number: u64) -> Vec<u8> {
-    any_sheet(&mut Rng::of_case(seed, number), mostly_padded)
-}
-
-fn any_sheet(rng: &mut Rng, encode: fn(&mut Rng, &Numbers) -> Vec<u8>) -> Vec<u8> {
-    let encoded = |rng: &mut Rng, numbers: fn(&mut Rng) -> Numbers| {
-        let numbers = numbers(rng);
-        encode(rng, &numbers)
-    };
-    match rng.below(32) {
-        0..=14 => encoded(rng, history),
-        15..=18 => {
-            let sheet = encoded(rng, history);
-            cut(rng, sheet)
-        }
-        19..=23 => {
-            let sheet = encoded(rng, history);
-            damage(rng, sheet)
-        }
-        24 | 25 => encoded(rng, with_a_number_too_large),
-        26 | 27 => encoded(rng, with_a_code_out_of_range),
-        28 | 29 => encoded(rng, any_header),
+/// The sheet of this number under this seed, for a program that reads this format.
+pub fn sheet(format: Format, seed: u64, number: u64) -> Vec<u8> {
+    let rng = &mut Rng::of_case(seed, number);
+    let kinds = if format.has_shorthand() { 40 } else { 32 };
+    let kind = rng.below(kinds);
+    match kind {
         30 => (0..rng.below(40)).map(|_| rng.word() as u8).collect(),
-        _ => (0..rng.below(60)).map(|_| rng.below(8) as u8).collect(),
+        31 => (0..rng.below(60)).map(|_| rng.below(8) as u8).collect(),
+        _ => {
+            let numbers = any_numbers(rng, format, kind);
+            let sheet = encoded(rng, format, &numbers);
+            match kind {
+                15..=18 => cut(rng, sheet),
+                19..=23 => damage(rng, sheet),
+                _ => sheet,
+            }
+        }
     }
 }
 
-/// The numbers of a sheet: its header, then its records.
-type Numbers = Vec<Vec<u32>>;
+fn any_numbers(rng: &mut Rng, format: Format, kind: usize) -> Numbers {
+    let numbers = match kind {
+        24 | 25 => with_a_number_too_large(rng),
+        26 | 27 => with_a_code_out_of_range(rng),
+        28 | 29 => any_header(rng),
+        _ => history(rng),
+    };
+    let numbers = in_format(numbers, format);
+    match kind {
+        32..=34 => with_a_desk_written_out(rng, numbers),
+        35..=37 => with_shorthand_at_first(numbers),
+        38 | 39 => with_other_first_numbers(rng, numbers),
+        _ => numbers,
+    }
+}
+
+/// Most sheets are in shortest form: a padded number ends the reading, and hides
+/// what comes after it. The archive's sheets mostly have padded numbers.
+fn encoded(rng: &mut Rng, format: Format, numbers: &Numbers) -> Vec<u8> {
+    if format.allows_padding() {
+        mostly_padded(rng, numbers)
+    } else {
+        mostly_shortest(rng, numbers)
+    }
+}
 
 struct Hall {
     desks: u32,
@@ -49,10 +60,10 @@ struct Hall {
 }
 
 fn mostly_shortest(rng: &mut Rng, numbers: &Numbers) -> Vec<u8> {
-    match rng.below(8) {
-        0..=4 => shortest(numbers),
-        5 | 6 => one_padded(rng, numbers),
-        _ => many_padded(rng, numbers, 16),
+    match rng.below(16) {
+        0 | 1 => one_padded(rng, numbers),
+        2 => many_padded(rng, numbers, 16),
+        _ => shortest(numbers),
     }
 }
 
@@ -67,10 +78,6 @@ fn mostly_padded(rng: &mut Rng, numbers: &Numbers) -> Vec<u8> {
     }
 }
 
-fn shortest(numbers: &Numbers) -> Vec<u8> {
-    in_groups(numbers, |_| 1)
-}
-
 /// One of the numbers has two or three groups.
 fn one_padded(rng: &mut Rng, numbers: &Numbers) -> Vec<u8> {
     let padded = rng.below(numbers.iter().flatten().count());
@@ -81,15 +88,6 @@ fn one_padded(rng: &mut Rng, numbers: &Numbers) -> Vec<u8> {
 /// One number in so many has two or three groups.
 fn many_padded(rng: &mut Rng, numbers: &Numbers, times: usize) -> Vec<u8> {
     in_groups(numbers, |_| if rng.one_in(times) { rng.within(2, 3) } else { 1 })
-}
-
-/// The number at each place has at least so many groups.
-fn in_groups(numbers: &Numbers, mut least_groups: impl FnMut(usize) -> usize) -> Vec<u8> {
-    let mut sheet = Vec::new();
-    for (at, &number) in numbers.iter().flatten().enumerate() {
-        put(&mut sheet, number, least_groups(at));
-    }
-    sheet
 }
 
 /// Halls of all sizes, mostly small: there a few steps are enough to interact.
@@ -108,7 +106,10 @@ fn any_hall(rng: &mut Rng) -> Hall {
 /// has its own mixture of steps, so that lists become full and copies marked.
 fn history(rng: &mut Rng) -> Numbers {
     let hall = any_hall(rng);
-    let desks: Vec<u32> = (0..rng.within(1, 3)).map(|_| one_of(rng, hall.desks)).collect();
+    let mut desks: Vec<u32> = (0..rng.within(1, 3)).map(|_| one_of(rng, hall.desks)).collect();
+    if rng.one_in(8) {
+        desks.push(number(rng, hall.desks));
+    }
     let any = u32::from(rng.word()).max(1);
     let sessions = rng.pick(&[[5, 5, 0], [5, 6, 7], [300, 7, any], [0x0105, 0x0501, 5]]);
     let shares = [(); 3].map(|_| rng.pick(&[1, 4, 10]));
@@ -193,7 +194,7 @@ fn with_a_code_out_of_range(rng: &mut Rng) -> Numbers {
     let record = rng.within(1, numbers.len() - 1);
     let now = numbers[record][0];
     let any = u32::from(rng.word()).max(6);
-    numbers[record][0] = rng.pick(&[0, 6, 7, 127, 128, now + 256, any]);
+    numbers[record][0] = rng.pick(&[0, 6, 7, 8, 9, 13, 14, 127, 128, now + 256, any]);
     numbers
 }
 
@@ -207,6 +208,38 @@ fn any_header(rng: &mut Rng) -> Numbers {
     }
     if rng.one_in(4) {
         numbers.truncate(1);
+    }
+    numbers
+}
+
+/// A shorthand code becomes the code that it stands for, with the same desk again.
+/// Nothing changes where no desk is left out.
+fn with_a_desk_written_out(rng: &mut Rng, mut numbers: Numbers) -> Numbers {
+    let is_shorthand = |record: &[u32]| (9..=13).contains(&record[0]);
+    let places: Vec<usize> =
+        (1..numbers.len()).filter(|&record| is_shorthand(&numbers[record])).collect();
+    if !places.is_empty() {
+        let at = rng.pick(&places);
+        let before = numbers[1..at].iter().rev().find(|record| !is_shorthand(record));
+        let desk = before.expect("a record with its desk")[1];
+        numbers[at][0] -= TO_SHORTHAND;
+        numbers[at].insert(1, desk);
+    }
+    numbers
+}
+
+fn with_shorthand_at_first(mut numbers: Numbers) -> Numbers {
+    leave_desk_out(&mut numbers[1]);
+    numbers
+}
+
+/// In place of 0 or of 2; sometimes neither is there, as in edition 1.
+fn with_other_first_numbers(rng: &mut Rng, mut numbers: Numbers) -> Numbers {
+    let other = rng.pick(&[0, 1, 2, 3, 127, 128, 256, 258, 65_535]);
+    match rng.below(3) {
+        0 => numbers[0][0] = other,
+        1 => numbers[0][1] = other,
+        _ => drop(numbers[0].drain(..2)),
     }
     numbers
 }

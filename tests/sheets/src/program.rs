@@ -11,7 +11,7 @@ use std::time::{Duration, Instant};
 /// Far more than any sheet needs.
 const MAX_TIME: Duration = Duration::from_secs(10);
 
-/// The lines of the longest sheet are less than a fifth of this.
+/// The lines of the longest sheet are less than a third of this.
 const MAX_WRITTEN: u64 = 4 << 20;
 
 /// Between the pieces of a sheet: by then the program waits for more.

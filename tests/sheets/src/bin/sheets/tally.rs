@@ -1,10 +1,11 @@
 //! What was compared: the lines, by reply number and by what they answer, and
 //! the offsets that they print.
 
+use reference::sheet::Format;
 use sheets::{width_of, Tally, WIDTHS};
 use std::fmt;
 
-const NUMBERS: usize = 20;
+const NUMBERS: usize = 22;
 
 /// What a line answers, with the reply numbers that the documents give it. An
 /// opening is never 4, because the program lends enough; no step is ever 5.
@@ -19,6 +20,10 @@ const COLUMNS: [(&str, &[usize]); 8] = [
     ("bad code", &[17]),
 ];
 
+/// The reply numbers that only edition 2 gives: to its header and to each step.
+const OF_EDITION_2: [&[usize]; COLUMNS.len()] =
+    [&[21], &[20], &[20], &[20], &[20], &[20], &[], &[]];
+
 const HEADER: usize = 0;
 const NO_CODE: usize = 6;
 const BAD_CODE: usize = 7;
@@ -28,13 +33,23 @@ const WITH_OFFSET: [usize; 3] = [15, 16, 19];
 
 type Counts<const KINDS: usize> = [[u64; KINDS]; COLUMNS.len()];
 
-#[derive(Default)]
 pub struct Lines {
+    format: Format,
     lines: Counts<NUMBERS>,
     offsets: [Counts<{ WIDTHS.len() }>; WITH_OFFSET.len()],
 }
 
 impl Lines {
+    pub fn new(format: Format) -> Lines {
+        Lines { format, lines: Default::default(), offsets: Default::default() }
+    }
+
+    /// The reply numbers that must occur in a column.
+    fn required(&self, column: usize) -> impl Iterator<Item = usize> {
+        let more = if self.format.has_shorthand() { OF_EDITION_2[column] } else { &[] };
+        COLUMNS[column].1.iter().chain(more).copied()
+    }
+
     /// Counts the lines of the reference. Other output leaves a column empty,
     /// which is a failure.
     pub fn count(&mut self, printed: &[u8]) {
@@ -66,8 +81,8 @@ impl Tally for Lines {
     /// The replies and offsets that a sheet can get, but that never occurred.
     fn missing(&self) -> Vec<String> {
         let mut missing = Vec::new();
-        for (column, (name, numbers)) in COLUMNS.iter().enumerate() {
-            let never = numbers.iter().filter(|&&number| self.lines[column][number] == 0);
+        for (column, (name, _)) in COLUMNS.iter().enumerate() {
+            let never = self.required(column).filter(|&number| self.lines[column][number] == 0);
             missing.extend(never.map(|number| format!("{name}: never {number}")));
             for (number, offsets) in WITH_OFFSET.iter().zip(&self.offsets) {
                 let widths = required_widths(column, *number).iter();
