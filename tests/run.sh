@@ -52,13 +52,13 @@ tests_of() {
     awk -v crate="$1" '/^test result: ok/ { n += $4 } END { print crate ": " n " tests passed" }' "$log.full"
 }
 
-# sheet_vectors: every program of the vectors, and the reference of each
-sheet_vectors() {
-    set --
-    for program in $sheet_programs; do
-        set -- "$@" "--$program" "$programs/$program" "$rust/${program}_reference"
+# The reference's old reader in the place of day_sheet, and of its reference.
+old_reader() {
+    mkdir -p "$CARGO_TARGET_DIR/old_reader"
+    for program in day_sheet day_sheet_reference; do
+        cp "$rust/archive_sheet_reference" "$CARGO_TARGET_DIR/old_reader/$program"
     done
-    "$rust/sheet_vectors" "$@" "$root"/tests/vectors/*-sheets.txt
+    "$rust/sheet_vectors" "$CARGO_TARGET_DIR/old_reader" "$CARGO_TARGET_DIR/old_reader" "$@"
 }
 
 step "reference" 1 tests_of reference
@@ -70,9 +70,8 @@ step "host_test" 1 "$CARGO_TARGET_DIR/host_test"
 step "building sheets" 0 build sheets
 step "building the sheet programs in Rust" 0 build reference
 step "the tests of sheet_vectors" 0 tests_of sheets
-step "sheet_vectors" 1 sheet_vectors
-step "sheet_vectors with the old reader" 0 "$rust/sheet_vectors" \
-    --day_sheet "$rust/archive_sheet_reference" "$rust/archive_sheet_reference" "$root/tests/vectors/job-02-sheets.txt"
+step "sheet_vectors" 1 "$rust/sheet_vectors" "$programs" "$rust" "$root"/tests/vectors/*-sheets.txt
+step "sheet_vectors with the old reader" 0 old_reader "$root/tests/vectors/job-02-sheets.txt"
 for program in day_sheet day_sheet_2; do
     step "sheets" 1 "$rust/sheets" $program "$programs"
 done

@@ -1,8 +1,9 @@
 //! Runs the published sheets (tests/vectors) on programs and on the reference:
 //!
-//!     sheet_vectors [--NAME PROGRAM REFERENCE]... FILE...
+//!     sheet_vectors PROGRAMS REFERENCES FILE...
 //!
-//! NAME is what the files call the program. Each sheet must get its output from
+//! The program that the files call NAME is NAME in the folder PROGRAMS, and
+//! NAME_reference in the folder REFERENCES. Each sheet must get its output from
 //! both. Every sheet that does not is printed, with the first difference. Where
 //! two files have the same sheet for a program, the later one holds.
 
@@ -12,23 +13,22 @@ mod vector_bytes;
 
 use case::{add_later, cases, Case};
 use sheets::{with_folder, InputMode, Runner};
-use std::path::{Path, PathBuf};
+use std::path::PathBuf;
 use std::process::ExitCode;
 use std::{env, fs};
 
-/// A program and its reference, by the name that the files give them.
-struct Pair {
-    name: String,
-    program: PathBuf,
-    reference: PathBuf,
+/// The folders of the programs and of the references.
+struct Folders {
+    programs: PathBuf,
+    references: PathBuf,
 }
 
 fn main() -> ExitCode {
-    let (pairs, files) = match options(env::args().skip(1)) {
+    let (folders, files) = match options(env::args().skip(1)) {
         Ok(options) => options,
         Err(error) => {
             eprintln!("sheet_vectors: {error}");
-            eprintln!("usage: sheet_vectors [--NAME PROGRAM REFERENCE]... FILE...");
+            eprintln!("usage: sheet_vectors PROGRAMS REFERENCES FILE...");
             return ExitCode::from(2);
         }
     };
@@ -38,7 +38,7 @@ fn main() -> ExitCode {
         let runner = Runner::new(folder.to_path_buf());
         for case in &cases {
             let Case { place, program, .. } = case;
-            let of_case = case_faults(case, &pairs, &runner);
+            let of_case = case_faults(case, &folders, &runner);
             faults.extend(of_case.iter().map(|fault| format!("{place}: {program}: {fault}")));
         }
     });
@@ -53,22 +53,17 @@ fn main() -> ExitCode {
     }
 }
 
-fn options(arguments: impl Iterator<Item = String>) -> Result<(Vec<Pair>, Vec<String>), String> {
-    let mut arguments = arguments.peekable();
-    let mut pairs = Vec::new();
-    while let Some(option) = arguments.next_if(|argument| argument.starts_with("--")) {
-        let mut path = || {
-            let path = arguments.next().ok_or(format!("{option}: two programs are needed"))?;
-            fs::canonicalize(&path).map_err(|error| format!("{path}: {error}"))
-        };
-        let (program, reference) = (path()?, path()?);
-        pairs.push(Pair { name: option["--".len()..].into(), program, reference });
-    }
+fn options(mut arguments: impl Iterator<Item = String>) -> Result<(Folders, Vec<String>), String> {
+    let mut folder = || {
+        let path = arguments.next().ok_or("two folders are to be named")?;
+        fs::canonicalize(&path).map_err(|error| format!("{path}: {error}"))
+    };
+    let folders = Folders { programs: folder()?, references: folder()? };
     let files: Vec<String> = arguments.collect();
     if files.is_empty() {
         return Err("no file is named".into());
     }
-    Ok((pairs, files))
+    Ok((folders, files))
 }
 
 /// The cases of all files, the later ones in place of the earlier.
@@ -85,14 +80,13 @@ fn cases_in_force(files: &[String], faults: &mut Vec<String>) -> Vec<Case> {
 }
 
 /// Where the program or the reference differs from the case.
-fn case_faults(case: &Case, pairs: &[Pair], runner: &Runner) -> Vec<String> {
-    let Some(pair) = pairs.iter().find(|pair| pair.name == case.program) else {
-        return vec!["no such program".into()];
-    };
-    let of = |which: &str, program: &Path| {
-        let printed = runner.run(program, &case.sheet, InputMode::File);
+fn case_faults(case: &Case, folders: &Folders, runner: &Runner) -> Vec<String> {
+    let of = |which: &str, program: PathBuf| {
+        let printed = runner.run(&program, &case.sheet, InputMode::File);
         let fault = printed.map_or_else(Some, |printed| case.difference(&printed));
         fault.map(|fault| format!("{which}: {fault}"))
     };
-    [of("program", &pair.program), of("reference", &pair.reference)].into_iter().flatten().collect()
+    let program = of("program", folders.programs.join(&case.program));
+    let reference = folders.references.join(format!("{}_reference", case.program));
+    program.into_iter().chain(of("reference", reference)).collect()
 }
