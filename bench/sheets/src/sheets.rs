@@ -1,5 +1,7 @@
 //! The sheets that are timed: each as long as a sheet can be, and whole.
 
+use crate::records::{in_edition, length, Edition, Record};
+
 const BYTES: usize = 65_536;
 
 /// No record of these sheets is longer.
@@ -10,54 +12,70 @@ pub struct Sheet {
     pub bytes: Vec<u8>,
 }
 
-pub fn all() -> Vec<Sheet> {
+/// The longest sheets of this edition.
+pub fn longest(edition: Edition) -> Vec<Sheet> {
+    sheets(edition, edition)
+}
+
+/// The sheets of edition 2 that are the longest in edition 1.
+pub fn longest_in_edition_1() -> Vec<Sheet> {
+    sheets(Edition::Two, Edition::One)
+}
+
+/// Sheets of one edition, as long as they can be in another.
+fn sheets(edition: Edition, filled: Edition) -> Vec<Sheet> {
+    let sheet = |name, header: [u8; 3], records: Vec<Record>| {
+        let bytes = in_edition(edition, header, &records);
+        Sheet { name, bytes }
+    };
+    let largest = [16, 4, 64];
     vec![
-        Sheet { name: "retires and collects, hall 16 4 64", bytes: retires_and_collects() },
-        Sheet { name: "takes, drops and repeats, hall 16 4 64", bytes: takes_drops_repeats() },
-        Sheet { name: "collects alone, hall 1 1 1", bytes: collects_alone() },
-        Sheet { name: "steps refused with 6 to 14, hall 16 4 64", bytes: refused() },
+        sheet("retires and collects, hall 16 4 64", largest, retires_and_collects(filled)),
+        sheet("takes, drops and repeats, hall 16 4 64", largest, takes_drops_repeats(filled)),
+        sheet("collects alone, hall 1 1 1", [1, 1, 1], collects_alone(filled)),
+        sheet("steps refused with 6 to 14, hall 16 4 64", largest, refused(filled)),
     ]
 }
 
 /// Every screen shows a session; all desks in turn replace one, retire it and
 /// collect three times.
-fn retires_and_collects() -> Vec<u8> {
-    let mut sheet = vec![16, 4, 64];
+fn retires_and_collects(filled: Edition) -> Vec<Record> {
+    let mut records = Vec::new();
     for position in 1..=64 {
-        sheet.extend([3, 1, position, position]);
+        records.push(vec![3, 1, position, position]);
     }
     for desk in 1..=16 {
-        (1..=4).for_each(|screen| sheet.extend([1, desk, screen, 4 * (desk - 1) + screen]));
+        records.extend((1..=4).map(|screen| vec![1, desk, screen, 4 * (desk - 1) + screen]));
     }
     let turn = |turn: usize| {
         let (desk, position) = ((turn % 16) as u8 + 1, (turn * 7 % 64) as u8 + 1);
         let swap = vec![3, desk, position, 0x80 | (turn % 128) as u8, 0x01];
         [swap, vec![4, desk], vec![5, desk], vec![5, desk], vec![5, desk]]
     };
-    fill(sheet, (0..).flat_map(turn))
+    fill(filled, records, (0..).flat_map(turn))
 }
 
 /// A position is swapped from none to none: that is a repeat, and owes nothing.
-fn takes_drops_repeats() -> Vec<u8> {
-    let mut sheet = vec![16, 4, 64];
-    sheet.extend([3, 1, 1, 0xAC, 0x02]);
+fn takes_drops_repeats(filled: Edition) -> Vec<Record> {
     let turn = |turn: usize| {
         let (desk, screen) = ((turn % 16) as u8 + 1, (turn / 16 % 4) as u8 + 1);
         [vec![1, desk, screen, 1], vec![2, desk, screen], vec![3, desk, 64, 0]]
     };
-    fill(sheet, (0..).flat_map(turn))
+    fill(filled, vec![vec![3, 1, 1, 0xAC, 0x02]], (0..).flat_map(turn))
 }
 
-fn collects_alone() -> Vec<u8> {
-    fill(vec![1, 1, 1], std::iter::repeat(vec![5, 1]))
+fn collects_alone(filled: Edition) -> Vec<Record> {
+    fill(filled, Vec::new(), std::iter::repeat(vec![5, 1]))
 }
 
 /// Desk 1 has a full list and owes one more; position 2 is empty.
-fn refused() -> Vec<u8> {
-    let mut sheet = vec![16, 4, 64, 3, 1, 1, 5];
-    (0..128).for_each(|turn| sheet.extend([3, 1, 1, 6 + turn % 2, 4, 1]));
-    sheet.extend([3, 1, 1, 8, 1, 1, 1, 1]);
-    let records = [
+fn refused(filled: Edition) -> Vec<Record> {
+    let mut records = vec![vec![3, 1, 1, 5]];
+    for turn in 0..128 {
+        records.extend([vec![3, 1, 1, 6 + turn % 2], vec![4, 1]]);
+    }
+    records.extend([vec![3, 1, 1, 8], vec![1, 1, 1, 1]]);
+    let refused = [
         vec![1, 17, 1, 1],
         vec![1, 1, 5, 1],
         vec![3, 1, 65, 9],
@@ -68,23 +86,33 @@ fn refused() -> Vec<u8> {
         vec![4, 2],
         vec![4, 1],
     ];
-    fill(sheet, records.into_iter().cycle())
+    fill(filled, records, refused.into_iter().cycle())
 }
 
-/// Records up to the longest sheet. Collects take up what is left, after a drop
-/// if that is odd.
-fn fill(mut sheet: Vec<u8>, mut records: impl Iterator<Item = Vec<u8>>) -> Vec<u8> {
-    while BYTES - sheet.len() > MAX_RECORD + 1 {
-        let record = records.next().expect("records without end");
+/// Records up to the longest sheet of this edition. Collects of desk 1 take up
+/// what is left, after a drop if that is odd in edition 1.
+fn fill(
+    edition: Edition,
+    mut records: Vec<Record>,
+    mut more: impl Iterator<Item = Record>,
+) -> Vec<Record> {
+    let header = edition.first_bytes().len() + 3;
+    let mut bytes = header + length(edition, None, &records);
+    let mut push = |record: Record, bytes: &mut usize| {
+        *bytes += length(edition, records.last().map(|before| before[1]), &[record.clone()]);
+        records.push(record);
+    };
+    while BYTES - bytes > MAX_RECORD + 3 {
+        let record = more.next().expect("records without end");
         assert!(record.len() <= MAX_RECORD);
-        sheet.extend(record);
+        push(record, &mut bytes);
     }
-    if sheet.len() % 2 != BYTES % 2 {
-        sheet.extend([2, 1, 1]);
+    if edition == Edition::One && bytes % 2 != BYTES % 2 {
+        push(vec![2, 1, 1], &mut bytes);
     }
-    while sheet.len() < BYTES {
-        sheet.extend([5, 1]);
+    while bytes < BYTES {
+        push(vec![5, 1], &mut bytes);
     }
-    assert_eq!(sheet.len(), BYTES);
-    sheet
+    assert_eq!(bytes, BYTES);
+    records
 }
