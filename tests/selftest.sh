@@ -7,8 +7,8 @@
 #     KIND       what must catch them     the wrong ones
 #     boards     compare, and vectors     wrong/boards: patches of the reference, which replaces the archive
 #                if wrong about repeats
-#     programs   sheets or shortened,     wrong/programs: patches of the reference, which replaces day_sheet or, if the
-#                and sheet_vectors        name starts with shorten-, shorten_sheet; those named reads- replace both
+#     programs   sheets or converted,     wrong/programs: patches of the reference, which replaces the programs that the
+#                and sheet_vectors        name says (`replaced`)
 #     stores     stores and host_test     wrong/stores.c: right answers, but a store outside the call's footprint
 #     fuzz       fuzz_calls, fuzz_sheets  some of wrong/boards and wrong/programs, and wrong/accesses.c
 #
@@ -22,10 +22,15 @@ root=$(dirname "$tests")
 work=$(mktemp -d)
 trap 'rm -rf "$work"' EXIT
 export RUSTFLAGS=-Awarnings # a patch can leave a function unused
+. "$tests/arguments.sh"      # sheet_programs
 
 fail() {
     echo "selftest: $1"
     exit 1
+}
+
+is_one_of() {
+    case " $2 " in *" $1 "*) ;; *) return 1 ;; esac
 }
 
 # ---- building -------------------------------------------------------------
@@ -122,42 +127,56 @@ boards_wrong() {
 
 # ---- programs -------------------------------------------------------------
 
-# compare_programs COMPARISON TARGET [OPTION...]: sheets or shortened, with its program in $work/TARGET
-compare_programs() {
-    comparison=$1 program=$work/$2/release
-    shift 2
-    case $comparison in
-    sheets) program=$program/day_sheet_reference ;;
-    shortened) program=$program/shorten_sheet_reference ;;
-    esac
-    timeout 300 "$work/sheets/release/$comparison" "$program" "$work/right/release/day_sheet_reference" "$@"
-}
-
-# comparisons NAME: those that must catch a wrong program. What is read from standard input is the same in both.
-comparisons() {
+# replaced NAME: the programs that a wrong one replaces. What is read from standard input is the same in all.
+replaced() {
     case $1 in
-    shorten-*) echo shortened ;;
-    reads-*) echo sheets shortened ;;
-    *) echo sheets ;;
+    edition-2-*) echo day_sheet_2 ;;
+    shorten-*) echo shorten_sheet ;;
+    to-2-*) echo to_edition_2 ;;
+    to-1-*) echo to_edition_1 ;;
+    convert-*) echo to_edition_2 to_edition_1 ;;
+    reads-*) echo $sheet_programs ;;
+    *) echo day_sheet ;;
     esac
 }
 
-# sheet_vectors DAY_SHEET SHORTEN_SHEET: the published sheets, with the programs in these targets
+# programs_with TARGET [PROGRAM...]: all programs in $work/programs, the references; these are from $work/TARGET
+programs_with() {
+    target=$1
+    shift
+    rm -rf "$work/programs"
+    mkdir "$work/programs"
+    for program in $sheet_programs; do
+        from=right
+        if is_one_of "$program" "$*"; then from=$target; fi
+        ln -s "$work/$from/release/${program}_reference" "$work/programs/$program"
+    done
+}
+
+# compare_program PROGRAM [OPTION...]: sheets or converted, on $work/programs
+compare_program() {
+    tested=$1
+    shift
+    case $tested in
+    day_sheet | day_sheet_2) comparison=sheets ;;
+    *) comparison=converted ;;
+    esac
+    timeout 300 "$work/sheets/release/$comparison" "$tested" "$work/programs" "$@"
+}
+
+# sheet_vectors: the published sheets, on $work/programs
 sheet_vectors() {
-    right=$work/right/release
-    timeout 120 "$work/sheets/release/sheet_vectors" \
-        --day_sheet "$work/$1/release/day_sheet_reference" "$right/day_sheet_reference" \
-        --shorten_sheet "$work/$2/release/shorten_sheet_reference" "$right/shorten_sheet_reference" \
+    timeout 120 "$work/sheets/release/sheet_vectors" "$work/programs" "$work/right/release" \
         "$tests"/vectors/*-sheets.txt >"$work/out.vectors" 2>&1
 }
 
 # The published sheets come from a file, all at once.
-unseen_by_sheet_vectors=reads-once
+unseen_by_sheet_vectors="reads-once"
 
-# caught_by_sheet_vectors NAME DAY_SHEET SHORTEN_SHEET
+# caught_by_sheet_vectors NAME
 caught_by_sheet_vectors() {
     ! is_one_of "$1" "$unseen_by_sheet_vectors" || return 0
-    if sheet_vectors "$2" "$3"; then fail "$1: not caught by sheet_vectors"; fi
+    if sheet_vectors; then fail "$1: not caught by sheet_vectors"; fi
     grep -q "^sheet vectors: .* faults$" "$work/out.vectors" || fail "$1: $(tail -n 1 "$work/out.vectors")"
 }
 
@@ -178,46 +197,45 @@ programs_start() {
 
 programs_right() {
     sheet_vectors_tests
-    for by in sheets shortened; do
-        compare_programs $by right >"$work/out" || fail "the right program differs: $(tail -n 1 "$work/out")"
+    programs_with right
+    for program in $sheet_programs; do
+        compare_program $program >"$work/out" || fail "the right program differs: $(tail -n 1 "$work/out")"
         echo "right program: $(tail -n 1 "$work/out")"
     done
-    sheet_vectors right right || fail "the right program differs: $(head -n 1 "$work/out.vectors")"
+    sheet_vectors || fail "the right program differs: $(head -n 1 "$work/out.vectors")"
 }
 
-# question NAME: what shortened asks beside the output of the reference, and which of the wrong ones must show that it
+# question NAME: what converted asks beside the output of the reference, and which of the wrong ones must show that it
 # does; nothing for the others
 question() {
     case $1 in
     shorten-pads) echo longer ;;
-    shorten-keeps-the-header) echo other lines ;;
-    shorten-one-group-at-a-time) echo shortened again ;;
+    shorten-keeps-the-header | to-2-writes-desks-out) echo other lines ;;
+    shorten-one-group-at-a-time | convert-desks-outside-become-0) echo other way back ;;
     esac
 }
 
-# caught_by_comparison NAME COMPARISON
+# caught_by_comparison NAME PROGRAM
 caught_by_comparison() {
-    if compare_programs "$2" wrong >"$work/out" 2>&1; then fail "$1: not caught by $2"; fi
-    grep -q "^$2: 1 difference" "$work/out" || fail "$1: $(tail -n 1 "$work/out")"
+    if compare_program "$2" >"$work/out" 2>&1; then fail "$1: not caught by the comparison of $2"; fi
+    grep -q "^[a-z]*: $2: 1 difference" "$work/out" || fail "$1: $(tail -n 1 "$work/out")"
     asked=$(question "$1")
     [ -z "$asked" ] || grep -q "^  $asked" "$work/out" || fail "$1: not '$asked'"
     bytes=$(sed -n "s/^replay: .*--hex '\(.*\)'$/\1/p" "$work/out")
-    if compare_programs "$2" wrong --hex "$bytes" >"$work/out.again" 2>&1; then
+    if compare_program "$2" --hex "$bytes" >"$work/out.again" 2>&1; then
         fail "$1: the replay does not differ"
     fi
-    echo "$1: caught by $2, $(sed -n 's/^smallest sheet found: //p' "$work/out")"
+    echo "$1: caught, $2, $(sed -n 's/^smallest sheet found: //p' "$work/out")"
 }
 
 programs_wrong() {
     patched programs "$1"
     build "$work/tests/reference" wrong
     case_fails programs "$1" # two patches name none: no test of the reference reads as they do
-    for by in $(comparisons "$1"); do
-        caught_by_comparison "$1" $by
-        case $by in
-        sheets) caught_by_sheet_vectors "$1" wrong right ;;
-        shortened) caught_by_sheet_vectors "$1" right wrong ;;
-        esac
+    for wrong_program in $(replaced "$1"); do
+        programs_with wrong $wrong_program
+        caught_by_comparison "$1" $wrong_program
+        caught_by_sheet_vectors "$1"
     done
 }
 
@@ -309,27 +327,18 @@ fuzz_start() {
     build "$tests/fake_archive" right
     build "$tests/reference" right
     "$tests/fuzz/build.sh" "$work/right/release" "$work/harness"
-}
-
-# sheet_programs DAY_SHEET SHORTEN_SHEET: the programs in these targets are fuzzed
-sheet_programs() {
-    DAY_SHEET=$work/$1/release/day_sheet_reference
-    SHORTEN_SHEET=$work/$2/release/shorten_sheet_reference
-    export DAY_SHEET SHORTEN_SHEET
+    PROGRAMS=$work/programs
+    export PROGRAMS
 }
 
 # With nothing wrong, ten seconds pass.
 fuzz_right() {
-    sheet_programs right right
+    programs_with right
     for harness in fuzz_calls fuzz_sheets; do
         "$work/harness/$harness" -seed=1 -max_total_time=10 >"$work/out" 2>&1 ||
             fail "$harness fails on what is right: $(how)"
         echo "nothing wrong: $(tail -n 1 "$work/out"), none caught"
     done
-}
-
-is_one_of() {
-    case " $2 " in *" $1 "*) ;; *) return 1 ;; esac
 }
 
 fuzz_wrong() {
@@ -346,10 +355,7 @@ fuzz_wrong() {
     elif is_one_of "$1" "$fuzz_programs"; then
         patched programs "$1"
         build "$work/tests/reference" wrong_program
-        case $1 in
-        shorten-*) sheet_programs right wrong_program ;;
-        *) sheet_programs wrong_program right ;;
-        esac
+        programs_with wrong_program $(replaced "$1")
         caught_by "$1" "$work/harness/fuzz_sheets"
     else
         # The right board with the name right_drop, and the one of accesses.c, which calls it.

@@ -1,6 +1,6 @@
 /*
- * Fuzzes the sheet programs. An input is a sheet. The programs that DAY_SHEET and
- * SHORTEN_SHEET name run on it, each in a separate process, and their output is
+ * Fuzzes the sheet programs. An input is a sheet. The programs, in the folder that
+ * PROGRAMS names, run on it, each in a separate process, and their output is
  * compared with that of the reference, which runs in this process. The reference
  * is instrumented and guides the fuzzer; the programs are not.
  */
@@ -24,9 +24,9 @@
 
 enum {
     MAX_MILLISECONDS = 10000, /* far more than any sheet needs */
-    MAX_WRITTEN = 4 << 20,    /* five times the lines of the longest sheet */
+    MAX_WRITTEN = 4 << 20,    /* three times the lines of the longest sheet */
     PIPE_BYTES = 1 << 20,
-    NUMBERS = 20
+    NUMBERS = 22
 };
 
 static void require(bool good, const char *what)
@@ -146,30 +146,45 @@ static size_t run(const char *program, const uint8_t *sheet, size_t bytes)
 
 /* ---- the fuzzer's side ----------------------------------------------- */
 
-static const char *day_sheet, *shorten_sheet;
+/* The programs, in the order of reference_output. */
+static struct program {
+    const char *name;
+    bool prints_lines;
+    const char *right; /* what must hold of the output */
+    char *path;
+} programs[] = {
+    {"day_sheet", true, "the lines of the reference", NULL},
+    {"day_sheet_2", true, "the lines of the reference in edition 2", NULL},
+    {"shorten_sheet", false, "the shortest form of the reference", NULL},
+    {"to_edition_2", false, "the edition 2 of the reference", NULL},
+    {"to_edition_1", false, "the edition 1 of the reference", NULL},
+};
 
-/* The lines with each reply number, and the sheets that are not shortened because
- * of it; number 0 is that of the sheets that are. */
-static unsigned long sheets, lines[NUMBERS], shortened[NUMBERS];
+enum { PROGRAMS = sizeof programs / sizeof programs[0] };
+
+/* For a program that prints lines, those with each reply number; for another, the
+ * sheets that are refused with it. Number 0 is that of the sheets that are not. */
+static unsigned long sheets, counts[PROGRAMS][NUMBERS];
 
 /* The fuzzer keeps an input that raises one of these. */
 __attribute__((section("__libfuzzer_extra_counters")))
-static uint8_t this_input[2 * NUMBERS];
+static uint8_t this_input[PROGRAMS * NUMBERS];
 
-static void raise_counter(unsigned counter)
+static void count(unsigned program, unsigned number)
 {
-    this_input[counter] += this_input[counter] < 255;
+    uint8_t *counter = &this_input[program * NUMBERS + number];
+    counts[program][number]++;
+    *counter += *counter < 255;
 }
 
 /* Each line but the last is record number, code, reply number, session. */
-static void count_lines(const uint8_t *text, size_t length)
+static void count_lines(unsigned program, const uint8_t *text, size_t length)
 {
     int spaces = 0;
     unsigned number = 0;
     for (size_t at = 0; at < length && text[at] != 'e'; at++) {
         if (text[at] == '\n') {
-            lines[number]++;
-            raise_counter(number);
+            count(program, number);
             spaces = 0, number = 0;
         } else if (text[at] == ' ') {
             spaces++;
@@ -180,48 +195,43 @@ static void count_lines(const uint8_t *text, size_t length)
 }
 
 /* A refusal is a line that starts with its number; no sheet starts with a digit. */
-static void count_shortened(const uint8_t *text, size_t length)
+static void count_sheet(unsigned program, const uint8_t *text, size_t length)
 {
     unsigned number = 0;
     for (size_t at = 0; at < length && '0' <= text[at] && text[at] <= '9'; at++)
         number = 10 * number + (text[at] - '0');
-    shortened[number]++;
-    raise_counter(NUMBERS + number);
+    count(program, number);
 }
 
 static void print_count(unsigned long count)
 {
-    count ? printf("%12lu", count) : printf("%12s", "-");
+    count ? printf("%14lu", count) : printf("%14s", "-");
 }
 
 static void print_tally(void)
 {
-    printf("%-12s%12s%12s\n", "reply", "lines", "shortened");
+    printf("%-8s", "reply");
+    for (int program = 0; program < PROGRAMS; program++)
+        printf("%14s", programs[program].name);
     for (int number = 0; number < NUMBERS; number++) {
-        printf("%-12d", number);
-        print_count(lines[number]);
-        print_count(shortened[number]);
-        printf("\n");
+        printf("\n%-8d", number);
+        for (int program = 0; program < PROGRAMS; program++)
+            print_count(counts[program][number]);
     }
-    printf("fuzz_sheets: %lu sheets\n", sheets);
+    printf("\nfuzz_sheets: %lu sheets\n", sheets);
     fflush(stdout);
-}
-
-static const char *program_named(const char *variable)
-{
-    const char *program = getenv(variable);
-    if (program == NULL) {
-        fprintf(stderr, "fuzz_sheets: %s must name the program\n", variable);
-        exit(2);
-    }
-    return program;
 }
 
 int LLVMFuzzerInitialize(int *arguments, char ***names)
 {
     (void)arguments, (void)names;
-    day_sheet = program_named("DAY_SHEET");
-    shorten_sheet = program_named("SHORTEN_SHEET");
+    const char *folder = getenv("PROGRAMS");
+    if (folder == NULL) {
+        fprintf(stderr, "fuzz_sheets: PROGRAMS must name the folder of the programs\n");
+        exit(2);
+    }
+    for (int program = 0; program < PROGRAMS; program++)
+        must(asprintf(&programs[program].path, "%s/%s", folder, programs[program].name) > 0, "memory");
     output = memfd_create("output", MFD_CLOEXEC);
     must(output >= 0, "a file for the output");
     atexit(print_tally);
@@ -230,18 +240,17 @@ int LLVMFuzzerInitialize(int *arguments, char ***names)
 
 int LLVMFuzzerTestOneInput(const uint8_t *sheet, size_t bytes)
 {
-    size_t expected_length, length;
-    const uint8_t *expected = reference_lines(sheet, bytes, &expected_length);
-    length = run(day_sheet, sheet, bytes);
-    require(length == expected_length && memcmp(written, expected, length) == 0,
-            "the lines of the reference");
-    count_lines(expected, expected_length);
-
-    expected = reference_shortened(sheet, bytes, &expected_length);
-    length = run(shorten_sheet, sheet, bytes);
-    require(length == expected_length && memcmp(written, expected, length) == 0,
-            "the shortest form of the reference");
-    count_shortened(expected, expected_length);
+    for (int program = 0; program < PROGRAMS; program++) {
+        size_t expected_length, length;
+        const uint8_t *expected = reference_output(program, sheet, bytes, &expected_length);
+        length = run(programs[program].path, sheet, bytes);
+        require(length == expected_length && memcmp(written, expected, length) == 0,
+                programs[program].right);
+        if (programs[program].prints_lines)
+            count_lines(program, expected, expected_length);
+        else
+            count_sheet(program, expected, expected_length);
+    }
     sheets++;
     return 0;
 }

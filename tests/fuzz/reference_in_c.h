@@ -9,10 +9,8 @@
 uint32_t reference_call(uint8_t function, const uint16_t numbers[3],
                         uint8_t *table, size_t bytes);
 
-/* The lines of a sheet, valid until the next call. */
-const uint8_t *reference_lines(const uint8_t *sheet, size_t bytes, size_t *length);
-
-/* A sheet in shortest form, or the line of its refusal; valid until the next call. */
-const uint8_t *reference_shortened(const uint8_t *sheet, size_t bytes, size_t *length);
+/* What a sheet program writes, valid until the next call. Programs 0 to 4: day_sheet,
+ * day_sheet_2, shorten_sheet, to_edition_2, to_edition_1. */
+const uint8_t *reference_output(uint8_t program, const uint8_t *sheet, size_t bytes, size_t *length);
 
 #endif

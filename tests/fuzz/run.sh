@@ -1,26 +1,26 @@
 #!/bin/sh
 # Fuzzes the six calls, then the sheet programs, each for half of the time:
 #
-#     tests/fuzz/run.sh LIBDIR DAY_SHEET SHORTEN_SHEET MINUTES
+#     tests/fuzz/run.sh LIBDIR PROGRAMS MINUTES
 #
-# LIBDIR contains the archive libsession_board.a; DAY_SHEET runs a day sheet, and
-# SHORTEN_SHEET writes an old one in shortest form. All files go to $FUZZ, or else
-# to target/fuzz: the inputs worth keeping (the next run starts with them), the
-# logs, and in found/ an input that failed.
+# LIBDIR contains the archive libsession_board.a, and PROGRAMS the sheet programs. All
+# files go to $FUZZ, or else to target/fuzz: the inputs worth keeping (the next run
+# starts with them), the logs, and in found/ an input that failed.
 set -eu
 
 fuzz=$(cd "$(dirname "$0")" && pwd)
-name=fuzz words="LIBDIR DAY_SHEET SHORTEN_SHEET MINUTES"
+name=fuzz words="LIBDIR PROGRAMS MINUTES"
 . "$fuzz/../arguments.sh"
-[ $# -eq 4 ] || usage "four arguments are needed"
-places "$1" "$2" "$3"
-minutes "$4"
-DAY_SHEET=$day_sheet SHORTEN_SHEET=$shorten_sheet
-seconds=$(($4 * 30))
+[ $# -eq 3 ] || usage "three arguments are needed"
+archive_at "$1"
+programs_at "$2"
+minutes "$3"
+PROGRAMS=$programs
+seconds=$(($3 * 30))
 out=${FUZZ:-$fuzz/../../target/fuzz}
 mkdir -p "$out"
 out=$(cd "$out" && pwd)
-export DAY_SHEET SHORTEN_SHEET
+export PROGRAMS
 
 "$fuzz/build.sh" "$SESSION_BOARD_LIB" "$out"
 CARGO_TARGET_DIR=$out/seeds cargo build --quiet --offline --release \
@@ -35,7 +35,7 @@ fuzz() {
         -artifact_prefix="$out/found/$1-" "$out/$1" "$out/$1_seeds" >"$log" 2>&1; then
         grep -a -v '^#' "$log" # without the fuzzer's progress
         input=$(sed -n 's/.*Test unit written to //p' "$log")
-        echo "fuzz: failed; again: DAY_SHEET=$DAY_SHEET SHORTEN_SHEET=$SHORTEN_SHEET $out/fuzz_$1 $input"
+        echo "fuzz: failed; again: PROGRAMS=$PROGRAMS $out/fuzz_$1 $input"
         exit 1
     fi
     sed -n -e 's/^stat::number_of_executed_units: */executions: /p' \

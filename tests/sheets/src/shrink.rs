@@ -4,7 +4,7 @@ use std::time::{Duration, Instant};
 
 /// A sheet that differs only because of its length cannot be made shorter; the
 /// search is limited in time.
-const MAX_TIME: Duration = Duration::from_secs(20);
+const MAX_TIME: Duration = Duration::from_secs(10);
 
 /// Tries smaller and smaller sheets until none of them differs.
 pub fn shrink(sheet: Vec<u8>, differs: impl Fn(&[u8]) -> bool) -> Vec<u8> {

@@ -1,7 +1,8 @@
 //! The reference under C names of its own, so that a harness in C can make the
 //! same call on it and on the archive. The header is ../reference_in_c.h.
 
-use reference::{answer, sheet};
+use reference::answer;
+use reference::sheet::{printed, Conversion, Format};
 use std::slice;
 
 /// A call: 0 to 5 are open, take, drop, swap, retire and collect, with the
@@ -29,35 +30,30 @@ pub unsafe extern "C" fn reference_call(
     })
 }
 
-/// The lines of a sheet, valid until the next call; their length goes to
-/// `length`.
+/// What a sheet program writes, valid until the next call; its length goes to
+/// `length`. Programs 0 to 4 are day_sheet, day_sheet_2, shorten_sheet, to_edition_2
+/// and to_edition_1.
 ///
 /// # Safety
 /// `sheet` points to `bytes` bytes; one thread calls this.
 #[no_mangle]
-pub unsafe extern "C" fn reference_lines(
+pub unsafe extern "C" fn reference_output(
+    program: u8,
     sheet: *const u8,
     bytes: usize,
     length: *mut usize,
 ) -> *const u8 {
-    static mut LINES: Vec<u8> = Vec::new();
-    let lines = sheet::printed(slice_of(sheet, bytes), sheet::Format::Shortest);
-    keep(lines, &raw mut LINES, length)
-}
-
-/// A sheet in shortest form, or the line of its refusal, in the same way.
-///
-/// # Safety
-/// As above.
-#[no_mangle]
-pub unsafe extern "C" fn reference_shortened(
-    sheet: *const u8,
-    bytes: usize,
-    length: *mut usize,
-) -> *const u8 {
-    static mut SHORTENED: Vec<u8> = Vec::new();
-    let shortened = sheet::shortened(slice_of(sheet, bytes));
-    keep(shortened, &raw mut SHORTENED, length)
+    static mut OUTPUT: Vec<u8> = Vec::new();
+    let sheet = slice_of(sheet, bytes);
+    let output = match program {
+        0 => printed(sheet, Format::Edition1),
+        1 => printed(sheet, Format::Edition2),
+        2 => Conversion::SHORTEN.output(sheet),
+        3 => Conversion::TO_EDITION_2.output(sheet),
+        4 => Conversion::TO_EDITION_1.output(sheet),
+        _ => unreachable!("five programs"),
+    };
+    keep(output, &raw mut OUTPUT, length)
 }
 
 unsafe fn slice_of<'a>(sheet: *const u8, bytes: usize) -> &'a [u8] {
