@@ -1,5 +1,5 @@
-# Sourced by the scripts that test an archive and the sheet programs: checks their arguments. They set `name` and `words`:
-# their own name, and their arguments for the usage line.
+# Sourced by the scripts that test an archive and the sheet programs: names the programs, and checks the arguments. The
+# scripts set `name` and `words`: their own name, and their arguments for the usage line.
 usage() {
     echo "$name: $1"
     echo "usage: $0 $words"

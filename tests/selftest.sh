@@ -297,6 +297,8 @@ fuzz_boards="keeps-every-copy joins-in-mid-reading room-one-early position-befor
 fuzz_boards_and_reference="opening-clears-all opening-clears-odd-byte refused-swap-writes repeat-owes"
 fuzz_programs="reads-once two-groups stops-at-refusal counts-exchanged offset-of-the-failing-byte"
 fuzz_programs="$fuzz_programs padded-zero-only shorten-keeps-padded-fields shorten-offset-without-zero-groups"
+fuzz_programs="$fuzz_programs edition-2-desk-of-an-accepted-record edition-2-edition-asked-after-both"
+fuzz_programs="$fuzz_programs edition-2-unchanged-is-allowed to-2-desks-of-the-hall-only to-1-first-desk-stays"
 
 fuzz_all() {
     echo $fuzz_boards $fuzz_boards_and_reference
