@@ -106,7 +106,7 @@ fn shorthand(step: &[u8]) -> Vec<u8> {
     [&[step[0] + TO_SHORTHAND as u8], &step[2..]].concat()
 }
 
-/// For a reader of edition 1.
+/// Sheets and codes of edition 2, for a reader of edition 1.
 fn of_edition_2() -> Vec<Vec<u8>> {
     let case_d = shortest(&in_format(case_d(), Format::Edition2));
     let mut sheets: Vec<_> = (0..=case_d.len()).map(|cut| case_d[..cut].to_vec()).collect();
@@ -125,7 +125,7 @@ fn wrong_in_edition_2() -> Vec<Vec<u8>> {
     for step in STEPS {
         let shorthand = shorthand(step);
         sheets.extend(whole_and_cut(&[hall, &shorthand].concat()));
-        // A desk of the hall, of its refused steps, and outside of it.
+        // A desk of the hall, accepted and refused, and desks outside of it.
         for first in [&[5, 1][..], &[4, 1], &[5, 0], &[5, 9], &[5, 0xFF, 0xFF, 0x03]] {
             let again = [&step[..1], &first[1..], &step[2..]].concat();
             sheets.extend(whole_and_cut(&[hall, first, &again].concat()));

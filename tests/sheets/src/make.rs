@@ -7,38 +7,75 @@ use crate::numbers::{in_format, in_groups, leave_desk_out, shortest, Numbers, TO
 use crate::rng::Rng;
 use reference::sheet::Format;
 
+#[derive(Clone, Copy)]
+enum Kind {
+    History,
+    Cut,
+    Damaged,
+    NumberTooLarge,
+    CodeOutOfRange,
+    AnyHeader,
+    AnyBytes,
+    SmallBytes,
+    DeskWrittenOut,
+    ShorthandAtFirst,
+    OtherFirstNumbers,
+}
+
+/// The kinds of sheets, and how many of 32 are of each.
+const KINDS: [(Kind, usize); 8] = [
+    (Kind::History, 15),
+    (Kind::Cut, 4),
+    (Kind::Damaged, 5),
+    (Kind::NumberTooLarge, 2),
+    (Kind::CodeOutOfRange, 2),
+    (Kind::AnyHeader, 2),
+    (Kind::AnyBytes, 1),
+    (Kind::SmallBytes, 1),
+];
+
+/// How many sheets there are beside these 32 in edition 2.
+const KINDS_OF_EDITION_2: [(Kind, usize); 3] =
+    [(Kind::DeskWrittenOut, 3), (Kind::ShorthandAtFirst, 3), (Kind::OtherFirstNumbers, 2)];
+
 /// The sheet of this number under this seed, for a program that reads this format.
 pub fn sheet(format: Format, seed: u64, number: u64) -> Vec<u8> {
     let rng = &mut Rng::of_case(seed, number);
-    let kinds = if format.has_shorthand() { 40 } else { 32 };
-    let kind = rng.below(kinds);
-    match kind {
-        30 => (0..rng.below(40)).map(|_| rng.word() as u8).collect(),
-        31 => (0..rng.below(60)).map(|_| rng.below(8) as u8).collect(),
-        _ => {
+    match any_kind(rng, format) {
+        Kind::AnyBytes => (0..rng.below(40)).map(|_| rng.word() as u8).collect(),
+        Kind::SmallBytes => (0..rng.below(60)).map(|_| rng.below(8) as u8).collect(),
+        kind => {
             let numbers = any_numbers(rng, format, kind);
             let sheet = encoded(rng, format, &numbers);
             match kind {
-                15..=18 => cut(rng, sheet),
-                19..=23 => damage(rng, sheet),
+                Kind::Cut => cut(rng, sheet),
+                Kind::Damaged => damage(rng, sheet),
                 _ => sheet,
             }
         }
     }
 }
 
-fn any_numbers(rng: &mut Rng, format: Format, kind: usize) -> Numbers {
+fn any_kind(rng: &mut Rng, format: Format) -> Kind {
+    let more = if format.has_shorthand() { &KINDS_OF_EDITION_2[..] } else { &[] };
+    let kinds: Vec<Kind> =
+        KINDS.iter().chain(more).flat_map(|&(kind, share)| vec![kind; share]).collect();
+    rng.pick(&kinds)
+}
+
+/// The numbers of a sheet, with what its kind has in place of a history.
+fn any_numbers(rng: &mut Rng, format: Format, kind: Kind) -> Numbers {
     let numbers = match kind {
-        24 | 25 => with_a_number_too_large(rng),
-        26 | 27 => with_a_code_out_of_range(rng),
-        28 | 29 => any_header(rng),
+        Kind::NumberTooLarge => with_a_number_too_large(rng),
+        Kind::CodeOutOfRange => with_a_code_out_of_range(rng),
+        Kind::AnyHeader => any_header(rng),
         _ => history(rng),
     };
     let numbers = in_format(numbers, format);
     match kind {
-        32..=34 => with_a_desk_written_out(rng, numbers),
-        35..=37 => with_shorthand_at_first(numbers),
-        38 | 39 => with_other_first_numbers(rng, numbers),
+        Kind::DeskWrittenOut => with_a_desk_written_out(rng, numbers),
+        Kind::ShorthandAtFirst => with_shorthand_at_first(numbers),
+        Kind::OtherFirstNumbers => with_other_first_numbers(rng, numbers),
         _ => numbers,
     }
 }
