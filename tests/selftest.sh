@@ -311,12 +311,12 @@ how() {
     sed -n -e 's/^FAILED: /broken: /p' -e 's/^.*ERROR: AddressSanitizer: \([^ ]*\).*/\1/p' "$work/out" | head -n 1
 }
 
-# caught_by NAME HARNESS: within two minutes, from no inputs, and again on the input that it saved
+# caught_by NAME HARNESS: within five minutes, from no inputs, and again on the input that it saved
 caught_by() {
     rm -rf "$work/found"
     mkdir -p "$work/found"
     begun=$(date +%s)
-    if "$2" -seed=1 -max_total_time=120 -max_len=4096 -timeout=20 \
+    if "$2" -seed=1 -max_total_time=300 -max_len=4096 -timeout=20 \
         -artifact_prefix="$work/found/" >"$work/out" 2>&1; then fail "$1: not caught"; fi
     took=$(($(date +%s) - begun))
     input=$(find "$work/found" -type f | head -n 1)
