@@ -1,38 +1,37 @@
 #!/bin/sh
-# Tests tools/sheet from the command line, with valid and invalid input:
+# Tests tools/sheet from the command line, with valid and invalid input, and the worked examples of docs/SHEETS.md:
 #
-#     tests/tool.sh DAY_SHEET SHORTEN_SHEET
+#     tests/tool.sh PROGRAMS
 #
-# Both programs are needed: DAY_SHEET runs a day sheet, and SHORTEN_SHEET writes an old one in shortest form.
+# PROGRAMS is a folder with the programs day_sheet, shorten_sheet, day_sheet_2, to_edition_2 and to_edition_1.
 set -eu
 
 usage() {
     echo "tool: $1"
-    echo "usage: $0 DAY_SHEET SHORTEN_SHEET"
+    echo "usage: $0 PROGRAMS"
     exit 2
 }
 
-# program_at FILE: prints its absolute path.
-program_at() {
-    echo "$(cd "$(dirname "$1")" && pwd)/$(basename "$1")"
-}
-
-[ $# -eq 2 ] || usage "two programs are needed"
-for file; do
-    [ -f "$file" ] && [ -x "$file" ] || usage "$file is not a program"
+[ $# -eq 1 ] || usage "one folder is needed"
+for name in day_sheet shorten_sheet day_sheet_2 to_edition_2 to_edition_1; do
+    [ -f "$1/$name" ] && [ -x "$1/$name" ] || usage "$1/$name is not a program"
 done
-program=$(program_at "$1")
-shorten=$(program_at "$2")
+programs=$(cd "$1" && pwd)
 root=$(cd "$(dirname "$0")/.." && pwd)
 work=$(mktemp -d)
 trap 'rm -rf "$work"' EXIT
 cd "$work"
 checks=0
 
+# A copy of the tool, which finds the programs in target/bin. The commands of docs/SHEETS.md run as they are shown there.
+mkdir tools target
+cp -R "$root/tools/sheet" "$root/tools/day_sheet_tool" tools
+ln -s "$programs" target/bin
+
 # -S: no installed packages; finding them takes longer than the tool.
 python=$(python3 -c 'import sys; print(sys.executable)')
 sheet() {
-    "$python" -S "$root/tools/sheet" "$@"
+    "$python" -S tools/sheet "$@"
 }
 
 fail() {
@@ -84,7 +83,7 @@ bad_sheet() {
 ends() {
     printf "$3" >bad.sheet
     printf '%s\n' "$1" " $2" >expected
-    sheet explain bad.sheet --program "$program" | tail -n 3 | head -n 2 | tr -s ' ' >out
+    sheet explain bad.sheet | tail -n 3 | head -n 2 | tr -s ' ' >out
     same "explain: not '$1'" expected out
 }
 
@@ -109,7 +108,7 @@ printf '\001\001\001\003\001\001\254\002\001\001\001\001\003\001\001\007\004\001
 "$root/tools/sheet" encode d.txt >d.sheet
 same "encode: case D" d.bytes d.sheet
 cat >d.offsets <<'END'
-hall 1 1 1     # header, byte 0
+hall 1 1 1     # header, byte 0, edition 1
 swap 1 1 300   # record 1, byte 3
 take 1 1 1     # record 2, byte 8
 swap 1 1 7     # record 3, byte 12
@@ -136,9 +135,11 @@ cat >d.meaning <<'END'
 8 4 13 0    desk 1 retires: refused, the desk owes no session
 end 7 1 1   7 steps accepted, 1 refused by the board, 1 session handed back
 END
-sheet explain d.sheet --program "$program" >d.explained
+sheet explain d.sheet >d.explained
 same "explain: case D" d.meaning d.explained
-"$program" <d.sheet >d.lines
+sheet explain d.sheet --program "$programs/day_sheet" >d.explained
+same "explain: case D by a program" d.meaning d.explained
+target/bin/day_sheet <d.sheet >d.lines
 sheet explain d.sheet --lines d.lines >d.explained
 same "explain: case D by its lines" d.meaning d.explained
 
@@ -157,7 +158,7 @@ collect 1
 END
 sheet encode twice.txt >twice.sheet
 echo "9 5 0 5     desk 1 collects: one retirement of 5 is handed back; it is still on desk 1's list and must stay open" >twice.meaning
-sheet explain twice.sheet --program "$program" | sed -n 's/ *$//; /^9 /p' >twice.explained
+sheet explain twice.sheet | sed -n 's/ *$//; /^9 /p' >twice.explained
 same "explain: a session that must stay open" twice.meaning twice.explained
 
 # Repeats: a swap to what is already at the position changes nothing, and nothing is owed for it.
@@ -187,9 +188,9 @@ cat >repeats.meaning <<'END'
 end 7 2 1   7 steps accepted, 2 refused by the board, 1 session handed back
 END
 sheet encode repeats.txt >repeats.sheet
-sheet explain repeats.sheet --program "$program" >repeats.explained
+sheet explain repeats.sheet >repeats.explained
 same "explain: repeats" repeats.meaning repeats.explained
-sheet picture repeats.sheet repeats.svg --program "$program"
+sheet picture repeats.sheet repeats.svg
 [ "$(grep -c '>no change<' repeats.svg)" -eq 3 ] || fail "the picture of repeats does not show three"
 [ "$(grep -c '>owes<' repeats.svg)" -eq 2 ] && [ "$(grep -c 'stroke-dasharray="2 2"' repeats.svg)" -eq 1 ] ||
     fail "the picture of repeats does not show that only one swap owes"
@@ -205,7 +206,7 @@ same "encode: a loose text" loose.bytes loose.sheet
 # 'decode' gives the offset of each record, also after numbers of several bytes, and writes the part that could be read.
 printf '\001\001\001\003\001\001\254\002\004\377\377\003\005\200' >wide.sheet
 cat >wide.offsets <<'END'
-hall 1 1 1     # header, byte 0
+hall 1 1 1     # header, byte 0, edition 1
 swap 1 1 300   # record 1, byte 3
 retire 65535   # record 2, byte 8
 END
@@ -226,9 +227,9 @@ sheet encode short.txt >short.sheet
 printf '\001\001\001\003\000\001\177\003\001\200\001\377\177\003\001\200\200\001\377\377\003\003\001\001\000' >expected
 same "encode: in shortest form" expected short.sheet
 printf '0 0 0 0\n1 3 6 0\n2 3 8 0\n3 3 8 0\n4 3 0 0\nend 1 3 0\n' >expected
-"$program" <short.sheet >out
+target/bin/day_sheet <short.sheet >out
 same "the program reads what 'encode' writes" expected out
-"$shorten" <short.sheet >out
+target/bin/shorten_sheet <short.sheet >out
 same "shorten_sheet leaves what 'encode' writes" short.sheet out
 
 # The examples, encoded and decoded, and their pictures, compared with the gallery.
@@ -238,7 +239,7 @@ for text in "$root"/examples/*.txt; do
     sheet decode "$name.sheet" >"$name.txt"
     sheet encode "$name.txt" >"$name.again"
     same "$name: encode, decode, encode" "$name.sheet" "$name.again"
-    sheet picture "$name.sheet" "$name.svg" --program "$program"
+    sheet picture "$name.sheet" "$name.svg"
     same "$name: docs/gallery is not up to date ('make gallery')" "$root/docs/gallery/$name.svg" "$name.svg"
 done
 
@@ -246,7 +247,7 @@ done
 printf '\002\001\001' >nothing.sheet
 printf '\002\001\001\005\001\001\002' >cut.sheet
 for name in d nothing cut; do
-    sheet picture "$name.sheet" "$name.svg" --program "$program"
+    sheet picture "$name.sheet" "$name.svg"
     "$python" -c 'import sys, xml.dom.minidom as dom; dom.parse(sys.argv[1])' "$name.svg" || fail "$name.svg: not XML"
     passed
 done
@@ -331,7 +332,7 @@ cat >full.meaning <<'END'
                    from byte 65528: 01 05 01 05 01 05 01 05 [end]   offset 65536 (0x10000)
 end 32766 0 0      32,766 steps accepted, 0 refused by the board, 0 sessions handed back
 END
-sheet explain full.sheet --program "$program" | tail -n 3 >full.explained
+sheet explain full.sheet | tail -n 3 >full.explained
 same "explain: offset 65,536" full.meaning full.explained
 # An opening that is refused, or a sheet that is too long, has no such row.
 printf '\021\001\001\005' >closed.sheet
@@ -339,13 +340,13 @@ cat >expected <<'END'
 0 0 1 0     a hall of 17 desks, 1 screen per desk, 1 position: refused, a hall has 1 to 16 desks; nothing more is read
 end 0 0 0   0 steps accepted, 0 refused by the board, 0 sessions handed back
 END
-sheet explain closed.sheet --program "$program" >out
+sheet explain closed.sheet >out
 same "explain: 1" expected out
 cat >expected <<'END'
 0 0 18 0    the reading ends before the header: a sheet has at most 65,536 bytes (reply number 18)
 end 0 0 0   0 steps accepted, 0 refused by the board, 0 sessions handed back
 END
-sheet explain long.sheet --program "$program" >out
+sheet explain long.sheet >out
 same "explain: 18" expected out
 
 # found OPTION NUMBER SHEET: 'find' prints the lines of standard input.
@@ -438,15 +439,15 @@ decoded() {
 }
 cut_off="with a valid hall, the reading ends at byte 4: the desk of record 1 (collect) is cut off after 1 byte (reply number 15)"
 decoded "$bad_desks; $cut_off" desks.sheet <<'END'
-hall 17 1 1   # header, byte 0
+hall 17 1 1   # header, byte 0, edition 1
 END
 bad_code="with a valid hall, the reading ends at byte 5: the code of record 2 is 9, but the codes are 1 to 5 (reply number 17)"
 decoded "$bad_screens; $bad_code" screens.sheet <<'END'
-hall 1 5 1   # header, byte 0
+hall 1 5 1   # header, byte 0, edition 1
 collect 1    # record 1, byte 3
 END
 decoded "$bad_positions" positions.sheet <<'END'
-hall 1 1 128   # header, byte 0
+hall 1 1 128   # header, byte 0, edition 1
 collect 1      # record 1, byte 4
 END
 found --byte 4 desks.sheet <<END
@@ -488,7 +489,7 @@ refused 2 "positions.sheet: no record 2; the sheet has 1 record, and the header 
 # shortened LINE SHEET: shorten_sheet refuses this sheet, and its whole output is this line.
 shortened() {
     echo "$1" >expected
-    "$shorten" <"$2" >out
+    target/bin/shorten_sheet <"$2" >out
     same "shorten_sheet <$2" expected out
 }
 rewritten="'shorten_sheet' rewrites the sheet in shortest form"
@@ -496,11 +497,11 @@ refused_too="'shorten_sheet' refuses the sheet too"
 ends_at="the reading ends at byte 8: the code of record 2 is 5, padded: 85 00 instead of 05 (reply number 19)"
 printf '\001\001\001\003\001\001\254\002\205\000\201\200\000' >padded.sheet
 decoded "$ends_at; $rewritten" padded.sheet <<'END'
-hall 1 1 1     # header, byte 0
+hall 1 1 1     # header, byte 0, edition 1
 swap 1 1 300   # record 1, byte 3
 END
 printf '\001\001\001\003\001\001\254\002\005\001' >expected
-"$shorten" <padded.sheet >shortest.sheet
+target/bin/shorten_sheet <padded.sheet >shortest.sheet
 same "shorten_sheet <padded.sheet" expected shortest.sheet
 found --byte 9 padded.sheet <<'END'
 byte 9: the second of the 2 bytes of the code of record 2
@@ -510,13 +511,13 @@ byte 8: 85 00   code: 5, padded: 85 00 instead of 05 (reply number 19)
 END
 refused 2 "padded.sheet: byte 10 is not read; $ends_at; $rewritten" find padded.sheet --byte 10
 refused 2 "padded.sheet: record 3 is not read; $ends_at; $rewritten" find padded.sheet --record 3
-sheet picture padded.sheet padded.svg --program "$program"
+sheet picture padded.sheet padded.svg
 grep -q ">number 19<" padded.svg && grep -q ">byte 8<" padded.svg || fail "the picture of a padded sheet does not show its end"
 passed
 # Lines from the time when padded numbers were read are those of the rewritten sheet.
 printf '0 0 0 0\n1 3 0 0\n2 5 0 0\nend 2 0 0\n' >padded.lines
 sheet explain shortest.sheet --lines padded.lines >out
-sheet explain shortest.sheet --program "$program" >expected
+sheet explain shortest.sheet >expected
 same "explain: the lines of a sheet before it was rewritten" expected out
 
 # Sheets that shorten_sheet refuses too: with 15, 16, 17, and 1.
@@ -529,7 +530,7 @@ padded_desk="the reading ends at byte 4: the desk of record 1 (collect) is 1, pa
 ends_at="the reading ends at byte 7: the desk of record 2 (collect) is 65,536, over 65,535 (reply number 16)"
 printf '\001\001\001\005\201\000\005\200\200\004' >padded.sheet
 decoded "$padded_desk; $refused_too: $ends_at" padded.sheet <<'END'
-hall 1 1 1   # header, byte 0
+hall 1 1 1   # header, byte 0, edition 1
 END
 refused 2 "padded.sheet: byte 7 is not read; $padded_desk; $refused_too: $ends_at" find padded.sheet --byte 7
 shortened "16 7" padded.sheet
@@ -537,7 +538,7 @@ padded_code="the reading ends at byte 3: the code of record 1 is 6, padded: 86 0
 ends_at="the reading ends at byte 3: the code of record 1 is 6, but the codes are 1 to 5 (reply number 17)"
 printf '\001\001\001\206\000\001' >padded.sheet
 decoded "$padded_code; $refused_too: $ends_at" padded.sheet <<'END'
-hall 1 1 1   # header, byte 0
+hall 1 1 1   # header, byte 0, edition 1
 END
 shortened "17 0" padded.sheet
 padded_screens="the reading ends at byte 1: number c of the header (screens per desk) is 1, padded: 81 00 instead of 01 (reply number 19)"
@@ -547,26 +548,26 @@ shortened "1 0" padded.sheet
 # The hall is refused: neither program reads the padded number after it.
 printf '\021\001\001\005\201\000' >padded.sheet
 decoded "$bad_desks; with a valid hall, $padded_desk" padded.sheet <<'END'
-hall 17 1 1   # header, byte 0
+hall 17 1 1   # header, byte 0, edition 1
 END
 shortened "1 0" padded.sheet
 
 # The line of a refused sheet, where the rewritten one was expected.
-printf '\001\001\001\005\200\200\004' | "$shorten" >line.sheet
-no_sheet="line.sheet: this is not a sheet; 'shorten_sheet' refused one and wrote the line"
-too_large="16 at byte 4 of the old sheet: a number must end within three bytes and be at most 65,535"
-refused 2 "$no_sheet '16 4' instead ($too_large)" decode line.sheet
-refused 2 "$no_sheet '16 4' instead ($too_large)" explain line.sheet --program "$program"
-head -c 10 d.sheet | "$shorten" >line.sheet
-refused 2 "$no_sheet '15 10' instead (15 at byte 10 of the old sheet: the sheet ends before this number is complete)" decode line.sheet
-"$shorten" <desks.sheet >line.sheet
-refused 2 "$no_sheet '1 0' instead (1: a hall has 1 to 16 desks)" decode line.sheet
-"$shorten" <unknown.sheet >line.sheet
-refused 2 "$no_sheet '17 0' instead (17: no step has this code; the codes are 1 to 5)" find line.sheet --byte 0
-"$shorten" <long.sheet >line.sheet
-refused 2 "$no_sheet '18 0' instead (18: a sheet has at most 65,536 bytes)" find line.sheet --record 0
+printf '\001\001\001\005\200\200\004' | target/bin/shorten_sheet >line.sheet
+no_sheet="line.sheet: this is not a sheet but the line of a refused one"
+too_large="at its byte 4: a number must end within three bytes and be at most 65,535"
+refused 2 "$no_sheet: 16 4 ($too_large)" decode line.sheet
+refused 2 "$no_sheet: 16 4 ($too_large)" explain line.sheet
+head -c 10 d.sheet | target/bin/shorten_sheet >line.sheet
+refused 2 "$no_sheet: 15 10 (at its byte 10: the sheet ends before this number is complete)" decode line.sheet
+target/bin/shorten_sheet <desks.sheet >line.sheet
+refused 2 "$no_sheet: 1 0 (a hall has 1 to 16 desks)" decode line.sheet
+target/bin/shorten_sheet <unknown.sheet >line.sheet
+refused 2 "$no_sheet: 17 0 (no step has this code)" find line.sheet --byte 0
+target/bin/shorten_sheet <long.sheet >line.sheet
+refused 2 "$no_sheet: 18 0 (a sheet has at most 65,536 bytes)" find line.sheet --record 0
 # Lines that it does not write are bytes like others.
-for line in "0 0" "17 3" "19 4" "99 0"; do
+for line in "0 0" "17 3" "20 4" "99 0"; do
     echo "$line" >line.sheet
     status=0
     sheet decode line.sheet >out 2>err || status=$?
@@ -599,24 +600,24 @@ for command in encode decode explain find picture; do
     sheet --help | grep -q "^ *$command  " || fail "--help does not name $command"
     passed
 done
-sheet find --help | grep -qx 'usage: sheet find \[-h\] SHEET (--record N | --byte N)' || fail "find --help: not its usage"
+sheet find --help | grep -qx 'usage: sheet find \[-h\] SHEET (--record N | --byte N) \[--edition N\]' || fail "find --help: not its usage"
 passed
 
 # Files and programs that do not exist, or are of the wrong kind.
 refused 2 "none.txt: no such file or directory" encode none.txt
-refused 2 "none.sheet: no such file or directory" explain none.sheet --program "$program"
+refused 2 "none.sheet: no such file or directory" explain none.sheet
 refused 2 ".: is a directory" decode .
-refused 2 "d.txt: this is the text of a sheet; 'encode' makes the sheet" explain d.txt --program "$program"
+refused 2 "d.txt: this is the text of a sheet; 'encode' makes the sheet" explain d.txt
 refused 2 "./none: no such file or directory" explain d.sheet --program none
 refused 2 "/bin/false: ended with status 1" explain d.sheet --program /bin/false
 refused 2 "/bin/true: the last line is incomplete; are these the lines of a sheet?" explain d.sheet --program /bin/true
 printf '#!/bin/sh\necho "day_sheet: cannot read standard input: Is a directory" >&2\n' >failing
 chmod +x failing
 refused 2 "./failing: day_sheet: cannot read standard input: Is a directory" explain d.sheet --program failing
-refused 2 "none/d.svg: no such file or directory" picture d.sheet none/d.svg --program "$program"
+refused 2 "none/d.svg: no such file or directory" picture d.sheet none/d.svg
 printf '\021\001\001' >refused.sheet
 refused 2 "the opening is refused with 1, so there is no hall to draw ('explain' says why)" \
-    picture refused.sheet refused.svg --program "$program"
+    picture refused.sheet refused.svg
 
 # Lines of another sheet, and lines that the board would not print.
 refused 2 "d.lines:2: not a line of this sheet: it says record 1, code 3; the sheet has record 1, code 1" \
@@ -655,9 +656,7 @@ worked() {
     [ "$(wc -l <worked.commands)" -ge "$2" ] || fail "docs/SHEETS.md: too few commands in '$1'"
     while IFS= read -r command; do
         printf '$ %s\n' "$command"
-        here=$(printf '%s\n' "$command" | sed 's|target/bin/day_sheet|"$program"|; s|target/bin/shorten_sheet|"$shorten"|
-            s|tools/sheet|sheet|; s|sheet explain|& --program "$program"|')
-        eval "$here" 2>&1 || true # 'decode' of a broken sheet ends with status 2
+        eval "$command" 2>&1 || true # 'decode' of a broken sheet ends with status 2
     done <worked.commands >worked.printed
     same "docs/SHEETS.md: '$1'" worked.shown worked.printed
 }
@@ -677,26 +676,26 @@ scripted() {
     same "the lines for scripts: '$1'" expected out
 }
 cp d.sheet OLD.sheet
-scripted '' "$shorten"
+scripted '' target/bin/shorten_sheet
 printf '\012\001\001' >OLD.sheet # the number of desks is a newline
-scripted '' "$shorten"
+scripted '' target/bin/shorten_sheet
 printf '\061\001\001' >OLD.sheet # it is a digit: no hall has so many
-scripted 'NEW.sheet is not a sheet\n' "$shorten"
+scripted 'NEW.sheet is not a sheet\n' target/bin/shorten_sheet
 cp d.sheet OLD.sheet
 printf '#!/bin/sh\nhead -c 10\nkill -PIPE $$\nexit 1\n' >killed # within the sheet, by a signal of which shells print nothing
 chmod +x killed
 scripted 'NEW.sheet is not a sheet\n' ./killed
-scripted '' "$shorten"
+scripted '' target/bin/shorten_sheet
 rm OLD.sheet # NEW.sheet is the one before
-scripted 'NEW.sheet is not a sheet\n' "$shorten"
+scripted 'NEW.sheet is not a sheet\n' target/bin/shorten_sheet
 mkdir OLD.sheet
-scripted 'NEW.sheet is not a sheet\n' "$shorten"
+scripted 'NEW.sheet is not a sheet\n' target/bin/shorten_sheet
 
 # Random bytes: a message, never a Python traceback.
 for at in 1 2 3; do
-    head -c "$((at * 700))" "$program" | tail -c 300 >junk
-    for command in "encode junk" "decode junk" "explain junk --program $program" "explain d.sheet --lines junk" \
-        "find junk --record $at" "find junk --byte $at" "picture junk junk.svg --program $program"; do
+    head -c "$((at * 700))" target/bin/day_sheet | tail -c 300 >junk
+    for command in "encode junk" "decode junk" "explain junk" "explain d.sheet --lines junk" \
+        "find junk --record $at" "find junk --byte $at" "picture junk junk.svg"; do
         sheet $command >out 2>err || true
         if grep -q Traceback err; then cat err; fail "$command: a traceback"; fi
     done

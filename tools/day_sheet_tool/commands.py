@@ -5,6 +5,7 @@ import os
 import re
 import sys
 
+from .editions import EDITIONS
 from .errors import UserError, plural
 from .explain import explained
 from .faults import ending
@@ -12,19 +13,20 @@ from .files import read_sheet, read_text, reason, write_text
 from .find import find_byte, find_record
 from .lines import lines_of
 from .picture import MAX_RECORDS, picture
-from .reading import read
+from .reading import edition_of, read
 from .replay import replay
 from .steps import MAX_BYTES
 from .text import decode, encode, shown
 
 EPILOG = "docs/SHEETS.md has examples. A file named '-' is standard input."
 WHOLE = "Converts, explains, searches and draws day sheets."
-DECODE = "Writes a sheet as text. The comment of each line gives the offset of the record's first byte."
+ENCODE = "Writes the bytes of a text. In edition 2 it leaves out each desk that is the desk of the record before."
+DECODE = "Writes a sheet as text. Comments give the edition, and the offset of each record's first byte."
 EXPLAIN = """Writes each line of the sheet program with its meaning. Where a number ends the reading, it says
 which number this is, gives the offset of its first byte, and shows the bytes around it in hex."""
 FIND = """Finds the bytes of a record, or what a byte belongs to, up to the number that ends the reading.
 Bytes are counted from 0. N is decimal, or hex with 0x."""
-FIND_USAGE = "sheet find [-h] SHEET (--record N | --byte N)"
+FIND_USAGE = "sheet find [-h] SHEET (--record N | --byte N) [--edition N]"
 
 
 def main(arguments):
@@ -61,33 +63,34 @@ def parser():
     whole = argparse.ArgumentParser(prog="sheet", description=WHOLE, epilog=EPILOG)
     commands = whole.add_subparsers(metavar="COMMAND", required=True)
 
-    one = commands.add_parser("encode", help="text to bytes, to standard output", epilog=EPILOG)
+    one = commands.add_parser("encode", help="text to bytes, to standard output", description=ENCODE, epilog=EPILOG)
     one.add_argument("text", metavar="FILE.txt")
+    one.add_argument("--edition", metavar="N", default="1", help="the edition of the sheet, 1 or 2 (usually 1)")
     one.set_defaults(command=to_bytes)
 
     one = commands.add_parser(
         "decode", help="bytes to text, with the offset of each record", description=DECODE, epilog=EPILOG
     )
-    one.add_argument("sheet", metavar="SHEET")
+    add_sheet(one)
     one.set_defaults(command=to_text)
 
     one = commands.add_parser(
         "explain", help="each printed line with its meaning", description=EXPLAIN, epilog=EPILOG
     )
-    one.add_argument("sheet", metavar="SHEET")
+    add_sheet(one)
     add_lines(one)
     one.set_defaults(command=explain)
 
     one = commands.add_parser(
         "find", help="the bytes of a record, or the record of a byte", usage=FIND_USAGE, description=FIND, epilog=EPILOG
     )
-    one.add_argument("sheet", metavar="SHEET")
+    add_sheet(one)
     one.add_argument("--record", metavar="N", help="the bytes and the numbers of record N; 0 is the header")
     one.add_argument("--byte", metavar="N", help="the record and the number that byte N belongs to")
     one.set_defaults(command=find)
 
     one = commands.add_parser("picture", help="a replay as SVG", epilog=EPILOG)
-    one.add_argument("sheet", metavar="SHEET")
+    add_sheet(one)
     one.add_argument("svg", metavar="OUT.svg")
     one.add_argument("--from", dest="first", metavar="N", type=int, default=1, help="the first record drawn")
     add_lines(one)
@@ -95,22 +98,40 @@ def parser():
     return whole
 
 
+def add_sheet(command):
+    command.add_argument("sheet", metavar="SHEET")
+    command.add_argument("--edition", metavar="N", help="read it as edition 1 or 2 (usually 2 if the first number is 0)")
+
+
 def add_lines(command):
     source = command.add_mutually_exclusive_group()
-    source.add_argument("--program", metavar="PROG", help="the sheet program (usually target/bin/day_sheet)")
+    source.add_argument("--program", metavar="PROG", help="the sheet program (usually that of the edition, in target/bin)")
     source.add_argument("--lines", metavar="FILE", help="lines that it printed before")
 
 
 def to_bytes(options):
-    data = encode(read_text(options.text), options.text)
+    edition = edition_named(options.edition)
+    data = encode(read_text(options.text), options.text, edition)
     if sys.stdout.isatty():
         raise UserError("a sheet is binary: redirect the output to a file with > FILE.sheet")
     sys.stdout.buffer.write(data)
 
 
-def to_text(options):
+def edition_named(word):
+    if word.isascii() and word.isdigit() and int(word) in EDITIONS:
+        return EDITIONS[int(word)]
+    raise UserError(f"--edition '{shown(word)}': the editions are 1 and 2")
+
+
+def data_and_sheet(options):
+    """The bytes of the sheet, and the sheet: of the edition that is asked for, or else of the one that it shows."""
+    edition = edition_named(options.edition) if options.edition is not None else None
     data = read_sheet(options.sheet)
-    sheet = read(data)
+    return data, read(data, edition or edition_of(data))
+
+
+def to_text(options):
+    data, sheet = data_and_sheet(options)
     sys.stdout.write(decode(sheet))
     sys.stdout.flush()
     if sheet.end:
@@ -118,8 +139,7 @@ def to_text(options):
 
 
 def explain(options):
-    data = read_sheet(options.sheet)
-    sheet = read(data)
+    data, sheet = data_and_sheet(options)
     lines, end = lines_of(data, sheet, options.program, options.lines)
     sys.stdout.write(explained(data, sheet, lines, end))
 
@@ -131,9 +151,9 @@ def find(options):
         found, number = find_record, place("--record", options.record)
     else:
         found, number = find_byte, place("--byte", options.byte)
-    data = read_sheet(options.sheet)
+    data, sheet = data_and_sheet(options)
     try:
-        sys.stdout.write(found(data, read(data), number))
+        sys.stdout.write(found(data, sheet, number))
     except UserError as error:
         raise UserError(f"{options.sheet}: {error}") from None
 
@@ -148,8 +168,7 @@ def place(option, word):
 
 
 def draw(options):
-    data = read_sheet(options.sheet)
-    sheet = read(data)
+    data, sheet = data_and_sheet(options)
     lines, end = lines_of(data, sheet, options.program, options.lines)
     last = len(sheet.records)
     if not 1 <= options.first <= max(last, 1):

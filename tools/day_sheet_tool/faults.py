@@ -1,24 +1,26 @@
 """Where and why a reading ends, in words."""
 
 from .dump import in_hex
+from .editions import EDITIONS, LEFT_OUT
 from .errors import plural
-from .reading import number_bytes, read
+from .reading import read
 from .steps import HALL_FIELDS, MAX_NUMBER, REASONS, STEPS
+from .writing import number_bytes
 
 HALL_LETTERS = dict(zip(HALL_FIELDS, "PcL"))
 OPENING = (1, 2, 3)  # the reply numbers of a hall that is refused
 
 
 def ending(data, sheet):
-    """Where and why the reading of a sheet ends; after a padded number also what shorten_sheet does."""
+    """Where and why the reading of a sheet ends; after a padded number of edition 1 also what shorten_sheet does."""
     faults = filter(None, (sheet.refusal, sheet.fault))
     words = "; with a valid hall, ".join(map(where_and_why, faults))
-    return f"{words}; {shortened(data)}" if sheet.end.reply == 19 else words
+    return f"{words}; {shortened(data)}" if sheet.end.reply == 19 and sheet.edition == EDITIONS[1] else words
 
 
 def shortened(data):
-    """What shorten_sheet does with a sheet that has a padded number."""
-    end = read(data, archived=True).end
+    """What shorten_sheet does with a sheet of edition 1 that has a padded number."""
+    end = read(data, EDITIONS[1], archived=True).end
     if end:
         return f"'shorten_sheet' refuses the sheet too: {where_and_why(end)}"
     return "'shorten_sheet' rewrites the sheet in shortest form"
@@ -36,8 +38,10 @@ def where_and_why(fault):
 
 def number_in_words(record, code, field):
     """'number c of the header (screens per desk)', 'the screen of record 3 (take)', 'the code of record 4'"""
-    if record == 0:
+    if field in HALL_LETTERS:
         return f"number {HALL_LETTERS[field]} of the header ({field})"
+    if record == 0:
+        return f"the {field} of the header"
     step = f" ({STEPS[code].name})" if code in STEPS else ""
     return f"the {field} of record {record}{step}"
 
@@ -56,9 +60,22 @@ def reason(fault):
     if fault.reply == 15:
         return f"cut off after {plural(length, 'byte')}" if length else "missing"
     if fault.reply == 17:
-        return f"{fault.code}, but the codes are 1 to 5"
+        return f"{fault.code}, but the codes are {fault.edition.codes}"
     if fault.reply == 19:
         return f"{number.value:,}, padded: {in_hex(number.data)} instead of {in_hex(number_bytes(number.value))}"
+    if fault.reply == 20:
+        return wrong_desk(fault)
+    if fault.reply == 21:
+        return f"{number.value:,}, but it must be {fault.edition.lead[number.field]}"
     if number.value is None:
         return "longer than three bytes"
     return f"{number.value:,}, over {MAX_NUMBER:,}"
+
+
+def wrong_desk(fault):
+    """A desk that is left out though no record is before it, or written out though the record before has the same."""
+    written, left_out = number_bytes(fault.code), number_bytes(fault.code + LEFT_OUT)
+    number = fault.number
+    if number.field == "code":
+        return f"{number.value}, with no desk before it: {in_hex(written)} and the desk instead of {in_hex(left_out)}"
+    return f"{number.value:,} again: {in_hex(left_out)} instead of {in_hex(written + number.data)}"

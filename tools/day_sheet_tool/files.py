@@ -8,7 +8,8 @@ from .reading import WITH_OFFSET
 from .steps import MAX_BYTES, REASONS
 
 MAX_TEXT = 16 * 1024 * 1024
-REFUSAL = re.compile(rb"(15|16) [0-9]{1,5}\n|([123]|17|18) 0\n")  # all that 'shorten_sheet' writes for a refused sheet
+# All that shorten_sheet or a converter writes for a refused sheet.
+REFUSAL = re.compile(rb"(15|16|19) [0-9]{1,5}\n|([123]|17|18|20|21) 0\n")
 A_SHEET = "is it a sheet already? then 'decode' reads it"
 
 
@@ -32,15 +33,15 @@ def read_sheet(name):
     if next(filter(None, words), [b""])[0] == b"hall":  # as bytes, these letters would mean 104 desks
         raise UserError(f"{name}: this is the text of a sheet; 'encode' makes the sheet")
     if REFUSAL.fullmatch(data):  # as bytes, the first digit would mean 49 desks or more
-        raise UserError(f"{name}: this is not a sheet; 'shorten_sheet' refused one and wrote {refusal(data)}")
+        raise UserError(f"{name}: this is not a sheet but the line of a refused one: {refusal(data)}")
     return data
 
 
 def refusal(line):
-    """'the line '15 10' instead (15 at byte 10 of the old sheet: the sheet ends before this number is complete)'"""
+    """'15 10 (at its byte 10: the sheet ends before this number is complete)'"""
     number, offset = map(int, line.split())
-    where = f" at byte {offset} of the old sheet" if number in WITH_OFFSET else ""
-    return f"the line '{line.decode().strip()}' instead ({number}{where}: {REASONS[number]})"
+    where = f"at its byte {offset}: " if number in WITH_OFFSET else ""
+    return f"{number} {offset} ({where}{REASONS[number]})"
 
 
 def read_text(name):

@@ -31,22 +31,32 @@ def text_line(sheet, record):
 def number_lines(sheet, record):
     """For each number of a record its offset, its bytes and its meaning."""
     rows = [
-        (f"byte {number.start}:", in_hex(number.data) or "[end]", meaning(sheet, number))
+        (f"byte {number.start}:", in_hex(number.data) or "[end]", meaning(sheet, record, number))
         for number in sheet.numbers[record]
     ]
     widths = [max(len(row[column]) for row in rows) for column in (0, 1)]
     return [f"{where:<{widths[0]}} {in_bytes:<{widths[1]}}   {words}" for where, in_bytes, words in rows]
 
 
-def meaning(sheet, number):
+def meaning(sheet, record, number):
     """'desk: 1', or what is wrong with the number."""
     letter = HALL_LETTERS.get(number.field)
     name = f"{letter} ({number.field})" if letter else number.field
     for fault in filter(None, (sheet.refusal, sheet.fault)):
         if number is fault.number:
             return f"{name}: {why(fault)}"
-    step = f" ({STEPS[number.value].name})" if number.field == "code" else ""
+    step = f" ({step_in_words(sheet, record, number.value)})" if number.field == "code" else ""
     return f"{name}: {number.value}{step}"
+
+
+def step_in_words(sheet, record, code):
+    """'collect', or 'collect, desk left out: 1 as in record 4'"""
+    step, left_out = sheet.edition.meaning(code)
+    name = STEPS[step].name
+    if not left_out:
+        return name
+    desk = f": {sheet.records[record - 2].desk} as in record {record - 1}" if record > 1 else ""
+    return f"{name}, desk left out{desk}"
 
 
 def no_record(data, sheet, record):
@@ -79,10 +89,10 @@ def byte_in_words(byte, sheet, record, number):
 
 
 def code_of(sheet, record):
-    """The code of a record; 0 if it was not read."""
+    """The code of a record's step; 0 if it was not read, and for the header."""
     if sheet.fault and record == sheet.fault.record:
         return sheet.fault.code
-    return sheet.numbers[record][0].value
+    return sheet.records[record - 1].code if record else 0
 
 
 def no_byte(data, sheet, byte):

@@ -4,8 +4,10 @@ import os
 import subprocess
 from collections import namedtuple
 
+from .editions import EDITIONS
 from .errors import UserError, plural
 from .files import read_bytes, reason
+from .reading import read
 
 # Record number, step code, reply number, session.
 Line = namedtuple("Line", "record code reply session")
@@ -14,7 +16,6 @@ Line = namedtuple("Line", "record code reply session")
 End = namedtuple("End", "accepted refused handed_back")
 
 ROOT = os.path.dirname(os.path.dirname(os.path.dirname(os.path.realpath(__file__))))
-USUAL_PROGRAM = os.path.join(ROOT, "target", "bin", "day_sheet")
 MAX_SECONDS = 30
 MAX_LINES = 4 * 1024 * 1024
 
@@ -24,17 +25,18 @@ def lines_of(data, sheet, program, file):
     if file is not None:
         name, printed = file, read_bytes(file, MAX_LINES)
     else:
-        name, printed = run(data, program)
+        name, printed = run(data, program, sheet.edition.program)
     lines, end = parse(printed, name)
+    check_edition(lines, data, sheet, name)
     check_against_sheet(lines, sheet, name)
     return lines, end
 
 
-def run(data, program):
-    """What the program prints for these bytes."""
-    path = program or USUAL_PROGRAM
+def run(data, program, usual):
+    """What the program prints for these bytes; None is the usual one."""
+    path = program or os.path.join(ROOT, "target", "bin", usual)
     if program is None and not os.path.exists(path):
-        raise UserError(f"no file {path}: 'make -C {ROOT} target/bin/day_sheet' builds it; or use --program or --lines")
+        raise UserError(f"no file {path}: 'make -C {ROOT} target/bin/{usual}' builds it; or use --program or --lines")
     if os.sep not in path:
         path = os.path.join(os.curdir, path)
     try:
@@ -72,6 +74,21 @@ def numbers_of(words, count, name, at):
     if len(words) != count or not all(word.isascii() and word.isdigit() and len(word) < 12 for word in words):
         raise UserError(f"{name}:{at}: not {plural(count, 'number')} with one space between")
     return map(int, words)
+
+
+def check_edition(lines, data, sheet, name):
+    """The header's line must not be that of the other edition's program."""
+    other = read(data, EDITIONS[3 - sheet.edition.number])
+    if lines and header_reply(sheet) != lines[0].reply == header_reply(other):
+        raise UserError(
+            f"{name}: the sheet is read as edition {sheet.edition.number}, but {lines[0].reply} is what "
+            f"{other.edition.program} replies; use --edition {other.edition.number}"
+        )
+
+
+def header_reply(sheet):
+    """The reply number of the header's line."""
+    return sheet.end.reply if sheet.end and sheet.end.record == 0 else 0
 
 
 def check_against_sheet(lines, sheet, name):

@@ -1,8 +1,9 @@
-"""Reads and writes the bytes of a sheet."""
+"""Reads the bytes of a sheet."""
 
 from collections import namedtuple
 
 from .board import opening
+from .editions import EDITIONS
 from .steps import HALL_FIELDS, MAX_BYTES, MAX_NUMBER, STEPS, Record
 
 MAX_GROUPS = 3
@@ -24,9 +25,9 @@ class Number(namedtuple("Number", "field start data value")):
         return len(self.data) > 1 and self.data[-1] == 0
 
 
-class Fault(namedtuple("Fault", "reply record code number")):
-    """Why a reading ends: the reply number, the record being read (0 is the header), its code (0 if it was not read)
-    and the number of the sheet that caused it (None for 18)."""
+class Fault(namedtuple("Fault", "edition reply record code number")):
+    """Why a reading ends: the edition that is read, the reply number, the record being read (0 is the header), its code
+    (that of its step; 0 if it was not read) and the number of the sheet that caused it (None for 18)."""
 
     @property
     def session(self):
@@ -34,17 +35,19 @@ class Fault(namedtuple("Fault", "reply record code number")):
         return self.number.start if self.reply in WITH_OFFSET else 0
 
 
-class Sheet(namedtuple("Sheet", "hall records numbers fault")):
+class Sheet(namedtuple("Sheet", "edition hall records numbers fault")):
     """The contents of a sheet, up to the number that ends its reading. The hall is None if it could not be read;
-    numbers[N] has the numbers of record N (0 is the header), also the one that ends the reading; fault is None if the
-    whole sheet could be read. The records after a hall that is refused are here too, though the program does not read
-    them."""
+    numbers[N] has the numbers of record N as they are in the sheet (0 is the header), also the one that ends the reading;
+    fault is None if the whole sheet could be read. The records after a hall that is refused are here too, though the
+    program does not read them."""
 
     @property
     def refusal(self):
         """Why the hall is refused: 1, 2 or 3 and the number of the header. None if it is not."""
         reply = opening(self.hall) if self.hall else 0
-        return Fault(reply, 0, 0, self.numbers[0][reply - 1]) if reply else None
+        if not reply:
+            return None
+        return Fault(self.edition, reply, 0, 0, self.numbers[0][len(self.edition.lead) + reply - 1])
 
     @property
     def end(self):
@@ -53,79 +56,101 @@ class Sheet(namedtuple("Sheet", "hall records numbers fault")):
 
 
 class Refused(Exception):
-    """The number just read ends the reading: 15, 16, 17 or 19."""
+    """The reply number (15, 16, 17, 19, 20 or 21) and the number of the sheet that ends the reading."""
 
 
 class Reader:
-    def __init__(self, data, archived):
+    def __init__(self, data, edition, archived):
         self.data = data
+        self.edition = edition
         self.archived = archived
         self.at = 0
         self.numbers = []
+        self.code = 0  # of the record being read
 
     def at_end(self):
         return self.at == len(self.data)
 
     def start_record(self):
         self.numbers.append([])
+        self.code = 0
 
     def number(self, field):
-        """The value of the record's next number. The number is recorded with its bytes, also if it is refused."""
-        start = self.at
-        value = self.value()
-        number = Number(field, start, self.data[start : self.at], value)
+        """The record's next number. It is recorded with its bytes, also if it is refused."""
+        value, end = number_at(self.data, self.at)
+        number = Number(field, self.at, self.data[self.at : end], value)
+        self.at = end
         self.numbers[-1].append(number)
         if value is None and len(number.data) < MAX_GROUPS:
-            raise Refused(15)
+            raise Refused(15, number)
         if value is None or value > MAX_NUMBER:
-            raise Refused(16)
+            raise Refused(16, number)
         if number.padded and not self.archived:
-            raise Refused(19)
-        return value
+            raise Refused(19, number)
+        return number
 
-    def value(self):
-        """Groups of seven bits, lowest first; the top bit says that another follows. None if it does not end."""
-        value = 0
-        for group in range(MAX_GROUPS):
-            if self.at_end():
-                return None
-            byte = self.data[self.at]
-            self.at += 1
-            value |= (byte & 0x7F) << (7 * group)
-            if byte < 0x80:
-                return value
-        return None
+    def header(self):
+        """The hall, after the numbers with which this edition starts."""
+        self.start_record()
+        for field, value in self.edition.lead.items():
+            number = self.number(field)
+            if number.value != value:
+                raise Refused(21, number)
+        return tuple(self.number(field).value for field in HALL_FIELDS)
+
+    def record(self, before):
+        """The next record, with its desk; 'before' is the record before it, None for the first."""
+        self.start_record()
+        step, left_out = self.step()
+        fields = STEPS[step].fields
+        values = tuple(self.number(field).value for field in (fields[1:] if left_out else fields))
+        if left_out and before is None:
+            raise Refused(20, self.numbers[-1][0])  # the code
+        record = Record(step, (before.desk, *values) if left_out else values)
+        if not left_out and self.edition.leaves_out(record, before):
+            raise Refused(20, self.numbers[-1][1])  # the desk
+        return record
+
+    def step(self):
+        """The code of the next step, and whether its desk is left out."""
+        code = self.number("code")
+        meaning = self.edition.meaning(code.value)
+        self.code = meaning.step if meaning else code.value
+        if meaning is None:
+            raise Refused(17, code)
+        return meaning
+
+    def fault(self, reply, number):
+        return Fault(self.edition, reply, len(self.numbers) - 1, self.code, number)
 
 
-def read(data, archived=False):
-    """The sheet of these bytes: as day_sheet reads it, or an archived one, as shorten_sheet reads it, with padded
-    numbers."""
+def number_at(data, start):
+    """The value of the number that starts here, None if it does not end, and the offset after its last byte. It consists of
+    groups of seven bits, lowest first; the top bit of a byte says that another follows."""
+    value = 0
+    for group, byte in enumerate(data[start : start + MAX_GROUPS]):
+        value |= (byte & 0x7F) << (7 * group)
+        if byte < 0x80:
+            return value, start + group + 1
+    return None, min(start + MAX_GROUPS, len(data))
+
+
+def edition_of(data):
+    """The edition of a sheet. Edition 2 starts with 0; edition 1 starts with the number of desks, and no hall has 0."""
+    return EDITIONS[2 if number_at(data, 0)[0] == 0 else 1]
+
+
+def read(data, edition, archived=False):
+    """The sheet of these bytes: as the edition's program reads it, or an archived one of edition 1, as shorten_sheet reads
+    it, with padded numbers."""
     if len(data) > MAX_BYTES:
-        return Sheet(None, [], [], Fault(18, 0, 0, None))
-    reader = Reader(data, archived)
-    hall, records, code = None, [], 0
+        return Sheet(edition, None, [], [], Fault(edition, 18, 0, 0, None))
+    reader = Reader(data, edition, archived)
+    hall, records, fault = None, [], None
     try:
-        reader.start_record()
-        hall = tuple(reader.number(field) for field in HALL_FIELDS)
+        hall = reader.header()
         while not reader.at_end():
-            reader.start_record()
-            code = 0
-            code = reader.number("code")
-            if code not in STEPS:
-                raise Refused(17)
-            numbers = tuple(reader.number(field) for field in STEPS[code].fields)
-            records.append(Record(code, numbers))
+            records.append(reader.record(records[-1] if records else None))
     except Refused as refused:
-        record = len(reader.numbers) - 1
-        fault = Fault(refused.args[0], record, code, reader.numbers[record][-1])
-        return Sheet(hall, records, reader.numbers, fault)
-    return Sheet(hall, records, reader.numbers, None)
-
-
-def number_bytes(number):
-    """A number in as few bytes as possible."""
-    groups = []
-    while number > 0x7F:
-        groups.append(number & 0x7F | 0x80)
-        number >>= 7
-    return bytes(groups + [number])
+        fault = reader.fault(*refused.args)
+    return Sheet(edition, hall, records, reader.numbers, fault)

@@ -2,8 +2,15 @@
 
 from collections import namedtuple
 
-# A step in a sheet: its code and its numbers, in the order of the fields.
-Record = namedtuple("Record", "code numbers")
+
+class Record(namedtuple("Record", "code numbers")):
+    """A step of a sheet: its code, 1 to 5, and its numbers in the order of the fields. The desk is among them, also if
+    the sheet leaves it out."""
+
+    @property
+    def desk(self):
+        return self.numbers[0]
+
 
 Step = namedtuple("Step", "name fields")
 
@@ -38,9 +45,11 @@ REASONS = {
     14: "the desk's list is full; it must collect first",
     15: "the sheet ends before this number is complete",
     16: "a number must end within three bytes and be at most 65,535",
-    17: "no step has this code; the codes are 1 to 5",
+    17: "no step has this code",
     18: "a sheet has at most 65,536 bytes",
     19: "a number must be in shortest form",
+    20: "a desk is left out exactly if it is the desk of the record before",
+    21: "a sheet of edition 2 starts with 0 and 2",
 }
 
 

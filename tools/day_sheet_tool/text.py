@@ -1,50 +1,58 @@
 """The text form of a sheet: the hall, then one record a line."""
 
 from .errors import UserError, plural
-from .reading import number_bytes
-from .steps import CODES, HALL_FIELDS, MAX_BYTES, MAX_NUMBER, STEPS
+from .steps import CODES, HALL_FIELDS, MAX_BYTES, MAX_NUMBER, STEPS, Record
+from .writing import Writer
 
 HALL_LINE = "'hall DESKS SCREENS POSITIONS'"
 
 
-def encode(text, name):
+def encode(text, name, edition):
     """The bytes of a text; an error names the line."""
-    data = bytearray()
-    opened = False
+    writer = Writer(edition)
     for number, line in enumerate(text.split("\n"), start=1):
         words = line.split("#", 1)[0].split()
         if words:
             try:
-                data += line_bytes(words, opened)
+                write_line(writer, words)
             except UserError as error:
                 raise UserError(f"{name}:{number}: {error}") from None
-            opened = True
-            if len(data) > MAX_BYTES:
+            if len(writer.data) > MAX_BYTES:
                 raise UserError(f"{name}:{number}: the sheet is longer than 65,536 bytes with this record (reply number 18)")
-    if not opened:
+    if not writer.data:
         raise UserError(f"{name}: no line {HALL_LINE}; every sheet starts with one")
-    return bytes(data)
+    return bytes(writer.data)
 
 
-def line_bytes(words, opened):
-    """The bytes of one line; the first is the hall's, the others are steps."""
-    word, rest = words[0], words[1:]
-    if not opened:
-        if word != "hall":
-            raise UserError(f"the first line must be {HALL_LINE}, not '{shown(word)}'")
-        return numbers_bytes(word, HALL_FIELDS, rest)
-    if word == "hall":
+def write_line(writer, words):
+    """Writes the words of a line: the first line is the hall, the others are records."""
+    if writer.data:
+        writer.record(record_of(words))
+    else:
+        writer.hall(hall_of(words))
+
+
+def hall_of(words):
+    if words[0] != "hall":
+        raise UserError(f"the first line must be {HALL_LINE}, not '{shown(words[0])}'")
+    return numbers_of(words, HALL_FIELDS)
+
+
+def record_of(words):
+    if words[0] == "hall":
         raise UserError("only the first line may be 'hall'")
-    if word not in CODES:
-        raise UserError(f"no step '{shown(word)}'; the steps are {', '.join(CODES)}")
-    code = CODES[word]
-    return number_bytes(code) + numbers_bytes(word, STEPS[code].fields, rest)
+    if words[0] not in CODES:
+        raise UserError(f"no step '{shown(words[0])}'; the steps are {', '.join(CODES)}")
+    code = CODES[words[0]]
+    return Record(code, numbers_of(words, STEPS[code].fields))
 
 
-def numbers_bytes(word, fields, words):
-    if len(words) != len(fields):
-        raise UserError(f"'{word}' has {plural(len(fields), 'number')} ({', '.join(fields)}), here it has {len(words)}")
-    return b"".join(number_bytes(number(field, given)) for field, given in zip(fields, words))
+def numbers_of(words, fields):
+    """The numbers after the first word of a line."""
+    word, *given = words
+    if len(given) != len(fields):
+        raise UserError(f"'{word}' has {plural(len(fields), 'number')} ({', '.join(fields)}), here it has {len(given)}")
+    return tuple(number(field, digits) for field, digits in zip(fields, given))
 
 
 def number(field, word):
@@ -64,15 +72,19 @@ def shown(word):
 
 
 def decode(sheet):
-    """The text of the part of a sheet that could be read. A comment gives the offset of each record's first byte."""
+    """The text of the part of a sheet that could be read, with its edition and the offset of each record's first byte as
+    comments. It is the same for both editions: a desk that the sheet leaves out is written out."""
     if sheet.hall is None:
         return ""
     lines = [record_text(sheet, record) for record in range(len(sheet.records) + 1)]
     width = max(map(len, lines))
-    return "".join(
-        f"{line:<{width}}   # {record_name(record)}, byte {sheet.numbers[record][0].start}\n"
-        for record, line in enumerate(lines)
-    )
+    return "".join(f"{line:<{width}}   # {comment(sheet, record)}\n" for record, line in enumerate(lines))
+
+
+def comment(sheet, record):
+    """'record 3, byte 12'; the header's also has the edition."""
+    where = f"{record_name(record)}, byte {sheet.numbers[record][0].start}"
+    return where if record else f"{where}, edition {sheet.edition.number}"
 
 
 def record_name(record):
