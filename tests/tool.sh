@@ -21,6 +21,7 @@ root=$(cd "$(dirname "$0")/.." && pwd)
 work=$(mktemp -d)
 trap 'rm -rf "$work"' EXIT
 cd "$work"
+here=$(pwd -P)
 checks=0
 
 # A copy of the tool, which finds the programs in target/bin. The commands of docs/SHEETS.md run as they are shown there.
@@ -78,13 +79,14 @@ bad_sheet() {
     passed
 }
 
-# ends MEANING ROW BYTES: for the bytes, a printf format, 'explain' prints this line where the reading ends, and this row below it.
-# Several spaces are one here.
+# ends MEANING ROW BYTES [OPTION...]: for the bytes, a printf format, 'explain' prints this line where the reading ends, and this
+# row below it. Several spaces are one here.
 ends() {
     printf "$3" >bad.sheet
     printf '%s\n' "$1" " $2" >expected
-    sheet explain bad.sheet | tail -n 3 | head -n 2 | tr -s ' ' >out
-    same "explain: not '$1'" expected out
+    shift 3
+    sheet explain bad.sheet "$@" | tail -n 3 | head -n 2 | tr -s ' ' >out
+    same "explain: not '$(head -n 1 expected)'" expected out
 }
 
 # Sheets that several checks use: no bytes, an unknown code, 65,537 bytes.
@@ -232,15 +234,24 @@ same "the program reads what 'encode' writes" expected out
 target/bin/shorten_sheet <short.sheet >out
 same "shorten_sheet leaves what 'encode' writes" short.sheet out
 
-# The examples, encoded and decoded, and their pictures, compared with the gallery.
+# The examples in both editions: encoded and decoded, converted, and their pictures, compared with the gallery.
 for text in "$root"/examples/*.txt; do
     name=$(basename "$text" .txt)
-    sheet encode "$text" >"$name.sheet"
-    sheet decode "$name.sheet" >"$name.txt"
-    sheet encode "$name.txt" >"$name.again"
-    same "$name: encode, decode, encode" "$name.sheet" "$name.again"
-    sheet picture "$name.sheet" "$name.svg"
-    same "$name: docs/gallery is not up to date ('make gallery')" "$root/docs/gallery/$name.svg" "$name.svg"
+    for edition in 2 1; do
+        sheet encode "$text" --edition "$edition" >"$name.sheet"
+        sheet decode "$name.sheet" >"$name.txt"
+        sheet encode "$name.txt" --edition "$edition" >"$name.again"
+        same "$name, edition $edition: encode, decode, encode" "$name.sheet" "$name.again"
+        sheet picture "$name.sheet" "$name.svg"
+        same "$name, edition $edition: docs/gallery is not up to date ('make gallery')" "$root/docs/gallery/$name.svg" "$name.svg"
+        cp "$name.sheet" "$name.$edition"
+        sheet explain "$name.sheet" >"$name.meaning.$edition"
+    done
+    same "$name: explained in both editions" "$name.meaning.1" "$name.meaning.2"
+    target/bin/to_edition_2 <"$name.1" >out
+    same "$name: to_edition_2" "$name.2" out
+    target/bin/to_edition_1 <"$name.2" >out
+    same "$name: to_edition_1" "$name.1" out
 done
 
 # Pictures are XML, also of a sheet without records and of a truncated one.
@@ -349,11 +360,11 @@ END
 sheet explain long.sheet >out
 same "explain: 18" expected out
 
-# found OPTION NUMBER SHEET: 'find' prints the lines of standard input.
+# found ARGUMENT...: 'find' prints the lines of standard input.
 found() {
     cat >expected
-    sheet find "$3" "$1" "$2" >out
-    same "find $3 $1 $2" expected out
+    sheet find "$@" >out
+    same "find $*" expected out
 }
 
 # Records and their bytes, from a record and from a byte.
@@ -648,6 +659,250 @@ printf '\001\001\001\005\001\205\000\001' >padded.sheet
 ends_at="the reading ends at byte 5: the code of record 2 is 5, padded: 85 00 instead of 05 (reply number 19)"
 corrected "2 0 17 0    the reply number is 17, but it should be 19; $ends_at" padded.sheet '0 0 0 0\n1 5 0 0\n2 0 17 0\nend 1 0 0\n'
 corrected "2 0 19 0    the last column is 0, but it should be 5; $ends_at" padded.sheet '0 0 0 0\n1 5 0 0\n2 0 19 0\nend 1 0 0\n'
+
+# Edition 2. Case D: 'encode' leaves out the desk of each record but the first; the lines and their meaning are the same.
+cat >d2.offsets <<'END'
+hall 1 1 1     # header, byte 0, edition 2
+swap 1 1 300   # record 1, byte 5
+take 1 1 1     # record 2, byte 10
+swap 1 1 7     # record 3, byte 13
+retire 1       # record 4, byte 16
+collect 1      # record 5, byte 17
+drop 1 1       # record 6, byte 18
+collect 1      # record 7, byte 20
+retire 1       # record 8, byte 21
+END
+printf '\000\002\001\001\001\003\001\001\254\002\011\001\001\013\001\007\014\015\012\001\015\014' >d2.bytes
+sheet encode --edition 2 d.txt >d2.sheet
+same "encode: case D in edition 2" d2.bytes d2.sheet
+sheet encode --edition 1 d.txt >out
+same "encode: case D in edition 1" d.bytes out
+sheet decode d2.sheet >d2.again
+same "decode: case D in edition 2" d2.offsets d2.again
+sheet encode --edition 2 d2.again >out
+same "encode: case D in edition 2, with the offsets as comments" d2.bytes out
+sheet explain d2.sheet >d.explained
+same "explain: case D in edition 2" d.meaning d.explained
+sheet explain d2.sheet --lines d.lines >d.explained
+same "explain: case D in edition 2 by its lines" d.meaning d.explained
+
+# A desk is left out after a record that the board refuses, and outside the hall too.
+cat >outside.txt <<'END'
+hall 1 1 1
+collect 9
+retire 9
+collect 0
+drop 0 1
+retire 65535
+swap 65535 1 5
+collect 1
+END
+printf '\000\002\001\001\001\005\011\014\005\000\012\001\004\377\377\003\013\001\005\005\001' >expected
+sheet encode --edition 2 outside.txt >outside.sheet
+same "encode: desks outside the hall" expected outside.sheet
+sheet decode outside.sheet | sed 's/ *#.*//' >out
+same "decode: desks outside the hall" outside.txt out
+echo "6 3 6 0     desk 65535 swaps position 1 to session 5: refused, the hall has no such desk" >expected
+sheet explain outside.sheet | grep '^6 ' >out
+same "explain: a desk outside the hall is left out" expected out
+
+# 65,536 bytes are a sheet of 65,530 records; one more does not fit.
+awk 'BEGIN { print "hall 1 1 1"; for (i = 0; i < 65530; i++) print "collect 1" }' >most.txt
+sheet encode --edition 2 most.txt >most.sheet
+[ "$(wc -c <most.sheet)" -eq 65536 ] || fail "encode: not 65,536 bytes"
+passed
+echo "collect 1" >>most.txt
+refused 2 "most.txt:65532: the sheet is longer than 65,536 bytes with this record (reply number 18)" encode --edition 2 most.txt
+
+# The number that ends a reading in edition 2. 15 and 16, also of numbers that could give 20 or 21:
+ends "0 0 15 1 the reading ends at byte 1: the edition number of the header is missing (reply number 15)" \
+    "from byte 0: 00 [end] offset 1 (0x1)" '\000'
+ends "0 0 15 4 the reading ends at byte 4: number L of the header (positions) is missing (reply number 15)" \
+    "from byte 0: 00 02 11 01 [end] offset 4 (0x4)" '\000\002\021\001'
+ends "1 1 15 7 the reading ends at byte 7: the position of record 1 (take) is missing (reply number 15)" \
+    "from byte 0: 00 02 01 01 01 09 01 [end] offset 7 (0x7)" '\000\002\001\001\001\011\001'
+ends "2 3 15 10 the reading ends at byte 10: the session of record 2 (swap) is missing (reply number 15)" \
+    "from byte 2: 01 01 01 05 01 03 01 01 [end] offset 10 (0xa)" '\000\002\001\001\001\005\001\003\001\001'
+ends "0 0 16 1 the reading ends at byte 1: the edition number of the header is 65,536, over 65,535 (reply number 16)" \
+    "from byte 0: 00 [80 80 04] 01 offset 1 (0x1)" '\000\200\200\004\001'
+ends "2 2 16 8 the reading ends at byte 8: the screen of record 2 (drop) is longer than three bytes (reply number 16)" \
+    "from byte 0: 00 02 01 01 01 05 01 0a [ff ff ff] offset 8 (0x8)" '\000\002\001\001\001\005\001\012\377\377\377'
+# 17: below, between and above both ranges.
+codes="but the codes are 1 to 5 and 9 to 13 (reply number 17)"
+ends "1 0 17 0 the reading ends at byte 5: the code of record 1 is 0, $codes" \
+    "from byte 0: 00 02 01 01 01 [00] offset 5 (0x5)" '\000\002\001\001\001\000'
+ends "2 8 17 0 the reading ends at byte 7: the code of record 2 is 8, $codes" \
+    "from byte 0: 00 02 01 01 01 05 01 [08] 01 offset 7 (0x7)" '\000\002\001\001\001\005\001\010\001'
+ends "1 14 17 0 the reading ends at byte 5: the code of record 1 is 14, $codes" \
+    "from byte 0: 00 02 01 01 01 [0e] offset 5 (0x5)" '\000\002\001\001\001\016'
+# 19: numbers of the header, a code, a desk that is written out again, and a field of a record without its desk.
+ends "0 0 19 0 the reading ends at byte 0: the first number of the header is 0, padded: 80 00 instead of 00 (reply number 19)" \
+    "from byte 0: [80 00] 02 01 01 01 offset 0 (0x0)" '\200\000\002\001\001\001'
+ends "0 0 19 1 the reading ends at byte 1: the edition number of the header is 3, padded: 83 00 instead of 03 (reply number 19)" \
+    "from byte 0: 00 [83 00] offset 1 (0x1)" '\000\203\000'
+ends "0 0 19 2 the reading ends at byte 2: number P of the header (desks) is 1, padded: 81 00 instead of 01 (reply number 19)" \
+    "from byte 0: 00 02 [81 00] 01 01 offset 2 (0x2)" '\000\002\201\000\001\001'
+ends "2 0 19 7 the reading ends at byte 7: the code of record 2 is 13, padded: 8d 00 instead of 0d (reply number 19)" \
+    "from byte 0: 00 02 01 01 01 05 01 [8d 00] offset 7 (0x7)" '\000\002\001\001\001\005\001\215\000'
+ends "2 5 19 8 the reading ends at byte 8: the desk of record 2 (collect) is 1, padded: 81 00 instead of 01 (reply number 19)" \
+    "from byte 0: 00 02 01 01 01 05 01 05 [81 00] offset 8 (0x8)" '\000\002\001\001\001\005\001\005\201\000'
+ends "2 3 19 9 the reading ends at byte 9: the session of record 2 (swap) is 5, padded: 85 80 00 instead of 05 (reply number 19)" \
+    "from byte 1: 02 01 01 01 05 01 0b 01 [85 80 00] offset 9 (0x9)" '\000\002\001\001\001\005\001\013\001\205\200\000'
+# 20: a desk left out in the first record; a desk written out again, also one of two bytes outside the hall.
+first="9, with no desk before it: 01 and the desk instead of 09 (reply number 20)"
+ends "1 1 20 0 the reading ends at byte 5: the code of record 1 (take) is $first" \
+    "from byte 0: 00 02 01 01 01 [09] 01 01 offset 5 (0x5)" '\000\002\001\001\001\011\001\001'
+again="the reading ends at byte 8: the desk of record 2 (collect) is 1 again: 0d instead of 05 01 (reply number 20)"
+ends "2 5 20 0 $again" \
+    "from byte 0: 00 02 01 01 01 05 01 05 [01] 0d offset 8 (0x8)" '\000\002\001\001\001\005\001\005\001\015'
+ends "2 1 20 0 the reading ends at byte 9: the desk of record 2 (take) is 300 again: 09 instead of 01 ac 02 (reply number 20)" \
+    "from byte 1: 02 01 01 01 04 ac 02 01 [ac 02] 01 01 offset 9 (0x9)" '\000\002\001\001\001\004\254\002\001\254\002\001\001'
+# 21: another first number, whatever follows it, and another edition.
+ends "0 0 21 0 the reading ends at byte 0: the first number of the header is 1, but it must be 0 (reply number 21)" \
+    "from byte 0: [01] 80 80 80 offset 0 (0x0)" '\001\200\200\200' --edition 2
+another="the reading ends at byte 1: the edition number of the header is 3, but it must be 2 (reply number 21)"
+ends "0 0 21 0 $another" \
+    "from byte 0: 00 [03] 01 01 01 offset 1 (0x1)" '\000\003\001\001\001'
+
+# What 'decode', 'find' and 'picture' say of them.
+printf '\000\002\001\001\001\005\001\005\001\015' >again.sheet
+printf '\000\002\001\001\001\011\001\001' >first.sheet
+printf '\000\003\001\001\001\005\001' >another.sheet
+printf '\000\002\001\001\001\005\001\013\001\205\000' >padded.sheet
+printf '\000\002\021\001\001\005\001\015' >desks.sheet
+decoded "$again" again.sheet <<'END'
+hall 1 1 1   # header, byte 0, edition 2
+collect 1    # record 1, byte 5
+END
+decoded "the reading ends at byte 5: the code of record 1 (take) is $first" first.sheet <<'END'
+hall 1 1 1   # header, byte 0, edition 2
+END
+decoded "$another" another.sheet </dev/null
+decoded "the reading ends at byte 9: the session of record 2 (swap) is 5, padded: 85 00 instead of 05 (reply number 19)" \
+    padded.sheet <<'END'
+hall 1 1 1   # header, byte 0, edition 2
+collect 1    # record 1, byte 5
+END
+decoded "$bad_desks" desks.sheet <<'END'
+hall 17 1 1   # header, byte 0, edition 2
+collect 1     # record 1, byte 5
+collect 1     # record 2, byte 7
+END
+found --record 0 d2.sheet <<'END'
+header: byte 0 (0x0), 5 bytes: 00 02 01 01 01
+text: hall 1 1 1
+byte 0: 00   first number: 0
+byte 1: 02   edition number: 2
+byte 2: 01   P (desks): 1
+byte 3: 01   c (screens per desk): 1
+byte 4: 01   L (positions): 1
+END
+found --byte 14 d2.sheet <<'END'
+byte 14: the position of record 3 (swap)
+record 3: byte 13 (0xd), 3 bytes: 0b 01 07
+text: swap 1 1 7
+byte 13: 0b   code: 11 (swap, desk left out: 1 as in record 2)
+byte 14: 01   position: 1
+byte 15: 07   session: 7
+END
+found --record 2 again.sheet <<'END'
+record 2: byte 7 (0x7), 2 bytes: 05 01
+no text: the reading ends here
+byte 7: 05   code: 5 (collect)
+byte 8: 01   desk: 1 again: 0d instead of 05 01 (reply number 20)
+END
+found --byte 6 first.sheet <<END
+byte 6: the screen of record 1 (take)
+record 1: byte 5 (0x5), 3 bytes: 09 01 01
+no text: the reading ends here
+byte 5: 09   code: $first
+byte 6: 01   screen: 1
+byte 7: 01   position: 1
+END
+head -c 7 first.sheet >cut.sheet
+found --byte 7 cut.sheet <<'END'
+byte 7: the sheet ends here; the position of record 1 (take) is missing
+record 1: byte 5 (0x5), 2 bytes: 09 01
+no text: the reading ends here
+byte 5: 09      code: 9 (take, desk left out)
+byte 6: 01      screen: 1
+byte 7: [end]   position: missing (reply number 15)
+END
+found --byte 1 another.sheet <<'END'
+byte 1: the edition number of the header
+header: byte 0 (0x0), 2 bytes: 00 03
+no text: the reading ends here
+byte 0: 00   first number: 0
+byte 1: 03   edition number: 3, but it must be 2 (reply number 21)
+END
+found --byte 2 desks.sheet <<'END'
+byte 2: number P of the header (desks)
+header: byte 0 (0x0), 5 bytes: 00 02 11 01 01
+text: hall 17 1 1
+byte 0: 00   first number: 0
+byte 1: 02   edition number: 2
+byte 2: 11   P (desks): 17, but a hall has 1 to 16 desks (reply number 1)
+byte 3: 01   c (screens per desk): 1
+byte 4: 01   L (positions): 1
+END
+refused 2 "again.sheet: byte 9 is not read; $again" find again.sheet --byte 9
+sheet picture again.sheet again.svg
+grep -q ">number 20<" again.svg && grep -q ">byte 8<" again.svg || fail "the picture of a desk written out again does not show the end"
+passed
+corrected "2 5 0 0     the reply number is 0, but it should be 20; $again" again.sheet '0 0 0 0\n1 5 0 0\n2 5 0 0\nend 2 0 0\n'
+corrected "2 5 20 8    the last column is 8, but it should be 0; $again" again.sheet '0 0 0 0\n1 5 0 0\n2 5 20 8\nend 1 0 0\n'
+sed 's/^2 1 /2 9 /' d.lines >wrong.lines
+refused 2 "wrong.lines:3: not a line of this sheet: it says record 2, code 9; the sheet has record 2, code 1" \
+    explain d2.sheet --lines wrong.lines
+
+# The wrong edition: one that does not exist, and the program of the other.
+for edition in 3 0 x ''; do
+    refused 2 "--edition '$edition': the editions are 1 and 2" encode d.txt --edition "$edition"
+    refused 2 "--edition '$edition': the editions are 1 and 2" decode d.sheet --edition "$edition"
+done
+refused 2 "target/bin/day_sheet: the sheet is read as edition 2, but 1 is what day_sheet replies; use --edition 1" \
+    explain d2.sheet --program target/bin/day_sheet
+refused 2 "target/bin/day_sheet_2: the sheet is read as edition 1, but 21 is what day_sheet_2 replies; use --edition 2" \
+    picture d.sheet wrong.svg --program target/bin/day_sheet_2
+cat >expected <<'END'
+0 0 1 0     a hall of 0 desks, 2 screens per desk, 1 position: refused, a hall has 1 to 16 desks; nothing more is read
+end 0 0 0   0 steps accepted, 0 refused by the board, 0 sessions handed back
+END
+sheet explain d2.sheet --edition 1 >out
+same "explain: edition 2, read as edition 1" expected out
+refused 2 "d.sheet: the reading ends at byte 0: the first number of the header is 1, but it must be 0 (reply number 21)" \
+    decode d.sheet --edition 2
+# An edition 1 sheet that says 0 desks.
+printf '\000\001\001\005\001' >desks.sheet
+decoded "the reading ends at byte 1: the edition number of the header is 1, but it must be 2 (reply number 21)" desks.sheet </dev/null
+found --record 0 desks.sheet --edition 1 <<'END'
+header: byte 0 (0x0), 3 bytes: 00 01 01
+text: hall 0 1 1
+byte 0: 00   P (desks): 0, but a hall has 1 to 16 desks (reply number 1)
+byte 1: 01   c (screens per desk): 1
+byte 2: 01   L (positions): 1
+END
+
+# The line of a sheet that a converter refused.
+target/bin/to_edition_1 <padded.sheet >line.sheet
+refused 2 "$no_sheet: 19 9 (at its byte 9: a number must be in shortest form)" decode line.sheet
+target/bin/to_edition_1 <again.sheet >line.sheet
+refused 2 "$no_sheet: 20 0 (a desk is left out exactly if it is the desk of the record before)" decode line.sheet
+target/bin/to_edition_1 <d.sheet >line.sheet
+refused 2 "$no_sheet: 21 0 (a sheet of edition 2 starts with 0 and 2)" explain line.sheet
+target/bin/to_edition_2 <d2.sheet >line.sheet
+refused 2 "$no_sheet: 1 0 (a hall has 1 to 16 desks)" find line.sheet --byte 0
+target/bin/to_edition_1 <most.sheet >line.sheet
+refused 2 "$no_sheet: 18 0 (a sheet has at most 65,536 bytes)" decode line.sheet
+
+# The tool names the program that it does not find.
+mv target/bin target/away
+for edition in d.sheet:day_sheet d2.sheet:day_sheet_2; do
+    name=${edition#*:}
+    refused 2 "no file $here/target/bin/$name: 'make -C $here target/bin/$name' builds it; or use --program or --lines" \
+        explain "${edition%:*}"
+done
+mv target/away target/bin
 
 # worked SECTION COUNT: the commands of this section of docs/SHEETS.md, at least so many, print what it shows.
 worked() {
