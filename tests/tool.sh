@@ -915,10 +915,13 @@ worked() {
     done <worked.commands >worked.printed
     same "docs/SHEETS.md: '$1'" worked.shown worked.printed
 }
+worked "The two editions" 9
+worked "From one edition to the other" 5
 worked "A worked repair" 10
+worked "Repairs in edition 2" 6
 worked "Padded numbers" 6
 
-# The lines for scripts in docs/SHEETS.md that find out whether shorten_sheet wrote a sheet.
+# The lines for scripts in docs/SHEETS.md that find out whether shorten_sheet, or a converter, wrote a sheet.
 awk 'sub(/^    /, "") && /shorten_sheet < OLD.sheet/ { on = 1 } /^$/ { on = 0 } on' "$root/docs/SHEETS.md" |
     sed 's|target/bin/shorten_sheet|"$1"|' >script
 [ "$(wc -l <script)" -eq 2 ] || fail "docs/SHEETS.md: no lines for scripts"
@@ -932,6 +935,11 @@ scripted() {
 }
 cp d.sheet OLD.sheet
 scripted '' target/bin/shorten_sheet
+scripted '' target/bin/to_edition_2
+scripted 'NEW.sheet is not a sheet\n' target/bin/to_edition_1
+cp d2.sheet OLD.sheet
+scripted '' target/bin/to_edition_1
+scripted 'NEW.sheet is not a sheet\n' target/bin/to_edition_2
 printf '\012\001\001' >OLD.sheet # the number of desks is a newline
 scripted '' target/bin/shorten_sheet
 printf '\061\001\001' >OLD.sheet # it is a digit: no hall has so many
