@@ -860,10 +860,12 @@ for edition in 3 0 x ''; do
     refused 2 "--edition '$edition': the editions are 1 and 2" encode d.txt --edition "$edition"
     refused 2 "--edition '$edition': the editions are 1 and 2" decode d.sheet --edition "$edition"
 done
-refused 2 "target/bin/day_sheet: the sheet is read as edition 2, but 1 is what day_sheet replies; use --edition 1" \
+first_line="the first line is that of"
+refused 2 "target/bin/day_sheet: $first_line day_sheet, but the sheet is of edition 2; --edition 1 reads it as day_sheet does" \
     explain d2.sheet --program target/bin/day_sheet
-refused 2 "target/bin/day_sheet_2: the sheet is read as edition 1, but 21 is what day_sheet_2 replies; use --edition 2" \
-    picture d.sheet wrong.svg --program target/bin/day_sheet_2
+target/bin/day_sheet_2 <d.sheet >wrong.lines
+refused 2 "wrong.lines: $first_line day_sheet_2, but the sheet is of edition 1; --edition 2 reads it as day_sheet_2 does" \
+    picture d.sheet wrong.svg --lines wrong.lines
 cat >expected <<'END'
 0 0 1 0     a hall of 0 desks, 2 screens per desk, 1 position: refused, a hall has 1 to 16 desks; nothing more is read
 end 0 0 0   0 steps accepted, 0 refused by the board, 0 sessions handed back

@@ -30,8 +30,8 @@ FIND_USAGE = "sheet find [-h] SHEET (--record N | --byte N) [--edition N]"
 
 
 def main(arguments):
-    options = parser().parse_args(arguments)
     try:
+        options = parser().parse_args(arguments)
         if sys.stdout is None:
             raise UserError("standard output is closed")
         options.command(options)
@@ -65,7 +65,7 @@ def parser():
 
     one = commands.add_parser("encode", help="text to bytes, to standard output", description=ENCODE, epilog=EPILOG)
     one.add_argument("text", metavar="FILE.txt")
-    one.add_argument("--edition", metavar="N", default="1", help="the edition of the sheet, 1 or 2 (usually 1)")
+    add_edition(one, default=EDITIONS[1], help="the edition of the sheet, 1 or 2 (usually 1)")
     one.set_defaults(command=to_bytes)
 
     one = commands.add_parser(
@@ -100,34 +100,37 @@ def parser():
 
 def add_sheet(command):
     command.add_argument("sheet", metavar="SHEET")
-    command.add_argument("--edition", metavar="N", help="read it as edition 1 or 2 (usually 2 if the first number is 0)")
+    add_edition(command, help="read it as edition 1 or 2 (usually 2 if its first number is 0, else 1)")
+
+
+def add_edition(command, **keywords):
+    command.add_argument("--edition", metavar="N", type=edition_named, **keywords)
+
+
+def edition_named(word):
+    for number, edition in EDITIONS.items():
+        if word == str(number):
+            return edition
+    raise UserError(f"--edition '{shown(word)}': the editions are 1 and 2")
 
 
 def add_lines(command):
     source = command.add_mutually_exclusive_group()
-    source.add_argument("--program", metavar="PROG", help="the sheet program (usually that of the edition, in target/bin)")
+    source.add_argument("--program", metavar="PROG", help="the sheet program (usually the edition's, in target/bin)")
     source.add_argument("--lines", metavar="FILE", help="lines that it printed before")
 
 
 def to_bytes(options):
-    edition = edition_named(options.edition)
-    data = encode(read_text(options.text), options.text, edition)
+    data = encode(read_text(options.text), options.text, options.edition)
     if sys.stdout.isatty():
         raise UserError("a sheet is binary: redirect the output to a file with > FILE.sheet")
     sys.stdout.buffer.write(data)
 
 
-def edition_named(word):
-    if word.isascii() and word.isdigit() and int(word) in EDITIONS:
-        return EDITIONS[int(word)]
-    raise UserError(f"--edition '{shown(word)}': the editions are 1 and 2")
-
-
 def data_and_sheet(options):
-    """The bytes of the sheet, and the sheet: of the edition that is asked for, or else of the one that it shows."""
-    edition = edition_named(options.edition) if options.edition is not None else None
+    """The bytes of the sheet, and the sheet."""
     data = read_sheet(options.sheet)
-    return data, read(data, edition or edition_of(data))
+    return data, read(data, options.edition or edition_of(data))
 
 
 def to_text(options):

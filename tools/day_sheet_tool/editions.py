@@ -13,8 +13,8 @@ Code = namedtuple("Code", "step left_out")
 
 
 class Edition(namedtuple("Edition", "number lead shorthand codes program")):
-    """lead: the name and the value of each number before the hall. shorthand: can a desk be left out? codes: the codes in
-    words. program: the one that runs sheets of this edition."""
+    """lead: the name and the value of each number before the hall. shorthand: can a desk be left out? codes: the codes,
+    in words. program: the one that runs sheets of this edition."""
 
     def meaning(self, code):
         """What a code of a sheet means; None if this edition does not have it."""

@@ -77,13 +77,15 @@ def numbers_of(words, count, name, at):
 
 
 def check_edition(lines, data, sheet, name):
-    """The header's line must not be that of the other edition's program."""
-    other = read(data, EDITIONS[3 - sheet.edition.number])
-    if lines and header_reply(sheet) != lines[0].reply == header_reply(other):
-        raise UserError(
-            f"{name}: the sheet is read as edition {sheet.edition.number}, but {lines[0].reply} is what "
-            f"{other.edition.program} replies; use --edition {other.edition.number}"
-        )
+    """The first line must not be one that only the program of another edition prints."""
+    if not lines or lines[0].reply == header_reply(sheet):
+        return
+    for number, edition in EDITIONS.items():
+        if lines[0].reply == header_reply(read(data, edition)):
+            raise UserError(
+                f"{name}: the first line is that of {edition.program}, but the sheet is of edition "
+                f"{sheet.edition.number}; --edition {number} reads it as {edition.program} does"
+            )
 
 
 def header_reply(sheet):

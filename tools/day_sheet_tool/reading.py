@@ -37,9 +37,9 @@ class Fault(namedtuple("Fault", "edition reply record code number")):
 
 class Sheet(namedtuple("Sheet", "edition hall records numbers fault")):
     """The contents of a sheet, up to the number that ends its reading. The hall is None if it could not be read;
-    numbers[N] has the numbers of record N as they are in the sheet (0 is the header), also the one that ends the reading;
-    fault is None if the whole sheet could be read. The records after a hall that is refused are here too, though the
-    program does not read them."""
+    numbers[N] has the numbers of record N as they are in the sheet (0 is the header), also the one that ends the
+    reading; fault is None if the whole sheet could be read. The records after a hall that is refused are here too,
+    though the program does not read them."""
 
     @property
     def refusal(self):
@@ -125,7 +125,7 @@ class Reader:
 
 
 def number_at(data, start):
-    """The value of the number that starts here, None if it does not end, and the offset after its last byte. It consists of
+    """The value of the number that starts here, None if it does not end, and the offset after its last byte. It has
     groups of seven bits, lowest first; the top bit of a byte says that another follows."""
     value = 0
     for group, byte in enumerate(data[start : start + MAX_GROUPS]):
@@ -141,8 +141,8 @@ def edition_of(data):
 
 
 def read(data, edition, archived=False):
-    """The sheet of these bytes: as the edition's program reads it, or an archived one of edition 1, as shorten_sheet reads
-    it, with padded numbers."""
+    """The sheet of these bytes: as the edition's program reads it, or an archived one of edition 1, as shorten_sheet
+    reads it, with padded numbers."""
     if len(data) > MAX_BYTES:
         return Sheet(edition, None, [], [], Fault(edition, 18, 0, 0, None))
     reader = Reader(data, edition, archived)

@@ -72,8 +72,8 @@ def shown(word):
 
 
 def decode(sheet):
-    """The text of the part of a sheet that could be read, with its edition and the offset of each record's first byte as
-    comments. It is the same for both editions: a desk that the sheet leaves out is written out."""
+    """The text of the part of a sheet that could be read. Comments give the edition, and the offset of each record's
+    first byte. A desk that the sheet leaves out is written out."""
     if sheet.hall is None:
         return ""
     lines = [record_text(sheet, record) for record in range(len(sheet.records) + 1)]
