@@ -828,6 +828,13 @@ byte 5: 09      code: 9 (take, desk left out)
 byte 6: 01      screen: 1
 byte 7: [end]   position: missing (reply number 15)
 END
+found --record 2 padded.sheet <<'END'
+record 2: byte 7 (0x7), 4 bytes: 0b 01 85 00
+no text: the reading ends here
+byte 7: 0b      code: 11 (swap, desk left out: 1 as in record 1)
+byte 8: 01      position: 1
+byte 9: 85 00   session: 5, padded: 85 00 instead of 05 (reply number 19)
+END
 found --byte 1 another.sheet <<'END'
 byte 1: the edition number of the header
 header: byte 0 (0x0), 2 bytes: 00 03
@@ -956,11 +963,12 @@ scripted 'NEW.sheet is not a sheet\n' target/bin/shorten_sheet
 mkdir OLD.sheet
 scripted 'NEW.sheet is not a sheet\n' target/bin/shorten_sheet
 
-# Random bytes: a message, never a Python traceback.
+# Random bytes, also after a header of edition 2: a message, never a Python traceback.
 for at in 1 2 3; do
     head -c "$((at * 700))" target/bin/day_sheet | tail -c 300 >junk
-    for command in "encode junk" "decode junk" "explain junk" "explain d.sheet --lines junk" \
-        "find junk --record $at" "find junk --byte $at" "picture junk junk.svg"; do
+    { printf '\000\002\001\001\001' && cat junk; } >junk_2
+    for command in "encode junk" "decode junk" "decode junk_2" "explain junk" "explain junk_2" "explain d.sheet --lines junk" \
+        "find junk --record $at" "find junk_2 --record $at" "find junk --byte $at" "picture junk junk.svg" "picture junk_2 junk.svg"; do
         sheet $command >out 2>err || true
         if grep -q Traceback err; then cat err; fail "$command: a traceback"; fi
     done
