@@ -749,13 +749,13 @@ ends "2 5 19 8 the reading ends at byte 8: the desk of record 2 (collect) is 1, 
 ends "2 3 19 9 the reading ends at byte 9: the session of record 2 (swap) is 5, padded: 85 80 00 instead of 05 (reply number 19)" \
     "from byte 1: 02 01 01 01 05 01 0b 01 [85 80 00] offset 9 (0x9)" '\000\002\001\001\001\005\001\013\001\205\200\000'
 # 20: a desk left out in the first record; a desk written out again, also one of two bytes outside the hall.
-first="9, with no desk before it: 01 and the desk instead of 09 (reply number 20)"
+first="9, with no desk before it: 09 instead of 01 and the desk (reply number 20)"
 ends "1 1 20 0 the reading ends at byte 5: the code of record 1 (take) is $first" \
     "from byte 0: 00 02 01 01 01 [09] 01 01 offset 5 (0x5)" '\000\002\001\001\001\011\001\001'
-again="the reading ends at byte 8: the desk of record 2 (collect) is 1 again: 0d instead of 05 01 (reply number 20)"
+again="the reading ends at byte 8: the desk of record 2 (collect) is 1 again: 05 01 instead of 0d (reply number 20)"
 ends "2 5 20 0 $again" \
     "from byte 0: 00 02 01 01 01 05 01 05 [01] 0d offset 8 (0x8)" '\000\002\001\001\001\005\001\005\001\015'
-ends "2 1 20 0 the reading ends at byte 9: the desk of record 2 (take) is 300 again: 09 instead of 01 ac 02 (reply number 20)" \
+ends "2 1 20 0 the reading ends at byte 9: the desk of record 2 (take) is 300 again: 01 ac 02 instead of 09 (reply number 20)" \
     "from byte 1: 02 01 01 01 04 ac 02 01 [ac 02] 01 01 offset 9 (0x9)" '\000\002\001\001\001\004\254\002\001\254\002\001\001'
 # 21: another first number, whatever follows it, and another edition.
 ends "0 0 21 0 the reading ends at byte 0: the first number of the header is 1, but it must be 0 (reply number 21)" \
@@ -809,7 +809,7 @@ found --record 2 again.sheet <<'END'
 record 2: byte 7 (0x7), 2 bytes: 05 01
 no text: the reading ends here
 byte 7: 05   code: 5 (collect)
-byte 8: 01   desk: 1 again: 0d instead of 05 01 (reply number 20)
+byte 8: 01   desk: 1 again: 05 01 instead of 0d (reply number 20)
 END
 found --byte 6 first.sheet <<END
 byte 6: the screen of record 1 (take)

@@ -65,7 +65,7 @@ def parser():
 
     one = commands.add_parser("encode", help="text to bytes, to standard output", description=ENCODE, epilog=EPILOG)
     one.add_argument("text", metavar="FILE.txt")
-    add_edition(one, default=EDITIONS[1], help="the edition of the sheet, 1 or 2 (usually 1)")
+    add_edition(one, default=EDITIONS[1], help="the edition of the sheet, 1 or 2 (default: 1)")
     one.set_defaults(command=to_bytes)
 
     one = commands.add_parser(
@@ -100,7 +100,7 @@ def parser():
 
 def add_sheet(command):
     command.add_argument("sheet", metavar="SHEET")
-    add_edition(command, help="read it as edition 1 or 2 (usually 2 if its first number is 0, else 1)")
+    add_edition(command, help="read it as edition 1 or 2 (default: 2 if its first number is 0, else 1)")
 
 
 def add_edition(command, **keywords):
@@ -116,7 +116,7 @@ def edition_named(word):
 
 def add_lines(command):
     source = command.add_mutually_exclusive_group()
-    source.add_argument("--program", metavar="PROG", help="the sheet program (usually the edition's, in target/bin)")
+    source.add_argument("--program", metavar="PROG", help="the sheet program (default: the edition's, in target/bin)")
     source.add_argument("--lines", metavar="FILE", help="lines that it printed before")
 
 

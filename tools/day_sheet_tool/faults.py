@@ -77,5 +77,5 @@ def wrong_desk(fault):
     written, left_out = number_bytes(fault.code), number_bytes(fault.code + LEFT_OUT)
     number = fault.number
     if number.field == "code":
-        return f"{number.value}, with no desk before it: {in_hex(written)} and the desk instead of {in_hex(left_out)}"
-    return f"{number.value:,} again: {in_hex(left_out)} instead of {in_hex(written + number.data)}"
+        return f"{number.value}, with no desk before it: {in_hex(left_out)} instead of {in_hex(written)} and the desk"
+    return f"{number.value:,} again: {in_hex(written + number.data)} instead of {in_hex(left_out)}"
