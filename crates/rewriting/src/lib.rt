@@ -43,7 +43,7 @@ pub fn write_rewritten(sheet: &[u8], from: Edition, to: Edition) -> Handed
 // Writes the sheet on standard input in another edition. If it cannot read or write, it says so on standard error, with one of these
 // messages and the reason. After a failed read it writes nothing.
 pub fn rewrite_input(from: Edition, to: Edition, cannot_read: &[u8], cannot_write: &[u8]) -> Handed
-    ensures { λ r. ⌜ OfInput (editionOf from) (editionOf to) (r .bytes) ⌝ }
+    ensures { λ r. ⌜ OfInput (editionOf from) (editionOf to) (r .complete) (r .bytes) ⌝ }
 {
     let mut bytes = [0u8; READ_BYTES];
     match read_to_end(STDIN_FILENO, &mut bytes) {

@@ -47,7 +47,7 @@ fail-requires-2 c κs = search needs
 
 -- nothing could be read
 returns-2 : tie.Need-returns-2
-returns-2 c = inl refl
+returns-2 c = inl (refl, refl)
 
 -- the output was not taken
 returns-3 : tie.Need-returns-3
