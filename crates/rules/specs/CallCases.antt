@@ -55,10 +55,10 @@ bytes-named = (refl, refl)
 -- The numbers of each step's refusals and of the opening's.
 pub refusal-numbers :
     map (λ (step : Step). refusals (2 sends step)) (Take 1 2 ∷ Drop 2 ∷ Swap 1 7 ∷ Retire ∷ Collect ∷ [])
-    ≡ (5 ∷ 6 ∷ 7 ∷ 8 ∷ 9 ∷ 10 ∷ []) ∷ (5 ∷ 6 ∷ 7 ∷ 11 ∷ []) ∷ (5 ∷ 6 ∷ 8 ∷ 12 ∷ []) ∷ (5 ∷ 6 ∷ 13 ∷ 14 ∷ []) ∷ (5 ∷ 6 ∷ []) ∷ []
+    ≡ (5 ∷ 6 ∷ 7 ∷ 8 ∷ 9 ∷ 10 ∷ []) ∷ (5 ∷ 6 ∷ 7 ∷ 11 ∷ []) ∷ (5 ∷ 6 ∷ 8 ∷ 22 ∷ 12 ∷ []) ∷ (5 ∷ 6 ∷ 13 ∷ 14 ∷ []) ∷ (5 ∷ 6 ∷ []) ∷ []
 refusal-numbers = refl
 
-pub opening-refusal-numbers : openingRefusals ≡ 1 ∷ 2 ∷ 3 ∷ 4 ∷ []
+pub opening-refusal-numbers : openingRefusals ≡ 1 ∷ 2 ∷ 3 ∷ 22 ∷ 4 ∷ []
 opening-refusal-numbers = refl
 
 -- Results of a take that demand 1 refuses. It may give 5 to 10, and may write word 1 of these four.
@@ -234,27 +234,6 @@ agrees-refuses = (
   λ both. omega (arith, both .sameLength),
 )
 
--- ---- A board may have smaller limits than the hall's: at most 4 desks, with one screen each.
-abbrev fourDesks : Limits
-fourDesks = record {
-  desks = 4;
-  screens = 1;
-  positions = 64;
-  fewDesks = omega arith;
-  fewScreens = omega arith;
-  fewPositions = omega arith;
-}
-
--- It opens 4 desks and not 5; and the table of 5 that another board opened is not sound for it.
-abbrev answersOf : Limits → List Answer
-answersOf limits =
-    let five = openTable hallLimits (hallOf 5 1 1) (replicate 124 9) .after in
-    openTable limits (hallOf 4 1 1) (replicate 92 9) .answer ∷ openTable limits (hallOf 5 1 1) (replicate 124 9) .answer ∷ stepTable limits five (1 sends Collect) .answer ∷ []
-
-pub smaller-limits : (answersOf fourDesks ≡ ok 0 ∷ refusedWith 1 ∷ refusedWith 5 ∷ []) × (answersOf hallLimits ≡ ok 0 ∷ ok 0 ∷ ok 0 ∷ [])
-unfolding openTable stepTable sound recordSound encodeDesk decodeDesk
-smaller-limits = (refl, refl)
-
 -- ---- Locality. What a call reads, in a hall of 2 desks with 3 screens each and 4 positions.
 abbrev pub deskWith : ℕ → List ℕ → Desk
 deskWith owed waiting = record { owed = owed; scanned = 0; ready = []; tested = []; waiting = waiting }
@@ -322,7 +301,7 @@ abbrev dark : State
 dark = record { held = 7 ∷ 0 ∷ []; shown = 0 ∷ 0 ∷ 0 ∷ []; desks = deskWith 0 (5 ∷ []) ∷ emptyDesk ∷ emptyDesk ∷ [] }
 
 abbrev afterCollect : State → Desk
-afterCollect state = deskAt threeDesks (step threeDesks state (1 sends Collect) .after) 1
+afterCollect state = deskAt threeDesks (step hallLimits threeDesks state (1 sends Collect) .after) 1
 
 pub marks-what-it-reads : (afterCollect quiet .tested ≡ marked 5 ∷ []) × (afterCollect dark .tested ≡ unmarked 5 ∷ [])
 marks-what-it-reads = (refl, refl)

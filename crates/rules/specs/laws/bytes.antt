@@ -2,3 +2,4 @@
 pub mod Bytes
 pub mod ByteHistories
 pub mod FirstBoard
+pub mod HallUnchanged

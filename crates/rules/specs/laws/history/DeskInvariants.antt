@@ -7,7 +7,7 @@ use mathlib.Core.List.{List, [], _∷_}
 use lib.ListN.{length}
 use lib.Dec.{eqb}
 use borrow.Author.Tests.{ne-eqb}
-use Rattle.rules.specs.Hall.{Desk, Formed, Hall, State, allScreens, deskOf, usedSlots}
+use Rattle.rules.specs.Hall.{Desk, Formed, Hall, Limits, State, allScreens, deskOf, usedSlots}
 use Rattle.rules.specs.History.{Action, CollectBetween, CollectsBetweenRetires, Effect, _by_, actionsBy, byDesk, collects, collectsOf, drops, effectAt}
 use Rattle.rules.specs.History.{handBacks, handBacksOf, handsBack, isCollect, isHandBackWith, isRetireAttempt, isRetirementOf, isRetirementWith, noAction}
 use Rattle.rules.specs.History.{outOfRoom, retirements, retirementsOf, retires, swaps, takes}
@@ -66,16 +66,16 @@ own-out-of-room : (d : ℕ) (e : Effect) → e ≡ outOfRoom by d → byDesk d e
 own-out-of-room d e q = ap (byDesk d) q ∙ by-own-desk d outOfRoom
 
 -- The state keeps its form.
-pub formed-run : (H : Hall) (cs : List Call) (st : State) → Formed H st → Formed H (end (step H) st cs)
-formed-run H [] st formed = formed
-formed-run H (c ∷ cs) st formed = formed-run H cs (step H st c .after) (formed-step H st formed c)
+pub formed-run : (limits : Limits) (H : Hall) (cs : List Call) (st : State) → Formed H st → Formed H (end (step limits H) st cs)
+formed-run limits H [] st formed = formed
+formed-run limits H (c ∷ cs) st formed = formed-run limits H cs (step limits H st c .after) (formed-step limits H st formed c)
 
 -- No screen shows s before any of these calls.
-abbrev pub Hidden : Hall → ℕ → State → List Call → Type 0
-Hidden H s st [] = Unit {0}
-Hidden H s st (c ∷ cs) = (occurrences s (st .shown) ≡ 0) × Hidden H s (step H st c .after) cs
+abbrev pub Hidden : Limits → Hall → ℕ → State → List Call → Type 0
+Hidden limits H s st [] = Unit {0}
+Hidden limits H s st (c ∷ cs) = (occurrences s (st .shown) ≡ 0) × Hidden limits H s (step limits H st c .after) cs
 
-module _ (H : Hall) (d : ℕ) (hS : 1 ≤ allScreens H) (hd : 1 ≤ d) where
+module _ (limits : Limits) (H : Hall) (d : ℕ) (hS : 1 ≤ allScreens H) (hd : 1 ≤ d) where
   -- ---- Room.
 
   -- a desk that tries to retire has not done so since its last collect, and has room
@@ -87,44 +87,44 @@ module _ (H : Hall) (d : ℕ) (hS : 1 ≤ allScreens H) (hd : 1 ≤ d) where
       → OutOfRoom (allScreens H) D E → ⊥
   has-room f es D E sp tries r e = omega (arith, ap toNat (not-pending f es sp tries), r .total, e .room)
 
-  pub room-run : (cs : List Call) (st : State) (f : Bool) → Formed H st → Room (allScreens H) (toNat f) (deskOf st d) → Spaced d f (run (step H) st cs)
-      → (i : ℕ) → effectAt (run (step H) st cs) i ≡ outOfRoom by d → ⊥
+  pub room-run : (cs : List Call) (st : State) (f : Bool) → Formed H st → Room (allScreens H) (toNat f) (deskOf st d) → Spaced d f (run (step limits H) st cs)
+      → (i : ℕ) → effectAt (run (step limits H) st cs) i ≡ outOfRoom by d → ⊥
   room-run [] st f formed r sp i q = let differ = same-action refl q in true≢false (cc)
   room-run (c ∷ cs) st f formed r sp zero q =
       let lacks = own-out-of-room d _ q in
-      has-room f (run (step H) st (c ∷ cs)) (deskOf st d) (deskOf (step H st c .after) d) sp (ap isRetireAttempt lacks) r
-      (subst (DeskChangeIn H st d (deskOf (step H st c .after) d)) lacks (desk-change H st formed d hd c))
+      has-room f (run (step limits H) st (c ∷ cs)) (deskOf st d) (deskOf (step limits H st c .after) d) sp (ap isRetireAttempt lacks) r
+      (subst (DeskChangeIn H st d (deskOf (step limits H st c .after) d)) lacks (desk-change limits H st formed d hd c))
   room-run (c ∷ cs) st f formed r sp (suc i) q =
-      room-run cs (step H st c .after) (pending f (byDesk d (effectAt (run (step H) st (c ∷ cs)) 0))) (formed-step H st formed c)
-      (next (byDesk d (effectAt (run (step H) st (c ∷ cs)) 0)) refl (desk-change H st formed d hd c))
-      (spaced-next d f (record { call = c; answer = step H st c .answer }) (run (step H) (step H st c .after) cs) sp) i q
+      room-run cs (step limits H st c .after) (pending f (byDesk d (effectAt (run (step limits H) st (c ∷ cs)) 0))) (formed-step limits H st formed c)
+      (next (byDesk d (effectAt (run (step limits H) st (c ∷ cs)) 0)) refl (desk-change limits H st formed d hd c))
+      (spaced-next d f (record { call = c; answer = step limits H st c .answer }) (run (step limits H) (step limits H st c .after) cs) sp) i q
     where
-      kept : Same (deskOf st d) (deskOf (step H st c .after) d) → Room (allScreens H) (toNat f) (deskOf (step H st c .after) d)
+      kept : Same (deskOf st d) (deskOf (step limits H st c .after) d) → Room (allScreens H) (toNat f) (deskOf (step limits H st c .after) d)
       kept e = rw (e .after) (owe-room (allScreens H) (toNat f) (e .owed) (deskOf st d) r)
 
-      next : (a : Action) → byDesk d (effectAt (run (step H) st (c ∷ cs)) 0) ≡ a → DeskChangeIn H st d (deskOf (step H st c .after) d) a
-          → Room (allScreens H) (toNat (pending f a)) (deskOf (step H st c .after) d)
+      next : (a : Action) → byDesk d (effectAt (run (step limits H) st (c ∷ cs)) 0) ≡ a → DeskChangeIn H st d (deskOf (step limits H st c .after) d) a
+          → Room (allScreens H) (toNat (pending f a)) (deskOf (step limits H st c .after) d)
       next (takes s p v) q e = kept e
       next (drops s) q e = kept e
       next (swaps p) q e = kept e
       next (retires v) q e =
           rw (e .after)
-          (retire-room (allScreens H) (deskOf st d) (rw (not-pending f (run (step H) st (c ∷ cs)) sp (ap isRetireAttempt q)) at r))
+          (retire-room (allScreens H) (deskOf st d) (rw (not-pending f (run (step limits H) st (c ∷ cs)) sp (ap isRetireAttempt q)) at r))
       next outOfRoom q e =
-          absurd (has-room f (run (step H) st (c ∷ cs)) (deskOf st d) (deskOf (step H st c .after) d) sp (ap isRetireAttempt q) r e)
+          absurd (has-room f (run (step limits H) st (c ∷ cs)) (deskOf st d) (deskOf (step limits H st c .after) d) sp (ap isRetireAttempt q) r e)
       next collects q e = rw (e .after) (collect-room (allScreens H) (toNat f) (st .shown) (deskOf st d) hS (one-if-le f) (formed .screens) r)
       next (handsBack v) q e = rw (e .1 .after) (collect-room (allScreens H) (toNat f) (st .shown) (deskOf st d) hS (one-if-le f) (formed .screens) r)
       next noAction q e = kept e
 
   -- ---- The desk stays sound.
-  pub sound-step : (st : State) (c : Call) → Formed H st → Sound (allScreens H) (deskOf st d) → Sound (allScreens H) (deskOf (step H st c .after) d)
-  sound-step st c formed ok = at (byDesk d (effectIn H st c)) (desk-change H st formed d hd c)
+  pub sound-step : (st : State) (c : Call) → Formed H st → Sound (allScreens H) (deskOf st d) → Sound (allScreens H) (deskOf (step limits H st c .after) d)
+  sound-step st c formed ok = at (byDesk d (effectIn limits H st c)) (desk-change limits H st formed d hd c)
     where
-      kept : Same (deskOf st d) (deskOf (step H st c .after) d) → Sound (allScreens H) (deskOf (step H st c .after) d)
+      kept : Same (deskOf st d) (deskOf (step limits H st c .after) d) → Sound (allScreens H) (deskOf (step limits H st c .after) d)
       kept e = rw (e .after) (sound-owe (allScreens H) (e .owed) (deskOf st d) ok)
 
-      at : (a : Action) → DeskChangeIn H st d (deskOf (step H st c .after) d) a
-          → Sound (allScreens H) (deskOf (step H st c .after) d)
+      at : (a : Action) → DeskChangeIn H st d (deskOf (step limits H st c .after) d) a
+          → Sound (allScreens H) (deskOf (step limits H st c .after) d)
       at (takes s p v) e = kept e
       at (drops s) e = kept e
       at (swaps p) e = kept e
@@ -134,9 +134,9 @@ module _ (H : Hall) (d : ℕ) (hS : 1 ≤ allScreens H) (hd : 1 ≤ d) where
       at (handsBack v) e = rw (e .1 .after) (collect-sound (allScreens H) (st .shown) (deskOf st d) hS (formed .screens) ok)
       at noAction e = kept e
 
-  pub sound-run : (cs : List Call) (st : State) → Formed H st → Sound (allScreens H) (deskOf st d) → Sound (allScreens H) (deskOf (end (step H) st cs) d)
+  pub sound-run : (cs : List Call) (st : State) → Formed H st → Sound (allScreens H) (deskOf st d) → Sound (allScreens H) (deskOf (end (step limits H) st cs) d)
   sound-run [] st formed ok = ok
-  sound-run (c ∷ cs) st formed ok = sound-run cs (step H st c .after) (formed-step H st formed c) (sound-step st c formed ok)
+  sound-run (c ∷ cs) st formed ok = sound-run cs (step limits H st c .after) (formed-step limits H st formed c) (sound-step st c formed ok)
 
   -- ---- The counting law: the retirements of the sessions that pass a test are the hand-backs of such and the amount of them on the list.
   module _ (test : ℕ → Bool) (amount : Desk → ℕ) (owes : (o : ℕ) (D : Desk) → amount (owe D o) ≡ amount D)
@@ -146,22 +146,22 @@ module _ (H : Hall) (d : ℕ) (hS : 1 ≤ allScreens H) (hd : 1 ≤ d) where
       (back : (v : ℕ) (shown : List ℕ) (D : Desk) → length shown ≡ allScreens H → Orderly (allScreens H) D → collect (allScreens H) shown D .session ≡ v
       → (v ≡ 0 → ⊥) → amount (collect (allScreens H) shown D .after) + toNat (test v) ≡ amount D) where
     count-run : (cs : List Call) (st : State) → Formed H st → Sound (allScreens H) (deskOf st d)
-        → count (isRetirementWith test) (actionsBy d (run (step H) st cs)) + amount (deskOf st d)
-        ≡ count (isHandBackWith test) (actionsBy d (run (step H) st cs)) + amount (deskOf (end (step H) st cs) d)
+        → count (isRetirementWith test) (actionsBy d (run (step limits H) st cs)) + amount (deskOf st d)
+        ≡ count (isHandBackWith test) (actionsBy d (run (step limits H) st cs)) + amount (deskOf (end (step limits H) st cs) d)
     count-run [] st formed ok = refl
     count-run (c ∷ cs) st formed ok =
-        at (byDesk d (effectIn H st c)) (desk-change H st formed d hd c)
-        (actionsBy d (run (step H) (step H st c .after) cs)) (amount (deskOf (end (step H) (step H st c .after) cs) d))
-        (count-run cs (step H st c .after) (formed-step H st formed c) (sound-step st c formed ok))
+        at (byDesk d (effectIn limits H st c)) (desk-change limits H st formed d hd c)
+        (actionsBy d (run (step limits H) (step limits H st c .after) cs)) (amount (deskOf (end (step limits H) (step limits H st c .after) cs) d))
+        (count-run cs (step limits H st c .after) (formed-step limits H st formed c) (sound-step st c formed ok))
       where
         orderly : Orderly (allScreens H) (deskOf st d)
         orderly = sound-orderly (allScreens H) (deskOf st d) ok
 
-        kept : Same (deskOf st d) (deskOf (step H st c .after) d) → amount (deskOf (step H st c .after) d) ≡ amount (deskOf st d)
+        kept : Same (deskOf st d) (deskOf (step limits H st c .after) d) → amount (deskOf (step limits H st c .after) d) ≡ amount (deskOf st d)
         kept e = ap amount (e .after) ∙ owes (e .owed) (deskOf st d)
 
-        at : (a : Action) → DeskChangeIn H st d (deskOf (step H st c .after) d) a → (ds : List Action) (u : ℕ)
-            → count (isRetirementWith test) ds + amount (deskOf (step H st c .after) d) ≡ count (isHandBackWith test) ds + u
+        at : (a : Action) → DeskChangeIn H st d (deskOf (step limits H st c .after) d) a → (ds : List Action) (u : ℕ)
+            → count (isRetirementWith test) ds + amount (deskOf (step limits H st c .after) d) ≡ count (isHandBackWith test) ds + u
             → count (isRetirementWith test) (a ∷ ds) + amount (deskOf st d) ≡ count (isHandBackWith test) (a ∷ ds) + u
         at (takes s p v) e ds u ih = omega (arith, kept e)
         at (drops s) e ds u ih = omega (arith, kept e)
@@ -175,7 +175,7 @@ module _ (H : Hall) (d : ℕ) (hS : 1 ≤ allScreens H) (hd : 1 ≤ d) where
 
   -- of all sessions together
   pub slots-run : (cs : List Call) (st : State) → Formed H st → Sound (allScreens H) (deskOf st d)
-      → retirements d (run (step H) st cs) + usedSlots (deskOf st d) ≡ handBacks d (run (step H) st cs) + usedSlots (deskOf (end (step H) st cs) d)
+      → retirements d (run (step limits H) st cs) + usedSlots (deskOf st d) ≡ handBacks d (run (step limits H) st cs) + usedSlots (deskOf (end (step limits H) st cs) d)
   slots-run =
       count-run (λ session. true) usedSlots (λ o D. refl) (λ v D q. retire-slots D)
       (λ shown D hl ok q. omega (arith, rw q at (collect-slots (allScreens H) shown D hS hl ok)))
@@ -183,7 +183,7 @@ module _ (H : Hall) (d : ℕ) (hS : 1 ≤ allScreens H) (hd : 1 ≤ d) where
 
   -- session by session
   pub copies-run : (s : ℕ) → (s ≡ 0 → ⊥) → (cs : List Call) (st : State) → Formed H st → Sound (allScreens H) (deskOf st d)
-      → retirementsOf d s (run (step H) st cs) + copiesOn s (deskOf st d) ≡ handBacksOf d s (run (step H) st cs) + copiesOn s (deskOf (end (step H) st cs) d)
+      → retirementsOf d s (run (step limits H) st cs) + copiesOn s (deskOf st d) ≡ handBacksOf d s (run (step limits H) st cs) + copiesOn s (deskOf (end (step limits H) st cs) d)
   copies-run s hs =
       count-run (eqb s) (copiesOn s) (λ o D. refl) (retire-copies s)
       (λ shown D hl ok q. omega (arith, indicator-other s 0 hs, rw q at (collect-copies s (allScreens H) shown D hS hl ok hs)))
@@ -191,28 +191,28 @@ module _ (H : Hall) (d : ℕ) (hS : 1 ≤ allScreens H) (hd : 1 ≤ d) where
 
   -- ---- The hand-back in time, while no screen shows the session.
   pub due-run : (s : ℕ) (cs : List Call) (st : State) (B m : ℕ) → Formed H st → Sound (allScreens H) (deskOf st d)
-      → Due (allScreens H) s B m (deskOf st d) → Hidden H s st cs
-      → collectsOf d (run (step H) st cs) ≡ B → copiesOn s (deskOf (end (step H) st cs) d) ≤ retirementsOf d s (run (step H) st cs) + m
+      → Due (allScreens H) s B m (deskOf st d) → Hidden limits H s st cs
+      → collectsOf d (run (step limits H) st cs) ≡ B → copiesOn s (deskOf (end (step limits H) st cs) d) ≤ retirementsOf d s (run (step limits H) st cs) + m
   due-run s [] st B m formed ok du hid hc =
       omega (arith, due-end (allScreens H) s m (deskOf st d) hS (sound-orderly (allScreens H) (deskOf st d) ok) (rw (← hc) at du))
   due-run s (c ∷ cs) st B m formed ok du hid hc =
-      at (byDesk d (effectIn H st c)) (desk-change H st formed d hd c)
-      (actionsBy d (run (step H) (step H st c .after) cs)) (copiesOn s (deskOf (end (step H) (step H st c .after) cs) d)) B du hc
-      (λ B′ m′ du′ hc′. due-run s cs (step H st c .after) B′ m′ (formed-step H st formed c) (sound-step st c formed ok) du′ (hid .1) hc′)
+      at (byDesk d (effectIn limits H st c)) (desk-change limits H st formed d hd c)
+      (actionsBy d (run (step limits H) (step limits H st c .after) cs)) (copiesOn s (deskOf (end (step limits H) (step limits H st c .after) cs) d)) B du hc
+      (λ B′ m′ du′ hc′. due-run s cs (step limits H st c .after) B′ m′ (formed-step limits H st formed c) (sound-step st c formed ok) du′ (hid .1) hc′)
     where
-      kept : (B : ℕ) → Due (allScreens H) s B m (deskOf st d) → Same (deskOf st d) (deskOf (step H st c .after) d)
-          → Due (allScreens H) s B m (deskOf (step H st c .after) d)
+      kept : (B : ℕ) → Due (allScreens H) s B m (deskOf st d) → Same (deskOf st d) (deskOf (step limits H st c .after) d)
+          → Due (allScreens H) s B m (deskOf (step limits H st c .after) d)
       kept B du e = rw (e .after) (due-owe (allScreens H) s B m (e .owed) (deskOf st d) du)
 
       collected : (B v : ℕ) → Due (allScreens H) s (suc B) m (deskOf st d)
-          → Collects (allScreens H) (st .shown) v (deskOf st d) (deskOf (step H st c .after) d) → Due (allScreens H) s B m (deskOf (step H st c .after) d)
+          → Collects (allScreens H) (st .shown) v (deskOf st d) (deskOf (step limits H st c .after) d) → Due (allScreens H) s B m (deskOf (step limits H st c .after) d)
       collected B v du e =
           rw (e .after)
           (due-collect (allScreens H) s B m (st .shown) (deskOf st d) hS (formed .screens) (hid .0) (sound-orderly (allScreens H) (deskOf st d) ok) du)
 
-      at : (a : Action) → DeskChangeIn H st d (deskOf (step H st c .after) d) a → (ds : List Action) (u B : ℕ)
+      at : (a : Action) → DeskChangeIn H st d (deskOf (step limits H st c .after) d) a → (ds : List Action) (u B : ℕ)
           → Due (allScreens H) s B m (deskOf st d) → count isCollect (a ∷ ds) ≡ B
-          → ((B m : ℕ) → Due (allScreens H) s B m (deskOf (step H st c .after) d) → count isCollect ds ≡ B → u ≤ count (isRetirementOf s) ds + m)
+          → ((B m : ℕ) → Due (allScreens H) s B m (deskOf (step limits H st c .after) d) → count isCollect ds ≡ B → u ≤ count (isRetirementOf s) ds + m)
           → u ≤ count (isRetirementOf s) (a ∷ ds) + m
       at (takes x p v) e ds u B du hc later = omega (arith, later B m (kept B du e) (omega arith))
       at (drops x) e ds u B du hc later = omega (arith, later B m (kept B du e) (omega arith))

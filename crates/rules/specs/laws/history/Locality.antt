@@ -6,8 +6,9 @@ use mathlib.Core.Bool.{Bool, true, false, cond, _&&_, true≢false}
 use mathlib.Core.List.{List, [], _∷_}
 use lib.ListN.{getD, set}
 use lib.Seq.{getD-set-same, getD-set-other}
+use lib.Dec.{leb}
 use borrow.Author.Tests.{eqb-false}
-use Rattle.rules.specs.Hall.{Desk, Formed, Hall, State, TestedSlot, allScreens, deskOf, emptyDesk, screenIndex, withHeld, withShown}
+use Rattle.rules.specs.Hall.{Desk, Formed, Hall, Limits, State, TestedSlot, allScreens, deskOf, emptyDesk, screenIndex, withHeld, withShown}
 use Rattle.rules.specs.Locality.{OthersStay, SameView, StepsAlike, deskAt, positionAt, collectReads, readIfTested, screenAt}
 use Rattle.rules.specs.Steps.{Answer, Call, Collect, Collected, Drop, Retire, Step, Swap, Take, _sends_, accept, begin, changePosition, collect, decide, firstNo, handBack, inRange}
 use Rattle.rules.specs.Steps.{isNone, isRepeat, isSession, owe, performStep, questions, readScreens, retire, retireQuestions, scanAt, settle, step}
@@ -32,7 +33,7 @@ second-same : {xs ys : List ℕ} → xs ≡ ys → getD xs 1 0 ≡ getD ys 1 0
 second-same e = ap (λ (l : List ℕ). getD l 1 0) e
 
 -- ---- What a call leaves alone.
-module _ (H : Hall) (st : State) where
+module _ (limits : Limits) (H : Hall) (st : State) where
   other-desk-stays : (held : List ℕ) (d : ℕ) (new : Desk) → IsDesk H d → (x : ℕ) → (x ≡ d → ⊥)
       → deskAt H (record { held = held; shown = st .shown; desks = set (st .desks) (d - 1) new }) x ≡ deskAt H st x
   other-desk-stays held d new hd x other =
@@ -56,40 +57,40 @@ module _ (H : Hall) (st : State) where
       let hq = in-range q (H .positions) h in
       getD-set-other (st .held) (p - 1) (q - 1) v 0 (λ m. other (omega (arith, hp .0, hq .0))))
 
-  pub others-stay : (call : Call) → OthersStay H call st (step H st call .after)
-  others-stay call = by-number (firstNo (questions H st call)) (call .desk) (call .step) refl
+  pub others-stay : (call : Call) → OthersStay H call st (step limits H st call .after)
+  others-stay call = by-number (firstNo (questions limits H st call)) (call .desk) (call .step) refl
     where
       unchanged : (d : ℕ) (s : Step) → OthersStay H (d sends s) st st
       unchanged d s = record { desks = λ x other. refl; screens = λ x y free. refl; positions = λ q free. refl }
 
-      by-number : (n d : ℕ) (s : Step) → firstNo (questions H st (d sends s)) ≡ n
+      by-number : (n d : ℕ) (s : Step) → firstNo (questions limits H st (d sends s)) ≡ n
           → let outcome = performStep H st d s in
           OthersStay H (d sends s) st (decide n st (outcome .session) (outcome .after) .after)
       by-number zero d (Take c p) e =
-          let asked = take-asked H st d c p e in
+          let asked = take-asked limits H st d c p e in
           record {
             desks = λ x other. refl;
             screens = λ x y free. other-screen-stays d c _ (asked .desk) (asked .screen) x y (λ own same. eqb-false c y (free own) (sym same));
             positions = λ q free. refl;
           }
       by-number zero d (Drop c) e =
-          let asked = drop-asked H st d c e in
+          let asked = drop-asked limits H st d c e in
           record {
             desks = λ x other. refl;
             screens = λ x y free. other-screen-stays d c 0 (asked .desk) (asked .screen) x y (λ own same. eqb-false c y (free own) (sym same));
             positions = λ q free. refl;
           }
       by-number zero d (Swap p v) e =
-          let asked = swap-asked H st d p v e in
+          let asked = swap-asked limits H st d p v e in
           cond-both (OthersStay H (d sends Swap p v) st) (isRepeat (getD (st .held) (p - 1) 0) v) (unchanged d (Swap p v)) (record {
             desks = other-desk-stays (set (st .held) (p - 1) v) d _ (asked .desk);
             screens = λ x y free. refl;
             positions = λ q free. other-position-stays p v (asked .position) q (λ same. eqb-false p q free (sym same));
           })
       by-number zero d Retire e =
-          record { desks = other-desk-stays (st .held) d _ (desk-asked H st (d sends Retire) e); screens = λ x y free. refl; positions = λ q free. refl }
+          record { desks = other-desk-stays (st .held) d _ (desk-asked limits H st (d sends Retire) e); screens = λ x y free. refl; positions = λ q free. refl }
       by-number zero d Collect e =
-          record { desks = other-desk-stays (st .held) d _ (desk-asked H st (d sends Collect) e); screens = λ x y free. refl; positions = λ q free. refl }
+          record { desks = other-desk-stays (st .held) d _ (desk-asked limits H st (d sends Collect) e); screens = λ x y free. refl; positions = λ q free. refl }
       by-number (suc n) d s e = unchanged d s
 
 -- ---- What a call's answer and its own desk depend on.
@@ -103,7 +104,7 @@ scan-reads (slot ∷ slots) left right D e = ap (λ (sessions : List ℕ). readS
 pub collect-reads : (S : ℕ) (left right : List ℕ) (D : Desk) → collectReads left D ≡ collectReads right D → collect S left D ≡ collect S right D
 collect-reads S left right D e = ap (λ (E : Desk). handBack (settle S E)) (scan-reads (begin D .tested) _ _ (begin D) e)
 
-module _ (H : Hall) (A B : State) where
+module _ (limits : Limits) (H : Hall) (A B : State) where
   -- Where the hall has them, the words themselves are the same.
   same-desk : (d : ℕ) → deskAt H A d ≡ deskAt H B d → inRange d (H .desks) ≡ true → deskOf A d ≡ deskOf B d
   same-desk d e h = cond-true-injective (inRange d (H .desks)) _ _ emptyDesk h e
@@ -117,7 +118,7 @@ module _ (H : Hall) (A B : State) where
   same-position p e h = cond-true-injective (inRange p (H .positions)) _ _ 0 h e
 
   -- A call is asked the same in both, so it is refused by the same number or accepted in both.
-  asked-alike : (d : ℕ) (s : Step) → SameView H A B (d sends s) → firstNo (questions H A (d sends s)) ≡ firstNo (questions H B (d sends s))
+  asked-alike : (d : ℕ) (s : Step) → SameView H A B (d sends s) → firstNo (questions limits H A (d sends s)) ≡ firstNo (questions limits H B (d sends s))
   asked-alike d (Take c p) view =
       cond-cong (inRange d (H .desks)) _ _ 6 (λ hd.
       cond-cong (inRange c (H .screens)) _ _ 7 (λ hc.
@@ -129,7 +130,8 @@ module _ (H : Hall) (A B : State) where
       cond-cong (inRange c (H .screens)) _ _ 7 (λ hc. ap (λ (shown : ℕ). cond (isSession shown) 0 11) (same-screen d c (first-same (view .named)) hd hc)))
   asked-alike d (Swap p v) view =
       cond-cong (inRange d (H .desks)) _ _ 6 (λ hd.
-      cond-cong (inRange p (H .positions)) _ _ 8 (λ hp. ap (λ (D : Desk). cond (isNone (D .owed)) 0 12) (same-desk d (view .desk) hd)))
+      cond-cong (inRange p (H .positions)) _ _ 8 (λ hp.
+      ap (λ (D : Desk). cond (leb v (limits .sessions)) (cond (isNone (D .owed)) 0 12) 22) (same-desk d (view .desk) hd)))
   asked-alike d Retire view =
       cond-cong (inRange d (H .desks)) _ _ 6 (λ hd. ap (λ (D : Desk). firstNo (retireQuestions (allScreens H) D)) (same-desk d (view .desk) hd))
   asked-alike d Collect view = refl
@@ -160,8 +162,8 @@ module _ (H : Hall) (A B : State) where
         getD-set-same (A .held) (p - 1) v 0 (omega (arith, formedA .positions))
         ∙ sym (getD-set-same (B .held) (p - 1) v 0 (omega (arith, formedB .positions))))
 
-    pub steps-alike : (call : Call) → SameView H A B call → StepsAlike H call (step H A call) (step H B call)
-    steps-alike call view = from (firstNo (questions H B call)) (asked-alike (call .desk) (call .step) view) refl
+    pub steps-alike : (call : Call) → SameView H A B call → StepsAlike H call (step limits H A call) (step limits H B call)
+    steps-alike call view = from (firstNo (questions limits H B call)) (asked-alike (call .desk) (call .step) view) refl
       where
         accepted : {v w : ℕ} → v ≡ w → _≡_ {A = Answer} (record { number = 0; session = v }) (record { number = 0; session = w })
         accepted e = λ i. record { number = 0; session = e i }
@@ -193,12 +195,12 @@ module _ (H : Hall) (A B : State) where
               named = λ i. position-stored p v (asked .position) i ∷ [];
             }
 
-        by-number : (n d : ℕ) (s : Step) → SameView H A B (d sends s) → firstNo (questions H A (d sends s)) ≡ n
+        by-number : (n d : ℕ) (s : Step) → SameView H A B (d sends s) → firstNo (questions limits H A (d sends s)) ≡ n
             → let left = performStep H A d s in
             let right = performStep H B d s in
             StepsAlike H (d sends s) (decide n A (left .session) (left .after)) (decide n B (right .session) (right .after))
         by-number zero d (Take c p) view e =
-            let asked = take-asked H A d c p e in
+            let asked = take-asked limits H A d c p e in
             let session = same-position p (second-same (view .named)) (range-holds p (H .positions) (asked .position)) in
             record {
               answer = accepted session;
@@ -206,22 +208,22 @@ module _ (H : Hall) (A B : State) where
               named = λ i. screen-stored-alike d c _ _ (asked .desk) (asked .screen) session i ∷ second-same (view .named) i ∷ [];
             }
         by-number zero d (Drop c) view e =
-            let asked = drop-asked H A d c e in
+            let asked = drop-asked limits H A d c e in
             record {
               answer = accepted (same-screen d c (first-same (view .named)) (range-holds d (H .desks) (asked .desk)) (range-holds c (H .screens) (asked .screen)));
               desk = view .desk;
               named = λ i. screen-stored-alike d c 0 0 (asked .desk) (asked .screen) refl i ∷ [];
             }
         by-number zero d (Swap p v) view e =
-            let asked = swap-asked H A d p v e in
+            let asked = swap-asked limits H A d p v e in
             let old = same-position p (first-same (view .named)) (range-holds p (H .positions) (asked .position)) in
             rw (ap (λ (session : ℕ). isRepeat session v) old) (swap-alike d p v view asked old (isRepeat (getD (B .held) (p - 1) 0) v))
         by-number zero d Retire view e =
-            let hd = desk-asked H A (d sends Retire) e in
+            let hd = desk-asked limits H A (d sends Retire) e in
             let same = same-desk d (view .desk) (range-holds d (H .desks) hd) in
             record { answer = accepted (ap (λ (D : Desk). D .owed) same); desk = desk-stored d _ _ (A .held) (B .held) hd (ap retire same); named = refl }
         by-number zero d Collect view e =
-            let hd = desk-asked H A (d sends Collect) e in
+            let hd = desk-asked limits H A (d sends Collect) e in
             let same = collect-alike d (range-holds d (H .desks) hd) view in
             record {
               answer = accepted (ap (λ (collected : Collected). collected .session) same);
@@ -230,5 +232,5 @@ module _ (H : Hall) (A B : State) where
             }
         by-number (suc n) d s view e = record { answer = refl; desk = view .desk; named = view .named }
 
-        from : (n : ℕ) → firstNo (questions H A call) ≡ n → firstNo (questions H B call) ≡ n → StepsAlike H call (step H A call) (step H B call)
+        from : (n : ℕ) → firstNo (questions limits H A call) ≡ n → firstNo (questions limits H B call) ≡ n → StepsAlike H call (step limits H A call) (step limits H B call)
         from n e f = rw (e, f) (by-number n (call .desk) (call .step) view e)

@@ -10,7 +10,7 @@ use lib.ListN.{length, getD, take, set}
 use lib.Dec.{eqb}
 use borrow.Author.Tests.{eqb-true}
 use Rattle.rules.specs.Closing.{putAt, stepPuts}
-use Rattle.rules.specs.Hall.{Desk, Formed, Hall, State, allScreens, deskOf, emptyDesk}
+use Rattle.rules.specs.Hall.{Desk, Formed, Hall, Limits, State, allScreens, deskOf, emptyDesk}
 use Rattle.rules.specs.History.{Effect, _by_, actionOf, collects, effectAt, handsBack, isHandBackOf, noAction, outOfRoom, swaps}
 use Rattle.rules.specs.Lists.{occurrences, toNat}
 use Rattle.rules.specs.Steps.{Call, Collect, Drop, Retire, Step, Swap, Take, _sends_, changePosition, collect, decide, end, firstNo, isRepeat, owe, performStep, questions, retire, run, step}
@@ -64,7 +64,7 @@ module _ (s : ℕ) (hs : s ≡ 0 → ⊥) where
   references-set (D ∷ Ds) (suc i) E h = omega (arith, references-set Ds i E (omega arith))
 
   -- ---- One call.
-  module _ (H : Hall) (some : 1 ≤ allScreens H) where
+  module _ (limits : Limits) (H : Hall) (some : 1 ≤ allScreens H) where
     hand-back-counted : (v : ℕ) (b : Bool) → eqb v 0 ≡ b → toNat (isHandBackOf s (cond b collects (handsBack v))) ≡ indicator s v
     hand-back-counted v true q = sym (ap (indicator s) (eqb-true v 0 q) ∙ indicator-other s 0 hs)
     hand-back-counted v false q = refl
@@ -74,7 +74,7 @@ module _ (s : ℕ) (hs : s ≡ 0 → ⊥) where
     refused-retire-counted false = refl
 
     -- what was there and what was put is what is there and what was handed back
-    references-balance : (st : State) → Formed H st → ((d : ℕ) → 1 ≤ d → Orderly (allScreens H) (deskOf st d)) → (n d : ℕ) (w : Step) → firstNo (questions H st (d sends w)) ≡ n
+    references-balance : (st : State) → Formed H st → ((d : ℕ) → 1 ≤ d → Orderly (allScreens H) (deskOf st d)) → (n d : ℕ) (w : Step) → firstNo (questions limits H st (d sends w)) ≡ n
         → let outcome = performStep H st d w in
         let r = decide n st (outcome .session) (outcome .after) in
         references s (r .after) + toNat (isHandBackOf s (actionOf w (r .answer .number) (r .answer .session))) ≡ references s st + indicator s (stepPuts w (r .answer .number) (r .answer .session))
@@ -86,7 +86,7 @@ module _ (s : ℕ) (hs : s ≡ 0 → ⊥) where
             → references s (cond b st (changePosition st d p v)) + toNat (isHandBackOf s (cond b noAction (swaps p))) ≡ references s st + indicator s (cond b 0 v)
         by-repeat true = omega (arith, indicator-other s 0 hs)
         by-repeat false =
-            let t = swap-asked H st d p v e in
+            let t = swap-asked limits H st d p v e in
             omega (
               arith,
               occurs-set (st .held) (p - 1) v (omega (arith, formed .positions)),
@@ -95,7 +95,7 @@ module _ (s : ℕ) (hs : s ≡ 0 → ⊥) where
               indicator-other s 0 hs,
             )
     references-balance st formed ok zero d Retire e =
-        let t = retire-asked H st d e in
+        let t = retire-asked limits H st d e in
         omega (
           arith,
           references-set (st .desks) (d - 1) (retire (deskOf st d)) (omega (arith, formed .desks)),
@@ -103,7 +103,7 @@ module _ (s : ℕ) (hs : s ≡ 0 → ⊥) where
           indicator-other s 0 hs,
         )
     references-balance st formed ok zero d Collect e =
-        let r = desk-asked H st (d sends Collect) e in
+        let r = desk-asked limits H st (d sends Collect) e in
         let after = collect (allScreens H) (st .shown) (deskOf st d) .after in
         let session = collect (allScreens H) (st .shown) (deskOf st d) .session in
         omega (
@@ -137,30 +137,30 @@ module _ (s : ℕ) (hs : s ≡ 0 → ⊥) where
 
     -- ---- A list of calls: s has at most one reference, and each swap that puts it before index h finds none.
     pub none-after-hand-back : (cs : List Call) (st : State) → Formed H st → ((d : ℕ) → 1 ≤ d → Sound (allScreens H) (deskOf st d)) → references s st ≤ 1
-        → (h d : ℕ) → effectAt (run (step H) st cs) h ≡ handsBack s by d
-        → ((i : ℕ) → i < h → putAt (run (step H) st cs) i ≡ s → references s (end (step H) st (take i cs)) ≡ 0)
-        → references s (end (step H) st (take (suc h) cs)) ≡ 0
+        → (h d : ℕ) → effectAt (run (step limits H) st cs) h ≡ handsBack s by d
+        → ((i : ℕ) → i < h → putAt (run (step limits H) st cs) i ≡ s → references s (end (step limits H) st (take i cs)) ≡ 0)
+        → references s (end (step limits H) st (take (suc h) cs)) ≡ 0
     none-after-hand-back [] st formed ok single h d back fresh = absurd (let differ = same-action refl back in true≢false (cc))
     none-after-hand-back (c ∷ cs) st formed ok single zero d back fresh =
         omega (
           arith,
-          references-balance st formed (λ e he. sound-orderly (allScreens H) (deskOf st e) (ok e he)) (firstNo (questions H st c)) (c .desk) (c .step) refl,
-          put-or-back (c .step) (step H st c .answer .number) (step H st c .answer .session),
+          references-balance st formed (λ e he. sound-orderly (allScreens H) (deskOf st e) (ok e he)) (firstNo (questions limits H st c)) (c .desk) (c .step) refl,
+          put-or-back (c .step) (step limits H st c .answer .number) (step limits H st c .answer .session),
           ap (λ (e : Effect). toNat (isHandBackOf s (e .action))) back,
           indicator-same s,
         )
     none-after-hand-back (c ∷ cs) st formed ok single (suc h) d back fresh =
-        none-after-hand-back cs (step H st c .after) (formed-step H st formed c) (λ e he. sound-step H e some he st c formed (ok e he)) after-at-most-one h d back
+        none-after-hand-back cs (step limits H st c .after) (formed-step limits H st formed c) (λ e he. sound-step limits H e some he st c formed (ok e he)) after-at-most-one h d back
         (λ i l q. fresh (suc i) (omega arith) q)
       where
-        after-at-most-one : references s (step H st c .after) ≤ 1
-        after-at-most-one = by-put (ℕ-discrete (putAt (run (step H) st (c ∷ cs)) 0) s)
+        after-at-most-one : references s (step limits H st c .after) ≤ 1
+        after-at-most-one = by-put (ℕ-discrete (putAt (run (step limits H) st (c ∷ cs)) 0) s)
           where
-            after-bounded : references s (step H st c .after) ≤ references s st + indicator s (putAt (run (step H) st (c ∷ cs)) 0)
+            after-bounded : references s (step limits H st c .after) ≤ references s st + indicator s (putAt (run (step limits H) st (c ∷ cs)) 0)
             after-bounded =
                 omega
-                (arith, references-balance st formed (λ e he. sound-orderly (allScreens H) (deskOf st e) (ok e he)) (firstNo (questions H st c)) (c .desk) (c .step) refl)
+                (arith, references-balance st formed (λ e he. sound-orderly (allScreens H) (deskOf st e) (ok e he)) (firstNo (questions limits H st c)) (c .desk) (c .step) refl)
 
-            by-put : Dec (putAt (run (step H) st (c ∷ cs)) 0 ≡ s) → references s (step H st c .after) ≤ 1
-            by-put (yes t) = omega (arith, after-bounded, fresh 0 (omega arith) t, indicator-at-most-one s (putAt (run (step H) st (c ∷ cs)) 0))
-            by-put (no t) = omega (arith, after-bounded, indicator-other s (putAt (run (step H) st (c ∷ cs)) 0) (λ u. t (sym u)))
+            by-put : Dec (putAt (run (step limits H) st (c ∷ cs)) 0 ≡ s) → references s (step limits H st c .after) ≤ 1
+            by-put (yes t) = omega (arith, after-bounded, fresh 0 (omega arith) t, indicator-at-most-one s (putAt (run (step limits H) st (c ∷ cs)) 0))
+            by-put (no t) = omega (arith, after-bounded, indicator-other s (putAt (run (step limits H) st (c ∷ cs)) 0) (λ u. t (sym u)))

@@ -8,7 +8,7 @@ use mathlib.Core.List.{List, [], _∷_}
 use lib.ListN.{length, take, drop}
 use lib.Seq.{take-nil}
 use borrow.Author.Tests.{ne-eqb}
-use Rattle.rules.specs.Hall.{Hall, State}
+use Rattle.rules.specs.Hall.{Hall, Limits, State}
 use Rattle.rules.specs.History.{Action, Effect, actionsBy, byDesk, collects, drops, effectAt, handBacksOf, handsBack, isHandBackOf, isRetirementOf}
 use Rattle.rules.specs.History.{noAction, outOfRoom, retirementsOf, retires, swaps, takes}
 use Rattle.rules.specs.Lists.{count, toNat}
@@ -76,24 +76,24 @@ one-index-more Q i n here earlier m a b = by-index (ℕ-discrete m n)
     by-index (no t) = earlier m a (omega arith)
 
 -- every effect of a run is in the hall
-pub range-run : (H : Hall) (cs : List Call) (st : State) (m : ℕ) → InHall H (effectAt (run (step H) st cs) m)
-range-run H [] st m = tt
-range-run H (c ∷ cs) st zero = range-step H st c
-range-run H (c ∷ cs) st (suc m) = range-run H cs (step H st c .after) m
+pub range-run : (limits : Limits) (H : Hall) (cs : List Call) (st : State) (m : ℕ) → InHall H (effectAt (run (step limits H) st cs) m)
+range-run limits H [] st m = tt
+range-run limits H (c ∷ cs) st zero = range-step limits H st c
+range-run limits H (c ∷ cs) st (suc m) = range-run limits H cs (step limits H st c .after) m
 
 -- so what no such effect is has the count 0
-none-counted : (H : Hall) (d : ℕ) (test : Action → Bool) → ((e : Effect) → InHall H e → test (byDesk d e) ≡ false) → (cs : List Call) (st : State)
-    → count test (actionsBy d (run (step H) st cs)) ≡ 0
-none-counted H d test fails [] st = refl
-none-counted H d test fails (c ∷ cs) st =
+none-counted : (limits : Limits) (H : Hall) (d : ℕ) (test : Action → Bool) → ((e : Effect) → InHall H e → test (byDesk d e) ≡ false) → (cs : List Call) (st : State)
+    → count test (actionsBy d (run (step limits H) st cs)) ≡ 0
+none-counted limits H d test fails [] st = refl
+none-counted limits H d test fails (c ∷ cs) st =
     omega (
       arith,
-      ap toNat (fails (effectAt (run (step H) st (c ∷ cs)) 0) (range-step H st c)),
-      none-counted H d test fails cs (step H st c .after),
+      ap toNat (fails (effectAt (run (step limits H) st (c ∷ cs)) 0) (range-step limits H st c)),
+      none-counted limits H d test fails cs (step limits H st c .after),
     )
 
 -- A desk that the hall does not have does nothing.
-module _ (H : Hall) (d : ℕ) (outside : IsDesk H d → ⊥) where
+module _ (limits : Limits) (H : Hall) (d : ℕ) (outside : IsDesk H d → ⊥) where
   no-action : (a : Action) → Range H d a → a ≡ noAction
   no-action (takes c p v) r = absurd (outside (r .0))
   no-action (drops c) r = absurd (outside (r .0))
@@ -112,8 +112,8 @@ module _ (H : Hall) (d : ℕ) (outside : IsDesk H d → ⊥) where
       by-desk (its-own same own) = own ∙ no-action (e .action) (subst (λ (n : ℕ). Range H n (e .action)) same r)
 
   pub outsider-counts : (test : Action → Bool) → test noAction ≡ false → (cs : List Call) (st : State)
-      → count test (actionsBy d (run (step H) st cs)) ≡ 0
-  outsider-counts test none = none-counted H d test (λ e r. ap test (outsider e r) ∙ none)
+      → count test (actionsBy d (run (step limits H) st cs)) ≡ 0
+  outsider-counts test none = none-counted limits H d test (λ e r. ap test (outsider e r) ∙ none)
 
 -- Session 0 is neither retired nor handed back.
 range-not-zero : (H : Hall) (d : ℕ) (e : Effect) → InHall H e → (isRetirementOf 0 (byDesk d e) ≡ false) × (isHandBackOf 0 (byDesk d e) ≡ false)
@@ -133,9 +133,9 @@ range-not-zero H d e r = by-desk (own-cases d e)
     by-desk (another's none) = (ap (isRetirementOf 0) none, ap (isHandBackOf 0) none)
     by-desk (its-own same own) = (ap (isRetirementOf 0) own ∙ not-zero (e .action) r .0, ap (isHandBackOf 0) own ∙ not-zero (e .action) r .1)
 
-pub no-session-zero : (H : Hall) (cs : List Call) (st : State) (d : ℕ)
-    → (retirementsOf d 0 (run (step H) st cs) ≡ 0) × (handBacksOf d 0 (run (step H) st cs) ≡ 0)
-no-session-zero H cs st d = (
-  none-counted H d (isRetirementOf 0) (λ e r. range-not-zero H d e r .0) cs st,
-  none-counted H d (isHandBackOf 0) (λ e r. range-not-zero H d e r .1) cs st,
+pub no-session-zero : (limits : Limits) (H : Hall) (cs : List Call) (st : State) (d : ℕ)
+    → (retirementsOf d 0 (run (step limits H) st cs) ≡ 0) × (handBacksOf d 0 (run (step limits H) st cs) ≡ 0)
+no-session-zero limits H cs st d = (
+  none-counted limits H d (isRetirementOf 0) (λ e r. range-not-zero H d e r .0) cs st,
+  none-counted limits H d (isHandBackOf 0) (λ e r. range-not-zero H d e r .1) cs st,
 )

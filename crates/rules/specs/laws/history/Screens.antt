@@ -7,7 +7,7 @@ use mathlib.Core.List.{List, [], _∷_}
 use lib.ListN.{length, take, getD, set}
 use lib.Dec.{eqb}
 use borrow.Author.Tests.{eqb-true, eqb-false}
-use Rattle.rules.specs.Hall.{Formed, Hall, State, screenIndex, withShown}
+use Rattle.rules.specs.Hall.{Formed, Hall, Limits, State, screenIndex, withShown}
 use Rattle.rules.specs.History.{Action, Effect, Shows, _by_, collects, drops, handsBack, noAction, outOfRoom, retires, swaps, takes}
 use Rattle.rules.specs.Lists.{occurrences}
 use Rattle.rules.specs.Steps.{Call, end, run, step}
@@ -44,7 +44,7 @@ still-shown H f n x v k no-drop = record {
   };
 }
 
-module _ (H : Hall) (f : ℕ → Effect) (n : ℕ) (st : State) (formed : Formed H st) (before : AllShown H f n st) where
+module _ (limits : Limits) (H : Hall) (f : ℕ → Effect) (n : ℕ) (st : State) (formed : Formed H st) (before : AllShown H f n st) where
   after-take : (d c p v : ℕ) (after : State) → Took H st d c p v after → f n ≡ takes c p v by d → AllShown H f (suc n) (withShown st (screenIndex H d c) v)
   after-take d c p v after k q x nz =
       subst (ShownBy H f (suc n) x) (sym value) (by-cases (eqb (screenIndex H d c) x) refl (subst (λ (w : ℕ). w ≡ 0 → ⊥) value nz))
@@ -81,8 +81,8 @@ module _ (H : Hall) (f : ℕ → Effect) (n : ℕ) (st : State) (formed : Formed
               let screens : c ≡ before x nz .screen = cc in
               eqb-false (screenIndex H d c) x t ((λ i. screenIndex H (same-desk q u i) (screens i)) ∙ before x nz .index)
 
-  pub all-shown-step : (c : Call) → f n ≡ effectIn H st c → AllShown H f (suc n) (step H st c .after)
-  all-shown-step c q = at (f n .desk) (f n .action) (step H st c .after) refl (state-change-as H st c (f n) (sym q))
+  pub all-shown-step : (c : Call) → f n ≡ effectIn limits H st c → AllShown H f (suc n) (step limits H st c .after)
+  all-shown-step c q = at (f n .desk) (f n .action) (step limits H st c .after) refl (state-change-as limits H st c (f n) (sym q))
     where
       -- an action that is no drop, and no screen changes
       unchanged : (d : ℕ) (a : Action) (after : State) → f n ≡ a by d → isDrop a ≡ false → after .shown ≡ st .shown → AllShown H f (suc n) after
@@ -108,16 +108,16 @@ occurrences-none : (s : ℕ) (xs : List ℕ) → ((x : ℕ) → getD xs x 0 ≡ 
 occurrences-none s [] h = refl
 occurrences-none s (y ∷ xs) h = omega (arith, indicator-other s y (λ q. h 0 (sym q)), occurrences-none s xs (λ x. h (suc x)))
 
-module _ (H : Hall) (f : ℕ → Effect) where
+module _ (limits : Limits) (H : Hall) (f : ℕ → Effect) where
   -- where no screen shows s before any of k calls
-  pub hidden-run : (s : ℕ) → (s ≡ 0 → ⊥) → (k : ℕ) (cs : List Call) (st : State) (n : ℕ) → Gives f n (run (step H) st cs) → Formed H st → AllShown H f n st
-      → ((m d c : ℕ) → n ≤ m → m < n + k → Shows f m d c s → ⊥) → Hidden H s st (take k cs)
+  pub hidden-run : (s : ℕ) → (s ≡ 0 → ⊥) → (k : ℕ) (cs : List Call) (st : State) (n : ℕ) → Gives f n (run (step limits H) st cs) → Formed H st → AllShown H f n st
+      → ((m d c : ℕ) → n ≤ m → m < n + k → Shows f m d c s → ⊥) → Hidden limits H s st (take k cs)
   hidden-run s hs zero cs st n gives formed shown hid = tt
   hidden-run s hs (suc k) [] st n gives formed shown hid = tt
   hidden-run s hs (suc k) (c ∷ cs) st n gives formed shown hid = (
     occurrences-none s (st .shown) nowhere,
-    hidden-run s hs k cs (step H st c .after) (suc n) (gives-rest gives) (formed-step H st formed c)
-        (all-shown-step H f n st formed shown c (gives-first gives)) (λ m d c a b. hid m d c (omega arith) (omega arith)),
+    hidden-run s hs k cs (step limits H st c .after) (suc n) (gives-rest gives) (formed-step limits H st formed c)
+        (all-shown-step limits H f n st formed shown c (gives-first gives)) (λ m d c a b. hid m d c (omega arith) (omega arith)),
   )
     where
       nowhere : (x : ℕ) → getD (st .shown) x 0 ≡ s → ⊥
@@ -125,11 +125,11 @@ module _ (H : Hall) (f : ℕ → Effect) where
           let k = shown x (λ z. hs (sym e ∙ z)) in
           hid n (k .desk) (k .screen) (omega arith) (omega arith) (subst (Shows f n (k .desk) (k .screen)) e (k .shows))
 
-  pub all-shown-run : (k : ℕ) (cs : List Call) (st : State) (n : ℕ) → Gives f n (run (step H) st cs) → Formed H st → AllShown H f n st → k ≤ length cs
-      → AllShown H f (n + k) (end (step H) st (take k cs))
+  pub all-shown-run : (k : ℕ) (cs : List Call) (st : State) (n : ℕ) → Gives f n (run (step limits H) st cs) → Formed H st → AllShown H f n st → k ≤ length cs
+      → AllShown H f (n + k) (end (step limits H) st (take k cs))
   all-shown-run zero cs st n gives formed shown l = subst (λ (m : ℕ). AllShown H f m st) (omega arith) shown
   all-shown-run (suc k) [] st n gives formed shown l = absurd (omega arith)
   all-shown-run (suc k) (c ∷ cs) st n gives formed shown l =
-      subst (λ (m : ℕ). AllShown H f m (end (step H) (step H st c .after) (take k cs))) (omega arith)
-      (all-shown-run k cs (step H st c .after) (suc n) (gives-rest gives) (formed-step H st formed c)
-      (all-shown-step H f n st formed shown c (gives-first gives)) (omega arith))
+      subst (λ (m : ℕ). AllShown H f m (end (step limits H) (step limits H st c .after) (take k cs))) (omega arith)
+      (all-shown-run k cs (step limits H st c .after) (suc n) (gives-rest gives) (formed-step limits H st formed c)
+      (all-shown-step limits H f n st formed shown c (gives-first gives)) (omega arith))

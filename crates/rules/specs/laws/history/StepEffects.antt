@@ -9,7 +9,7 @@ use lib.ListN.{length, getD, set, length-set}
 use lib.Seq.{getD-set-same, getD-set-other, set-getD}
 use lib.Dec.{leb, ltb, eqb}
 use borrow.Author.Tests.{eqb-true, eqb-false, ltb-true, ltb-false, leb-true, not-true, le-leb}
-use Rattle.rules.specs.Hall.{Desk, Formed, Hall, State, allScreens, deskOf, emptyDesk, screenIndex, usedSlots, withDesk, withShown}
+use Rattle.rules.specs.Hall.{Desk, Formed, Hall, Limits, State, allScreens, deskOf, emptyDesk, screenIndex, usedSlots, withDesk, withShown}
 use Rattle.rules.specs.History.{Action, Effect, _by_, actionOf, byDesk, collects, drops, handsBack, noAction, outOfRoom, retires, swaps, takes}
 use Rattle.rules.specs.Steps.{Call, Collect, Drop, Question, Retire, Step, Swap, Take, _sends_, ask, changePosition, collect, decide, firstNo, inRange, isRepeat, owe, performStep}
 use Rattle.rules.specs.Steps.{questions, retire, step}
@@ -25,11 +25,11 @@ abbrev pub IsPosition : Hall → ℕ → Type 0
 IsPosition H p = (1 ≤ p) × (p ≤ H .positions)
 
 -- What a call did.
-abbrev pub actionIn : Hall → State → Call → Action
-actionIn H st call = actionOf (call .step) (step H st call .answer .number) (step H st call .answer .session)
+abbrev pub actionIn : Limits → Hall → State → Call → Action
+actionIn limits H st call = actionOf (call .step) (step limits H st call .answer .number) (step limits H st call .answer .session)
 
-abbrev pub effectIn : Hall → State → Call → Effect
-effectIn H st call = actionIn H st call by call .desk
+abbrev pub effectIn : Limits → Hall → State → Call → Effect
+effectIn limits H st call = actionIn limits H st call by call .desk
 
 -- ---- The questions that an accepted call has been asked.
 pub in-range : (n m : ℕ) → inRange n m ≡ true → (1 ≤ n) × (n ≤ m)
@@ -88,14 +88,14 @@ pub record RetireAsked (H : Hall) (st : State) (d : ℕ) : Type 0 where
   pub owes : deskOf st d .owed ≡ 0 → ⊥
   pub room : usedSlots (deskOf st d) < 2 * allScreens H
 
-module _ (H : Hall) (st : State) where
+module _ (limits : Limits) (H : Hall) (st : State) where
   -- the desk of any call
-  pub desk-asked : (call : Call) → firstNo (questions H st call) ≡ 0 → IsDesk H (call .desk)
+  pub desk-asked : (call : Call) → firstNo (questions limits H st call) ≡ 0 → IsDesk H (call .desk)
   desk-asked call e = in-range (call .desk) (H .desks) (holds (inRange (call .desk) (H .desks)) _ 5 e .0)
 
-  pub take-asked : (d c p : ℕ) → firstNo (questions H st (d sends Take c p)) ≡ 0 → TakeAsked H st d c p
+  pub take-asked : (d c p : ℕ) → firstNo (questions limits H st (d sends Take c p)) ≡ 0 → TakeAsked H st d c p
   take-asked d c p e =
-      let y = all-yes (questions H st (d sends Take c p)) refl e in
+      let y = all-yes (questions limits H st (d sends Take c p)) refl e in
       record {
         desk = in-range d (H .desks) (y 0);
         screen = in-range c (H .screens) (y 1);
@@ -104,19 +104,19 @@ module _ (H : Hall) (st : State) where
         some = eqb-false _ 0 (not-true _ (y 4));
       }
 
-  pub drop-asked : (d c : ℕ) → firstNo (questions H st (d sends Drop c)) ≡ 0 → DropAsked H d c
+  pub drop-asked : (d c : ℕ) → firstNo (questions limits H st (d sends Drop c)) ≡ 0 → DropAsked H d c
   drop-asked d c e =
-      let y = all-yes (questions H st (d sends Drop c)) refl e in
+      let y = all-yes (questions limits H st (d sends Drop c)) refl e in
       record { desk = in-range d (H .desks) (y 0); screen = in-range c (H .screens) (y 1) }
 
-  pub swap-asked : (d p v : ℕ) → firstNo (questions H st (d sends Swap p v)) ≡ 0 → SwapAsked H st d p
+  pub swap-asked : (d p v : ℕ) → firstNo (questions limits H st (d sends Swap p v)) ≡ 0 → SwapAsked H st d p
   swap-asked d p v e =
-      let y = all-yes (questions H st (d sends Swap p v)) refl e in
-      record { desk = in-range d (H .desks) (y 0); position = in-range p (H .positions) (y 1); owesNothing = eqb-true _ 0 (y 2) }
+      let y = all-yes (questions limits H st (d sends Swap p v)) refl e in
+      record { desk = in-range d (H .desks) (y 0); position = in-range p (H .positions) (y 1); owesNothing = eqb-true _ 0 (y 3) }
 
-  pub retire-asked : (d : ℕ) → firstNo (questions H st (d sends Retire)) ≡ 0 → RetireAsked H st d
+  pub retire-asked : (d : ℕ) → firstNo (questions limits H st (d sends Retire)) ≡ 0 → RetireAsked H st d
   retire-asked d e =
-      let y = all-yes (questions H st (d sends Retire)) refl e in
+      let y = all-yes (questions limits H st (d sends Retire)) refl e in
       record { desk = in-range d (H .desks) (y 0); owes = eqb-false _ 0 (not-true _ (y 1)); room = ltb-true _ _ (y 2) }
 
 -- ---- What becomes of a desk D, by its own action.
@@ -207,9 +207,9 @@ Range H d noAction = Unit {0}
 abbrev pub InHall : Hall → Effect → Type 0
 InHall H effect = Range H (effect .desk) (effect .action)
 
-module _ (H : Hall) (st : State) where
-  pub state-change : (call : Call) → StateChange H st (call .desk) (actionIn H st call) (step H st call .after)
-  state-change call = by-number (firstNo (questions H st call)) (call .desk) (call .step) refl
+module _ (limits : Limits) (H : Hall) (st : State) where
+  pub state-change : (call : Call) → StateChange H st (call .desk) (actionIn limits H st call) (step limits H st call .after)
+  state-change call = by-number (firstNo (questions limits H st call)) (call .desk) (call .step) refl
     where
       collected : (d v : ℕ) (b : Bool) → eqb v 0 ≡ b → IsDesk H d → collect (allScreens H) (st .shown) (deskOf st d) .session ≡ v
           → StateChange H st d (cond b collects (handsBack v)) (withDesk st d (collect (allScreens H) (st .shown) (deskOf st d) .after))
@@ -221,7 +221,7 @@ module _ (H : Hall) (st : State) where
       swapped d p v true t = refl
       swapped d p v false t = record { desk = t .desk; position = t .position .0; owesNothing = t .owesNothing; session = v; state = refl }
 
-      full : (d n : ℕ) (b : Bool) → eqb n 14 ≡ b → firstNo (questions H st (d sends Retire)) ≡ n → StateChange H st d (cond b outOfRoom noAction) st
+      full : (d n : ℕ) (b : Bool) → eqb n 14 ≡ b → firstNo (questions limits H st (d sends Retire)) ≡ n → StateChange H st d (cond b outOfRoom noAction) st
       full d n true q e =
           let y =
           retire-refused-full (inRange d (H .desks)) (not (eqb (deskOf st d .owed) 0)) (ltb (usedSlots (deskOf st d)) (2 * allScreens H))
@@ -234,17 +234,17 @@ module _ (H : Hall) (st : State) where
           }
       full d n false q e = refl
 
-      by-number : (n d : ℕ) (s : Step) → firstNo (questions H st (d sends s)) ≡ n
+      by-number : (n d : ℕ) (s : Step) → firstNo (questions limits H st (d sends s)) ≡ n
           → let outcome = performStep H st d s in
           let r = decide n st (outcome .session) (outcome .after) in
           StateChange H st d (actionOf s (r .answer .number) (r .answer .session)) (r .after)
       by-number zero d (Take c p) e =
-          let t = take-asked H st d c p e in
+          let t = take-asked limits H st d c p e in
           record { desk = t .desk; screen = t .screen; position = t .position .0; empty = t .empty; session = refl; some = t .some; state = refl }
-      by-number zero d (Drop c) e = let t = drop-asked H st d c e in record { desk = t .desk; screen = t .screen; state = refl }
-      by-number zero d (Swap p v) e = swapped d p v (isRepeat (getD (st .held) (p - 1) 0) v) (swap-asked H st d p v e)
+      by-number zero d (Drop c) e = let t = drop-asked limits H st d c e in record { desk = t .desk; screen = t .screen; state = refl }
+      by-number zero d (Swap p v) e = swapped d p v (isRepeat (getD (st .held) (p - 1) 0) v) (swap-asked limits H st d p v e)
       by-number zero d Retire e =
-          let t = retire-asked H st d e in
+          let t = retire-asked limits H st d e in
           record {
             desk = t .desk;
             new = retire (deskOf st d);
@@ -253,7 +253,7 @@ module _ (H : Hall) (st : State) where
           }
       by-number zero d Collect e =
           let session = collect (allScreens H) (st .shown) (deskOf st d) .session in
-          collected d session (eqb session 0) refl (desk-asked H st (d sends Collect) e) refl
+          collected d session (eqb session 0) refl (desk-asked limits H st (d sends Collect) e) refl
       by-number (suc n) d (Take c p) e = refl
       by-number (suc n) d (Drop c) e = refl
       by-number (suc n) d (Swap p v) e = refl
@@ -261,13 +261,13 @@ module _ (H : Hall) (st : State) where
       by-number (suc n) d Collect e = refl
 
   -- of an effect that the call's is known to be
-  pub state-change-as : (call : Call) (e : Effect) → effectIn H st call ≡ e → StateChange H st (e .desk) (e .action) (step H st call .after)
-  state-change-as call e q = subst (λ (x : Effect). StateChange H st (x .desk) (x .action) (step H st call .after)) q (state-change call)
+  pub state-change-as : (call : Call) (e : Effect) → effectIn limits H st call ≡ e → StateChange H st (e .desk) (e .action) (step limits H st call .after)
+  state-change-as call e q = subst (λ (x : Effect). StateChange H st (x .desk) (x .action) (step limits H st call .after)) q (state-change call)
 
-  pub range-step : (call : Call) → InHall H (effectIn H st call)
-  range-step call = at (call .desk) (actionIn H st call) (state-change call)
+  pub range-step : (call : Call) → InHall H (effectIn limits H st call)
+  range-step call = at (call .desk) (actionIn limits H st call) (state-change call)
     where
-      at : (d : ℕ) (a : Action) → StateChange H st d a (step H st call .after) → Range H d a
+      at : (d : ℕ) (a : Action) → StateChange H st d a (step limits H st call .after) → Range H d a
       at d (takes c p v) k = (k .desk, k .screen)
       at d (drops c) k = (k .desk, k .screen)
       at d (swaps p) k = k .desk
@@ -277,9 +277,9 @@ module _ (H : Hall) (st : State) where
       at d (handsBack v) k = (k .desk, k .done .0)
       at d noAction k = tt
 
-module _ (H : Hall) (st : State) (formed : Formed H st) where
-  pub formed-step : (call : Call) → Formed H (step H st call .after)
-  formed-step call = at (call .desk) (actionIn H st call) (step H st call .after) (state-change H st call)
+module _ (limits : Limits) (H : Hall) (st : State) (formed : Formed H st) where
+  pub formed-step : (call : Call) → Formed H (step limits H st call .after)
+  formed-step call = at (call .desk) (actionIn limits H st call) (step limits H st call .after) (state-change limits H st call)
     where
       screen : (index v : ℕ) → Formed H (withShown st index v)
       screen index v = record { positions = formed .positions; screens = length-set (st .shown) index v ∙ formed .screens; desks = formed .desks }
@@ -319,8 +319,8 @@ module _ (H : Hall) (st : State) (formed : Formed H st) where
             rw (getD-set-other (st .desks) (actor - 1) (d - 1) new emptyDesk (λ m. other (omega arith)))
             (record { owed = deskOf st d .owed; after = refl })
 
-    pub desk-change : (call : Call) → DeskChangeIn H st d (deskOf (step H st call .after) d) (byDesk d (effectIn H st call))
-    desk-change call = at (call .desk) (actionIn H st call) (step H st call .after) (state-change H st call)
+    pub desk-change : (call : Call) → DeskChangeIn H st d (deskOf (step limits H st call .after) d) (byDesk d (effectIn limits H st call))
+    desk-change call = at (call .desk) (actionIn limits H st call) (step limits H st call .after) (state-change limits H st call)
       where
         at : (actor : ℕ) (a : Action) (after : State) → StateChange H st actor a after → DeskChangeIn H st d (deskOf after d) (cond (eqb actor d) a noAction)
         at actor (takes c p v) after k = rw (k .state) (unchanged (takes c p v) (record { owed = deskOf st d .owed; after = refl }) (eqb actor d))

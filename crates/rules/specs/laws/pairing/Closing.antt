@@ -7,7 +7,7 @@ use mathlib.Core.Path.{_≡_, refl, ap, _∙_, subst}
 use mathlib.Core.List.{List, [], _∷_}
 use lib.ListN.{length, getD, take}
 use Rattle.rules.specs.Closing.{putAt}
-use Rattle.rules.specs.Hall.{Formed, Hall, State, allScreens, emptyDesk, fresh}
+use Rattle.rules.specs.Hall.{Formed, Hall, Limits, State, allScreens, emptyDesk, fresh}
 use Rattle.rules.specs.History.{Effect, _by_, effectAt, handsBack, retires}
 use Rattle.rules.specs.Lists.{occurrences}
 use Rattle.rules.specs.Steps.{Call, end, run, step}
@@ -25,26 +25,26 @@ occurrences-within s [] = omega arith
 occurrences-within s (x ∷ xs) = omega (arith, occurrences-within s xs, indicator-at-most-one s x)
 
 -- The state agrees with the links along a list of calls.
-agree-along : (H : Hall) (f : ℕ → Effect) (cs : List Call) (st : State) (n : ℕ) → Gives f n (run (step H) st cs) → Formed H st → ScreensAgree H f n st
-    → ScreensAgree H f (n + length cs) (end (step H) st cs)
-agree-along H f [] st n gives formed ag = let e : n ≡ n + 0 = omega arith in subst (λ (m : ℕ). ScreensAgree H f m st) e ag
-agree-along H f (c ∷ cs) st n gives formed ag =
+agree-along : (limits : Limits) (H : Hall) (f : ℕ → Effect) (cs : List Call) (st : State) (n : ℕ) → Gives f n (run (step limits H) st cs) → Formed H st → ScreensAgree H f n st
+    → ScreensAgree H f (n + length cs) (end (step limits H) st cs)
+agree-along limits H f [] st n gives formed ag = let e : n ≡ n + 0 = omega arith in subst (λ (m : ℕ). ScreensAgree H f m st) e ag
+agree-along limits H f (c ∷ cs) st n gives formed ag =
     let e : suc n + length cs ≡ n + suc (length cs) = omega arith in
-    subst (λ (m : ℕ). ScreensAgree H f m (end (step H) (step H st c .after) cs)) e
-    (agree-along H f cs (step H st c .after) (suc n) (gives-rest gives) (formed-step H st formed c) (agree-step H st formed f n ag c (gives-first gives)))
+    subst (λ (m : ℕ). ScreensAgree H f m (end (step limits H) (step limits H st c .after) cs)) e
+    (agree-along limits H f cs (step limits H st c .after) (suc n) (gives-rest gives) (formed-step limits H st formed c) (agree-step limits H st formed f n ag c (gives-first gives)))
 
-module _ (H : Hall) (some : 1 ≤ allScreens H) (s : ℕ) (hs : s ≡ 0 → ⊥) where
+module _ (limits : Limits) (H : Hall) (some : 1 ≤ allScreens H) (s : ℕ) (hs : s ≡ 0 → ⊥) where
   -- A session with no reference is on no screen.
-  pub unreferenced-unshown : (cs : List Call) → references s (end (step H) (fresh H) cs) ≡ 0 → (x : ℕ) → x < allScreens H
-      → getD (end (step H) (fresh H) cs .shown) x 0 ≡ s → ⊥
+  pub unreferenced-unshown : (cs : List Call) → references s (end (step limits H) (fresh H) cs) ≡ 0 → (x : ℕ) → x < allScreens H
+      → getD (end (step limits H) (fresh H) cs .shown) x 0 ≡ s → ⊥
   unreferenced-unshown cs none x h shows =
-      by-link (link H f x n) refl (subst (λ (v : ℕ). Agree f st v (link H f x n)) shows (agree-along H f cs (fresh H) 0 (gives-itself (run (step H) (fresh H) cs)) (fresh-formed H) (fresh-agree H some cs) x h))
+      by-link (link H f x n) refl (subst (λ (v : ℕ). Agree f st v (link H f x n)) shows (agree-along limits H f cs (fresh H) 0 (gives-itself (run (step limits H) (fresh H) cs)) (fresh-formed H) (fresh-agree limits H some cs) x h))
     where
       f : ℕ → Effect
-      f = effectAt (run (step H) (fresh H) cs)
+      f = effectAt (run (step limits H) (fresh H) cs)
 
       st : State
-      st = end (step H) (fresh H) cs
+      st = end (step limits H) (fresh H) cs
 
       n : ℕ
       n = 0 + length cs
@@ -52,8 +52,8 @@ module _ (H : Hall) (some : 1 ≤ allScreens H) (s : ℕ) (hs : s ≡ 0 → ⊥)
       -- a retirement of s by desk d to which the screen is linked is not handed back, so the desk has a copy on its list
       on-list : (r d : ℕ) → link H f x n ≡ linkedTo r → f r ≡ retires s by d → Dec (r < n) → ⊥
       on-list r d l q (yes earlier) =
-          let hd = subst (InHall H) q (in-hall H some cs r) .0 .0 in
-          let g = guard H some cs d s hd hs in
+          let hd = subst (InHall H) q (in-hall limits H some cs r) .0 .0 in
+          let g = guard limits H some cs d s hd hs in
           let t = g .tokens in
           omega (
             arith,
@@ -85,8 +85,8 @@ module _ (H : Hall) (some : 1 ≤ allScreens H) (s : ℕ) (hs : s ≡ 0 → ⊥)
       )
 
   -- A session that each swap before its hand-back put only where it had no reference has none after it.
-  pub handed-back-unreferenced : (cs : List Call) (h d : ℕ) → effectAt (run (step H) (fresh H) cs) h ≡ handsBack s by d
-      → ((i : ℕ) → i < h → putAt (run (step H) (fresh H) cs) i ≡ s → references s (end (step H) (fresh H) (take i cs)) ≡ 0)
-      → references s (end (step H) (fresh H) (take (suc h) cs)) ≡ 0
+  pub handed-back-unreferenced : (cs : List Call) (h d : ℕ) → effectAt (run (step limits H) (fresh H) cs) h ≡ handsBack s by d
+      → ((i : ℕ) → i < h → putAt (run (step limits H) (fresh H) cs) i ≡ s → references s (end (step limits H) (fresh H) (take i cs)) ≡ 0)
+      → references s (end (step limits H) (fresh H) (take (suc h) cs)) ≡ 0
   handed-back-unreferenced cs h d =
-      none-after-hand-back s hs H some cs (fresh H) (fresh-formed H) (λ e he. fresh-sound H e) (omega (arith, fresh-unreferenced)) h d
+      none-after-hand-back s hs limits H some cs (fresh H) (fresh-formed H) (λ e he. fresh-sound H e) (omega (arith, fresh-unreferenced)) h d

@@ -7,7 +7,7 @@ use mathlib.Core.Bool.{true≢false}
 use mathlib.Core.List.{List, []}
 use lib.ListN.{length, getD-replicate}
 use Rattle.rules.specs.Demands.{Guarantee}
-use Rattle.rules.specs.Hall.{Hall, allScreens, deskOf, fresh, screenIndex}
+use Rattle.rules.specs.Hall.{Hall, Limits, allScreens, deskOf, fresh, screenIndex}
 use Rattle.rules.specs.History.{Action, Effect, _by_, collects, drops, effectAt, handsBack, noAction, outOfRoom, retires, swaps, takes}
 use Rattle.rules.specs.Steps.{Call, end, run, step}
 use Rattle.rules.specs.laws.history.Actions.{same-action, same-desk}
@@ -22,26 +22,26 @@ record Pairs (f : ℕ → Effect) (d s : ℕ) (p : ℕ → ℕ) : Type 0 where
   good : (a : ℕ) → f a ≡ handsBack s by d → MayPair f d s a (p a)
   once : (a b : ℕ) → f a ≡ handsBack s by d → f b ≡ handsBack s by d → p a ≡ p b → a ≡ b
 
-module _ (H : Hall) (some : 1 ≤ allScreens H) (cs : List Call) where
+module _ (limits : Limits) (H : Hall) (some : 1 ≤ allScreens H) (cs : List Call) where
   abbrev f : ℕ → Effect
-  f = effectAt (run (step H) (fresh H) cs)
+  f = effectAt (run (step limits H) (fresh H) cs)
 
   pub fresh-agree : ScreensAgree H f 0 (fresh H)
   fresh-agree x h = getD-replicate (allScreens H) x 0 0 h
 
   pub in-hall : (m : ℕ) → InHall H (f m)
-  in-hall = range-run H cs (fresh H)
+  in-hall = range-run limits H cs (fresh H)
 
   finds-free : (i x c p v : ℕ) → f i ≡ takes c p v by x → link H f (screenIndex H x c) i ≡ unlinked
   finds-free i x c p v t =
       let e : 0 + i ≡ i = omega arith in
       subst (λ (k : ℕ). link H f (screenIndex H x c) k ≡ unlinked) e
-      (takes-find-unlinked H f cs (fresh H) 0 (gives-itself (run (step H) (fresh H) cs)) (fresh-formed H) fresh-agree i x c p v (ap f e ∙ t))
+      (takes-find-unlinked limits H f cs (fresh H) 0 (gives-itself (run (step limits H) (fresh H) cs)) (fresh-formed H) fresh-agree i x c p v (ap f e ∙ t))
 
   -- the pairing of one desk and one session
-  pub guard : (d s : ℕ) → 1 ≤ d → (s ≡ 0 → ⊥) → Guard H f d s (0 + length cs) (deskOf (end (step H) (fresh H) cs) d)
+  pub guard : (d s : ℕ) → 1 ≤ d → (s ≡ 0 → ⊥) → Guard H f d s (0 + length cs) (deskOf (end (step limits H) (fresh H) cs) d)
   guard d s h hs =
-      guard-along H f in-hall finds-free some d s h hs cs (fresh H) 0 (gives-itself (run (step H) (fresh H) cs)) (fresh-formed H) (fresh-sound H d)
+      guard-along limits H f in-hall finds-free some d s h hs cs (fresh H) 0 (gives-itself (run (step limits H) (fresh H) cs)) (fresh-formed H) (fresh-sound H d)
       fresh-agree
       (record {
         count = λ r. 0;
@@ -64,7 +64,7 @@ module _ (H : Hall) (some : 1 ≤ allScreens H) (cs : List Call) where
   within-end a d s q =
       omega (
         arith,
-        effect-within (step H) cs (fresh H) a (λ e. let action = sym e ∙ ap (λ (x : Effect). x .action) q in true≢false (cc)),
+        effect-within (step limits H) cs (fresh H) a (λ e. let action = sym e ∙ ap (λ (x : Effect). x .action) q in true≢false (cc)),
       )
 
   -- the pairing that the guard built; there is no desk 0 and no session 0
@@ -124,7 +124,7 @@ module _ (H : Hall) (some : 1 ≤ allScreens H) (cs : List Call) where
       works d s (r .0 .0) (r .1) .once a b q qb (sym (found a d s q) ∙ e ∙ found b d s qb)
 
   -- The guarantee of Definition 2.1.
-  pub guaranteed : Guarantee (effectAt (run (step H) (fresh H) cs))
+  pub guaranteed : Guarantee (effectAt (run (step limits H) (fresh H) cs))
   guaranteed = record {
     pair = λ a. partnerAt a;
     earlier = λ a d s q. is-good a d s q .earlier;

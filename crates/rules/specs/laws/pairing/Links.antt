@@ -7,7 +7,7 @@ use mathlib.Core.List.{List}
 use lib.ListN.{getD}
 use lib.Dec.{eqb}
 use borrow.Author.Tests.{eqb-true, eqb-false}
-use Rattle.rules.specs.Hall.{Formed, Hall, State, allScreens, deskOf, screenIndex}
+use Rattle.rules.specs.Hall.{Formed, Hall, Limits, State, allScreens, deskOf, screenIndex}
 use Rattle.rules.specs.History.{Action, Effect, _by_, collects, drops, handsBack, isRetirement, noAction, outOfRoom, retires, swaps, takes}
 use Rattle.rules.specs.Steps.{Call, step}
 use Rattle.rules.specs.laws.history.Actions.{isSwap}
@@ -80,7 +80,7 @@ empty-unlinked f st v (beforeRetire e) a z = absurd (a .0 z)
 empty-unlinked f st v (linkedTo r) a z = absurd (a .0 z)
 
 -- One call.
-module _ (H : Hall) (st : State) (formed : Formed H st) (f : ℕ → Effect) (n : ℕ) where
+module _ (limits : Limits) (H : Hall) (st : State) (formed : Formed H st) (f : ℕ → Effect) (n : ℕ) where
   -- while no swap changes the position, and the desk does not retire
   before-swap-kept : (d : ℕ) (a : Action) (after : State) → StateChange H st d a after → (v p : ℕ) → (a ≡ swaps p → ⊥) → Agree f st v (beforeSwap p)
       → Agree f after v (beforeSwap p)
@@ -145,8 +145,8 @@ module _ (H : Hall) (st : State) (formed : Formed H st) (f : ℕ → Effect) (n 
   retire-agree d s after k q v (linkedTo r) a = a
 
   module _ (ag : ScreensAgree H f n st) where
-    pub agree-step : (c : Call) → f n ≡ effectIn H st c → ScreensAgree H f (suc n) (step H st c .after)
-    agree-step c q x hx = at (f n .desk) (f n .action) (step H st c .after) refl (state-change-as H st c (f n) (sym q))
+    pub agree-step : (c : Call) → f n ≡ effectIn limits H st c → ScreensAgree H f (suc n) (step limits H st c .after)
+    agree-step c q x hx = at (f n .desk) (f n .action) (step limits H st c .after) refl (state-change-as limits H st c (f n) (sym q))
       where
         -- the screen shows what it showed
         shown : (after : State) (l : Link) → after .shown ≡ st .shown → Agree f after (getD (st .shown) x 0) l → Agree f after (getD (after .shown) x 0) l
@@ -180,9 +180,9 @@ module _ (H : Hall) (st : State) (formed : Formed H st) (f : ℕ → Effect) (n 
         at d noAction after q k = unchanged d noAction after k refl refl (ap (λ (s : State). s .shown) k)
 
     -- an accepted take finds its screen unlinked
-    pub take-finds-unlinked : (c : Call) → f n ≡ effectIn H st c → (d s p v : ℕ)
+    pub take-finds-unlinked : (c : Call) → f n ≡ effectIn limits H st c → (d s p v : ℕ)
         → f n ≡ takes s p v by d → link H f (screenIndex H d s) n ≡ unlinked
     take-finds-unlinked c q d s p v t =
-        let k = state-change-as H st c (takes s p v by d) (sym q ∙ t) in
+        let k = state-change-as limits H st c (takes s p v by d) (sym q ∙ t) in
         let there = screen-in H d s (k .desk .0) (k .desk .1) (k .screen .0) (k .screen .1) in
         empty-unlinked f st _ (link H f (screenIndex H d s) n) (ag (screenIndex H d s) there) (k .empty)

@@ -9,7 +9,7 @@ use mathlib.Core.List.{List, [], _∷_, _++_}
 use lib.ListN.{length}
 use lib.Dec.{eqb}
 use borrow.Author.Tests.{eq-eqb, ne-eqb}
-use Rattle.rules.specs.Hall.{Desk, Formed, Hall, State, allScreens, deskOf, screenIndex}
+use Rattle.rules.specs.Hall.{Desk, Formed, Hall, Limits, State, allScreens, deskOf, screenIndex}
 use Rattle.rules.specs.History.{Action, DroppedBefore, Effect, Linked, _by_, byDesk, collects, drops, handsBack, isHandBack}
 use Rattle.rules.specs.History.{isRetirement, noAction, outOfRoom, retires, swaps, takes}
 use Rattle.rules.specs.Lists.{occurrences}
@@ -200,15 +200,15 @@ module _ (H : Hall) (f : ℕ → Effect) (d s n : ℕ) where
       linked-unpaired r h q (no t) = omega (arith, g .covers r h q, l .same r, indicator-other r (l .it) t)
 
 -- One call.
-module _ (H : Hall) (f : ℕ → Effect) (in-hall : (m : ℕ) → InHall H (f m))
+module _ (limits : Limits) (H : Hall) (f : ℕ → Effect) (in-hall : (m : ℕ) → InHall H (f m))
     (finds-free : (i x c p v : ℕ) → f i ≡ takes c p v by x → link H f (screenIndex H x c) i ≡ unlinked) (hS : 1 ≤ allScreens H) (d s : ℕ) (hd : 1 ≤ d)
     (hs : s ≡ 0 → ⊥) where
   guard-step : (n : ℕ) (st : State) (c : Call) → Formed H st → Orderly (allScreens H) (deskOf st d) → ScreensAgree H f n st
-      → f n ≡ effectIn H st c
-      → Guard H f d s n (deskOf st d) → Guard H f d s (suc n) (deskOf (step H st c .after) d)
+      → f n ≡ effectIn limits H st c
+      → Guard H f d s n (deskOf st d) → Guard H f d s (suc n) (deskOf (step limits H st c .after) d)
   guard-step n st c formed ok ag q g =
       by-action (byDesk d (f n)) refl
-      (subst (λ (e : Effect). DeskChangeIn H st d (deskOf (step H st c .after) d) (byDesk d e)) (sym q) (desk-change H st formed d hd c))
+      (subst (λ (e : Effect). DeskChangeIn H st d (deskOf (step limits H st c .after) d) (byDesk d e)) (sym q) (desk-change limits H st formed d hd c))
     where
       below : (r : ℕ) → 1 ≤ g .count r → r < n
       below r h = g .mine r h .0
@@ -223,8 +223,8 @@ module _ (H : Hall) (f : ℕ → Effect) (in-hall : (m : ℕ) → InHall H (f m)
           true≢false (ap isRetirement (sym (by-own-desk d (retires s)) ∙ ap (byDesk d) (sym t) ∙ own) ∙ other)
 
       -- the list stays as it is
-      same-list : (a : Action) → byDesk d (f n) ≡ a → isHandBack a ≡ false → isRetirement a ≡ false → (o : ℕ) → deskOf (step H st c .after) d ≡ owe (deskOf st d) o
-          → Guard H f d s (suc n) (deskOf (step H st c .after) d)
+      same-list : (a : Action) → byDesk d (f n) ≡ a → isHandBack a ≡ false → isRetirement a ≡ false → (o : ℕ) → deskOf (step limits H st c .after) d ≡ owe (deskOf st d) o
+          → Guard H f d s (suc n) (deskOf (step limits H st c .after) d)
       same-list a own no-back no-retire o e =
           rw e (guard-kept H f d s n (deskOf st d) (owe (deskOf st d) o) (no-hand-back a own no-back) (no-retirement a own no-retire) g
           (tokens-later H f s n (g .count) (deskOf st d) o below (g .tokens)))
@@ -267,8 +267,8 @@ module _ (H : Hall) (f : ℕ → Effect) (in-hall : (m : ℕ) → InHall H (f m)
       handing v e y (no t) =
           collecting v e t (λ u. let same = same-action y u in t (cc)) (λ u. let differ = same-action y u in true≢false (cc))
 
-      by-action : (a : Action) → byDesk d (f n) ≡ a → DeskChangeIn H st d (deskOf (step H st c .after) d) a
-          → Guard H f d s (suc n) (deskOf (step H st c .after) d)
+      by-action : (a : Action) → byDesk d (f n) ≡ a → DeskChangeIn H st d (deskOf (step limits H st c .after) d) a
+          → Guard H f d s (suc n) (deskOf (step limits H st c .after) d)
       by-action (takes x p v) o e = same-list (takes x p v) o refl refl (e .owed) (e .after)
       by-action (drops x) o e = same-list (drops x) o refl refl (e .owed) (e .after)
       by-action (swaps p) o e = same-list (swaps p) o refl refl (e .owed) (e .after)
@@ -279,26 +279,26 @@ module _ (H : Hall) (f : ℕ → Effect) (in-hall : (m : ℕ) → InHall H (f m)
       by-action noAction o e = same-list noAction o refl refl (e .owed) (e .after)
 
   -- A list of calls, whose effects f gives from index n on.
-  pub guard-along : (cs : List Call) (st : State) (n : ℕ) → Gives f n (run (step H) st cs) → Formed H st → Sound (allScreens H) (deskOf st d)
-      → ScreensAgree H f n st → Guard H f d s n (deskOf st d) → Guard H f d s (n + length cs) (deskOf (end (step H) st cs) d)
+  pub guard-along : (cs : List Call) (st : State) (n : ℕ) → Gives f n (run (step limits H) st cs) → Formed H st → Sound (allScreens H) (deskOf st d)
+      → ScreensAgree H f n st → Guard H f d s n (deskOf st d) → Guard H f d s (n + length cs) (deskOf (end (step limits H) st cs) d)
   guard-along [] st n gives formed ok ag g = subst (λ (m : ℕ). Guard H f d s m (deskOf st d)) (omega arith) g
   guard-along (c ∷ cs) st n gives formed ok ag g =
       let q = gives-first gives in
-      subst (λ (m : ℕ). Guard H f d s m (deskOf (end (step H) (step H st c .after) cs) d)) (omega arith)
-      (guard-along cs (step H st c .after) (suc n) (gives-rest gives) (formed-step H st formed c) (sound-step H d hS hd st c formed ok)
-      (agree-step H st formed f n ag c q) (guard-step n st c formed (sound-orderly (allScreens H) (deskOf st d) ok) ag q g))
+      subst (λ (m : ℕ). Guard H f d s m (deskOf (end (step limits H) (step limits H st c .after) cs) d)) (omega arith)
+      (guard-along cs (step limits H st c .after) (suc n) (gives-rest gives) (formed-step limits H st formed c) (sound-step limits H d hS hd st c formed ok)
+      (agree-step limits H st formed f n ag c q) (guard-step n st c formed (sound-orderly (allScreens H) (deskOf st d) ok) ag q g))
 
 -- An accepted take finds its screen unlinked.
-pub takes-find-unlinked : (H : Hall) (f : ℕ → Effect) (cs : List Call) (st : State) (n : ℕ) → Gives f n (run (step H) st cs) → Formed H st
+pub takes-find-unlinked : (limits : Limits) (H : Hall) (f : ℕ → Effect) (cs : List Call) (st : State) (n : ℕ) → Gives f n (run (step limits H) st cs) → Formed H st
     → ScreensAgree H f n st → (m x c p v : ℕ) → f (n + m) ≡ takes c p v by x → link H f (screenIndex H x c) (n + m) ≡ unlinked
-takes-find-unlinked H f [] st n gives formed ag m x y p v t =
+takes-find-unlinked limits H f [] st n gives formed ag m x y p v t =
     absurd (let differ = same-action (gives .at m) t in true≢false (cc))
-takes-find-unlinked H f (c ∷ cs) st n gives formed ag zero x y p v t =
+takes-find-unlinked limits H f (c ∷ cs) st n gives formed ag zero x y p v t =
     let e : n ≡ n + 0 = omega arith in
     subst (λ (k : ℕ). link H f (screenIndex H x y) k ≡ unlinked) e
-    (take-finds-unlinked H st formed f n ag c (gives-first gives) x y p v (ap f e ∙ t))
-takes-find-unlinked H f (c ∷ cs) st n gives formed ag (suc m) x y p v t =
+    (take-finds-unlinked limits H st formed f n ag c (gives-first gives) x y p v (ap f e ∙ t))
+takes-find-unlinked limits H f (c ∷ cs) st n gives formed ag (suc m) x y p v t =
     let u : suc n + m ≡ n + suc m = omega arith in
     subst (λ (k : ℕ). link H f (screenIndex H x y) k ≡ unlinked) u
-    (takes-find-unlinked H f cs (step H st c .after) (suc n) (gives-rest gives) (formed-step H st formed c)
-    (agree-step H st formed f n ag c (gives-first gives)) m x y p v (ap f u ∙ t))
+    (takes-find-unlinked limits H f cs (step limits H st c .after) (suc n) (gives-rest gives) (formed-step limits H st formed c)
+    (agree-step limits H st formed f n ag c (gives-first gives)) m x y p v (ap f u ∙ t))

@@ -27,7 +27,7 @@ module _ (limits : Limits) (H : Hall) (inside : inLimits limits H ≡ true) (t :
   tables i = end (stepTable limits) (openedTable H t) (take i cs)
 
   abbrev states : ℕ → State
-  states i = end (step H) (fresh H) (take i cs)
+  states i = end (step limits H) (fresh H) (take i cs)
 
   formed : (i : ℕ) → Formed H (states i)
   formed i = valid limits H inside t cs i .formed
@@ -88,15 +88,15 @@ module _ (limits : Limits) (H : Hall) (inside : inLimits limits H ≡ true) (t :
 
   pub closing-opened : ClosingRule H tables
   closing-opened i s hs u d c hd hd′ hc hc′ q =
-      unreferenced-unshown H (some limits H inside t cs) s hs (take i cs) (unreferenced-no-references s hs i u) (screenIndex H d c) (screen-in H d c hd hd′ hc hc′)
+      unreferenced-unshown limits H (some limits H inside t cs) s hs (take i cs) (unreferenced-no-references s hs i u) (screenIndex H d c) (screen-in H d c hd hd′ hc hc′)
       (sym (screen-after i d c (hd, hd′) (hc, hc′)) ∙ q)
 
   pub hand-back-opened : HandBackCloses H (run (stepTable limits) (openedTable H t) cs) tables
   hand-back-opened = subst (λ (history : List Event). HandBackCloses H history tables) (sym (run-is limits H inside t cs)) closes
     where
-      closes : HandBackCloses H (run (step H) (fresh H) cs) tables
+      closes : HandBackCloses H (run (step limits H) (fresh H) cs) tables
       closes h d s q put =
-          let hs = subst (InHall H) q (range-run H cs (fresh H) h) .1 in
-          let none = handed-back-unreferenced H (some limits H inside t cs) s hs cs h d q (λ i l e. unreferenced-no-references s hs i (put i (omega arith) e)) in
+          let hs = subst (InHall H) q (range-run limits H cs (fresh H) h) .1 in
+          let none = handed-back-unreferenced limits H (some limits H inside t cs) s hs cs h d q (λ i l e. unreferenced-no-references s hs i (put i (omega arith) e)) in
           let u = no-references-unreferenced s hs (suc h) none in
           record { unreferenced = u; unshown = closing-opened (suc h) s hs u }

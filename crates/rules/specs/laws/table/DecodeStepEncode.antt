@@ -112,16 +112,16 @@ same-table t small k =
     (drop-cons t 0 0 (omega arith) ∙ ap {B = List ℕ} (λ y. getD t 0 0 ∷ y) (drop-cons t 1 0 (omega arith) ∙ ap {B = List ℕ} (λ y. getD t 1 0 ∷ y) (drop-cons t 2 0 (omega arith))))
 
 -- what an accepted call writes is the table of the state after it
-pub encoded : (t : List ℕ) (c : Call) → ((i : ℕ) → getD t i 0 < 65536) → Known t → asked t c ≡ 0
+pub encoded : (limits : Limits) (t : List ℕ) (c : Call) → ((i : ℕ) → getD t i 0 < 65536) → Known t → asked limits t c ≡ 0
     → tableAfter t c ≡ encode (hallIn t) (perform (hallIn t) (decode (hallIn t) t) c .after) ++ drop (need (hallIn t)) t
-encoded t c small k q =
+encoded limits t c small k q =
     ap (λ (x : List ℕ). tableAfter x c) (sym (same-table t small k))
-    ∙ after-encoded (hallIn t) (k .fits) (decode (hallIn t) t) (valid t k) (drop (need (hallIn t)) t) c q
+    ∙ after-encoded (hallIn t) (k .fits) (decode (hallIn t) t) (valid t k) (drop (need (hallIn t)) t) limits c q
 
 -- Any call, accepted or refused: its answer is that of the step of the rules, and the table after it is that of the state after it.
 pub step-encoded : (limits : Limits) (t : List ℕ) (c : Call) → ((i : ℕ) → getD t i 0 < 65536) → sound limits t ≡ true
     → let H = hallIn t in
-    let result = step H (decode H t) c in
+    let result = step limits H (decode H t) c in
     stepTable limits t c ≡ record { answer = result .answer; after = encode H (result .after) ++ drop (need H) t }
 step-encoded limits t c small ok =
     let H : Hall = hallIn t in

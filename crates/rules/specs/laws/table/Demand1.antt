@@ -156,12 +156,12 @@ module _ (limits : Limits) (t : List ℕ) (small : Words16 t) (s : sound limits 
         (λ j l e. h j l e ∙ word-inside j l ∙ ap (λ (n : ℕ). getD t n 0) e) (λ _. refl)
 
   -- a swap writes the owed word only where the old session is not 0; a repeat writes nothing
-  swap-keeps : (d p new : ℕ) → asked t (d sends Swap p new) ≡ 0 → (i : ℕ) → stepFootprint t d (Swap p new) i ≡ false
+  swap-keeps : (d p new : ℕ) → asked limits t (d sends Swap p new) ≡ 0 → (i : ℕ) → stepFootprint t d (Swap p new) i ≡ false
       → getD (tableAfterStep t d (Swap p new)) i 0 ≡ getD t i 0
   swap-keeps d p new e i q = by-repeat (isRepeat (getD t (positionWord p) 0) new) q
     where
       asks : SwapAsked (hallIn t) (decode (hallIn t) t) d p
-      asks = swap-asked (hallIn t) (decode (hallIn t) t) d p new e
+      asks = swap-asked limits (hallIn t) (decode (hallIn t) t) d p new e
 
       none : (b : Bool) → eqb (getD t (positionWord p) 0) 0 ≡ b → not b ≡ false → getD t (positionWord p) 0 ≡ 0
       none true t0 z = eqb-true (getD t (positionWord p) 0) 0 t0
@@ -189,10 +189,10 @@ module _ (limits : Limits) (t : List ℕ) (small : Words16 t) (s : sound limits 
           let parts = or-no (eqb i (positionWord p)) (eqb i (recordStart (hallIn t) d) && isSession (getD t (positionWord p) 0)) q in
           by-word (parts .0) (eqb i (recordStart (hallIn t) d)) refl (parts .1)
 
-  retire-keeps-words : (d : ℕ) → asked t (d sends Retire) ≡ 0 → (i : ℕ) → stepFootprint t d Retire i ≡ false
+  retire-keeps-words : (d : ℕ) → asked limits t (d sends Retire) ≡ 0 → (i : ℕ) → stepFootprint t d Retire i ≡ false
       → getD (tableAfterStep t d Retire) i 0 ≡ getD t i 0
   retire-keeps-words d e i q =
-      let asks = retire-asked (hallIn t) (decode (hallIn t) t) d e in
+      let asks = retire-asked limits (hallIn t) (decode (hallIn t) t) d e in
       let r = asks .desk in
       let same = desk-word t d (r .0) (r .1) in
       let room : usedSlots (deskAt d) < 2 * allScreens (hallIn t) = subst (λ (X : Desk). usedSlots X < 2 * allScreens (hallIn t)) same (asks .room) in
@@ -207,7 +207,7 @@ module _ (limits : Limits) (t : List ℕ) (small : Words16 t) (s : sound limits 
       record-kept d r (retire (deskAt d)) (retire-sound (allScreens (hallIn t)) (deskAt d) owes room (desk-is-sound d r)) i
       (λ j l a. retire-keeps (allScreens (hallIn t)) (deskAt d) j room (λ z. x0 (omega arith)) (λ z. x4 (omega arith)) (λ z. xl (omega arith)))
 
-  collect-keeps-words : (d : ℕ) → asked t (d sends Collect) ≡ 0 → (i : ℕ) → stepFootprint t d Collect i ≡ false
+  collect-keeps-words : (d : ℕ) → asked limits t (d sends Collect) ≡ 0 → (i : ℕ) → stepFootprint t d Collect i ≡ false
       → getD (tableAfterStep t d Collect) i 0 ≡ getD t i 0
   collect-keeps-words d e i q = record-kept d r after after-sound i (λ j l a. by-word j a (decLt 0 j) (decLt j (tailOffset S)))
     where
@@ -221,12 +221,12 @@ module _ (limits : Limits) (t : List ℕ) (small : Words16 t) (s : sound limits 
       after = collect (allScreens (hallIn t)) (decode (hallIn t) t .shown) (deskAt d) .after
 
       r : IsDesk (hallIn t) d
-      r = desk-asked (hallIn t) (decode (hallIn t) t) (d sends Collect) e
+      r = desk-asked limits (hallIn t) (decode (hallIn t) t) (d sends Collect) e
 
       after-sound : Sound (allScreens (hallIn t)) (collect (allScreens (hallIn t)) (decode (hallIn t) t .shown) (deskAt d) .after)
       after-sound =
           collect-sound (allScreens (hallIn t)) (decode (hallIn t) t .shown) (deskAt d) (some-screens (hallIn t) (k .fits)) (v .formed .screens)
-          (desk-is-sound d (desk-asked (hallIn t) (decode (hallIn t) t) (d sends Collect) e))
+          (desk-is-sound d (desk-asked limits (hallIn t) (decode (hallIn t) t) (d sends Collect) e))
 
       -- of the record only its first word, the owed session, and its tail are not named, and a collect keeps them
       by-word : (j : ℕ) → recordStart (hallIn t) d + j ≡ i → Dec (0 < j) → Dec (j < tailOffset (allScreens (hallIn t)))
@@ -238,17 +238,17 @@ module _ (limits : Limits) (t : List ℕ) (small : Words16 t) (s : sound limits 
           (owed-first (allScreens (hallIn t)) _ ∙ owed-collect (allScreens (hallIn t)) (decode (hallIn t) t .shown) (deskAt d)
           ∙ sym (owed-first (allScreens (hallIn t)) (deskAt d)))
       by-word j a (yes z) (no m) =
-          let there = desk-is-sound d (desk-asked (hallIn t) (decode (hallIn t) t) (d sends Collect) e) in
+          let there = desk-is-sound d (desk-asked limits (hallIn t) (decode (hallIn t) t) (d sends Collect) e) in
           tail-word (allScreens (hallIn t)) _ (after-sound .total) j (omega arith)
           ∙ ap (λ (l : List ℕ). getD l (j - tailOffset (allScreens (hallIn t))) 0) (tail-collect (allScreens (hallIn t)) (decode (hallIn t) t .shown) (deskAt d))
           ∙ sym (tail-word (allScreens (hallIn t)) (deskAt d) (there .total) j (omega arith))
       by-word j a (yes z) (yes m) =
           absurd (true≢false (sym (and-true _ _ (lt-ltb (recordStart (hallIn t) d) i (omega arith)) (lt-ltb i (recordStart (hallIn t) d + tailOffset (allScreens (hallIn t))) (omega arith))) ∙ q))
 
-  after-keeps : (c : Call) → asked t c ≡ 0 → (i : ℕ) → footprint t c i ≡ false → getD (tableAfter t c) i 0 ≡ getD t i 0
+  after-keeps : (c : Call) → asked limits t c ≡ 0 → (i : ℕ) → footprint t c i ≡ false → getD (tableAfter t c) i 0 ≡ getD t i 0
   after-keeps c e = by-step (c .desk) (c .step) e
     where
-      by-step : (d : ℕ) (s : Step) → asked t (d sends s) ≡ 0 → (i : ℕ) → stepFootprint t d s i ≡ false → getD (tableAfterStep t d s) i 0 ≡ getD t i 0
+      by-step : (d : ℕ) (s : Step) → asked limits t (d sends s) ≡ 0 → (i : ℕ) → stepFootprint t d s i ≡ false → getD (tableAfterStep t d s) i 0 ≡ getD t i 0
       by-step d (Take c p) e i q =
           getD-set-other t (screenWord (hallIn t) d c) i (getD t (positionWord p) 0) 0 (λ z. eqb-false i (screenWord (hallIn t) d c) q z)
       by-step d (Drop c) e i q = getD-set-other t (screenWord (hallIn t) d c) i 0 0 (λ z. eqb-false i (screenWord (hallIn t) d c) q z)
@@ -257,15 +257,15 @@ module _ (limits : Limits) (t : List ℕ) (small : Words16 t) (s : sound limits 
       by-step d Collect e i q = collect-keeps-words d e i q
 
   -- what an accepted call writes is the table of a valid state
-  after-valid : (c : Call) → asked t c ≡ 0 → Valid (hallIn t) (perform (hallIn t) (decode (hallIn t) t) c .after)
+  after-valid : (c : Call) → asked limits t c ≡ 0 → Valid (hallIn t) (perform (hallIn t) (decode (hallIn t) t) c .after)
   after-valid c e =
       subst (λ (r : Result State). Valid (hallIn t) (r .after))
       (ap (λ (n : ℕ). let outcome = perform (hallIn t) (decode (hallIn t) t) c in decide n (decode (hallIn t) t) (outcome .session) (outcome .after)) e)
-      (valid-step (hallIn t) (k .fits) (decode (hallIn t) t) c v)
+      (valid-step (hallIn t) (k .fits) limits (decode (hallIn t) t) c v)
 
-  after-is-sound : (c : Call) → asked t c ≡ 0 → sound limits (tableAfter t c) ≡ true
+  after-is-sound : (c : Call) → asked limits t c ≡ 0 → sound limits (tableAfter t c) ≡ true
   after-is-sound c e =
-      rw (encoded t c small k e)
+      rw (encoded limits t c small k e)
       (encode-is-sound limits (hallIn t) (known-inside limits t s) (perform (hallIn t) (decode (hallIn t) t) c .after) (after-valid c e) (drop (need (hallIn t)) t))
 
 -- ---- Every step.
@@ -284,23 +284,23 @@ step-stays-sound limits t small c =
     by-step limits (λ r. sound limits t ≡ true → sound limits (r .after) ≡ true) t c (λ q. q) (λ n a q. q) (λ s a q. after-is-sound limits t small s c a)
 
 -- ---- A list of steps on tables that are sound: 5 is no question's number.
-not-five : (H : Hall) (st : State) (c : Call) → firstNo (questions H st c) ≡ 5 → ⊥
-not-five H st c e = by-step (c .step) e
+not-five : (limits : Limits) (H : Hall) (st : State) (c : Call) → firstNo (questions limits H st c) ≡ 5 → ⊥
+not-five limits H st c e = by-step (c .step) e
   where
-    by-step : (s : Step) → firstNo (questions H st (c .desk sends s)) ≡ 5 → ⊥
-    by-step (Take x p) e = omega (arith, first-no-is-asked (questions H st (c .desk sends Take x p)) 4 e)
-    by-step (Drop x) e = omega (arith, first-no-is-asked (questions H st (c .desk sends Drop x)) 4 e)
-    by-step (Swap p new) e = omega (arith, first-no-is-asked (questions H st (c .desk sends Swap p new)) 4 e)
-    by-step Retire e = omega (arith, first-no-is-asked (questions H st (c .desk sends Retire)) 4 e)
-    by-step Collect e = omega (arith, first-no-is-asked (questions H st (c .desk sends Collect)) 4 e)
+    by-step : (s : Step) → firstNo (questions limits H st (c .desk sends s)) ≡ 5 → ⊥
+    by-step (Take x p) e = omega (arith, first-no-is-asked (questions limits H st (c .desk sends Take x p)) 4 e)
+    by-step (Drop x) e = omega (arith, first-no-is-asked (questions limits H st (c .desk sends Drop x)) 4 e)
+    by-step (Swap p new) e = omega (arith, first-no-is-asked (questions limits H st (c .desk sends Swap p new)) 4 e)
+    by-step Retire e = omega (arith, first-no-is-asked (questions limits H st (c .desk sends Retire)) 4 e)
+    by-step Collect e = omega (arith, first-no-is-asked (questions limits H st (c .desk sends Collect)) 4 e)
 
 never-five-step : (limits : Limits) (t : List ℕ) (c : Call) → sound limits t ≡ true → stepTable limits t c .answer .number ≡ 5 → ⊥
-never-five-step limits t c s e = by-number (asked t c) refl
+never-five-step limits t c s e = by-number (asked limits t c) refl
   where
-    by-number : (m : ℕ) → asked t c ≡ m → ⊥
+    by-number : (m : ℕ) → asked limits t c ≡ m → ⊥
     by-number zero a = omega (arith, ap (λ (r : Result (List ℕ)). r .answer .number) (accepted-step limits t c s a))
     by-number (suc m) a =
-        not-five (hallIn t) (decode (hallIn t) t) c (omega (arith, ap (λ (r : Result (List ℕ)). r .answer .number) (refused-step limits t c m s a)))
+        not-five limits (hallIn t) (decode (hallIn t) t) c (omega (arith, ap (λ (r : Result (List ℕ)). r .answer .number) (refused-step limits t c m s a)))
 
 pub never-five : (limits : Limits) (cs : List Call) (t : List ℕ) → ((i : ℕ) → sound limits (end (stepTable limits) t (take i cs)) ≡ true) → (i : ℕ) → numberAt (run (stepTable limits) t cs) i ≡ 5 → ⊥
 never-five limits [] t s i e = omega arith

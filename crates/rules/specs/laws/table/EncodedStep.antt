@@ -14,9 +14,9 @@ use Rattle.rules.specs.Hall.{screenIndex, usedSlots, withDesk, withHeld,
 use Rattle.rules.specs.Lists.{chunks, concat, every}
 use Rattle.rules.specs.Steps.{Call, Collect, Drop, Event, Result, Retire, Step, Swap, Take, _sends_, accept, changePosition, collect, decide, end, firstNo, inRange, isRepeat, owe}
 use Rattle.rules.specs.Steps.{perform, performStep, questions, retire, run, step}
-use Rattle.rules.specs.Table.{decode, decodeDesk, encode, encodeDesk, encodeTail, headerWords, inLimits, listOffset, need, openQuestions, openedTable}
+use Rattle.rules.specs.Table.{decode, decodeDesk, encode, encodeDesk, encodeTail, headerWords, inHall, inLimits, listOffset, need, openQuestions, openedTable}
 use Rattle.rules.specs.Table.{positionWord, putRecord, recordOf, recordSound, recordStart, recordWidth, recordsIn, screenWord, slotsFor, sound, stepIf}
-use Rattle.rules.specs.Table.{stepTable, tableAfter, tableAfterStep, tailWords}
+use Rattle.rules.specs.Table.{stepTable, tableAfter, tableAfterStep, tailWords, within}
 use Rattle.rules.specs.laws.desk.Encoding.{desk-read-back, length-slots-for, length-tail}
 use Rattle.rules.specs.laws.desk.Sound.{Sound, collect-sound, encoded-sound, retire-sound, sound-owe}
 use Rattle.rules.specs.laws.history.InitialState.{fresh-formed}
@@ -32,20 +32,18 @@ pub record Fits (H : Hall) : Type 0 where
   pub screens : (1 ≤ H .screens) × (H .screens ≤ maxScreens)
   pub positions : (1 ≤ H .positions) × (H .positions ≤ maxPositions)
 
--- a hall within a board's limits is one
+-- one within the limits of a room is one
 pub limits-fit : (limits : Limits) (H : Hall) → inLimits limits H ≡ true → Fits H
 limits-fit limits H inside =
-    let desks = inRange (H .desks) (limits .desks) in
-    let screens = inRange (H .screens) (limits .screens) in
-    let positions = inRange (H .positions) (limits .positions) in
-    let later = and-right desks (screens && positions) inside in
-    let few-desks = in-range (H .desks) (limits .desks) (and-left desks (screens && positions) inside) in
-    let few-screens = in-range (H .screens) (limits .screens) (and-left screens positions later) in
-    let few-positions = in-range (H .positions) (limits .positions) (and-right screens positions later) in
+    let desks = inRange (H .desks) maxDesks in
+    let screens = inRange (H .screens) maxScreens in
+    let positions = inRange (H .positions) maxPositions in
+    let in-hall = and-left (inHall H) (within limits H) inside in
+    let later = and-right desks (screens && positions) in-hall in
     record {
-      desks = (few-desks .0, omega (arith, limits .fewDesks));
-      screens = (few-screens .0, omega (arith, limits .fewScreens));
-      positions = (few-positions .0, omega (arith, limits .fewPositions));
+      desks = in-range (H .desks) maxDesks (and-left desks (screens && positions) in-hall);
+      screens = in-range (H .screens) maxScreens (and-left screens positions later);
+      positions = in-range (H .positions) maxPositions (and-right screens positions later);
     }
 
 abbrev pub All : (Desk → Type 0) → List Desk → Type 0
@@ -80,10 +78,10 @@ module _ (H : Hall) (fits : Fits H) where
   bounded : allScreens H ≤ maxAllScreens
   bounded = mul-le-mul (fits .desks .1) (fits .screens .1)
 
-  pub valid-step : (st : State) (c : Call) → Valid H st → Valid H (step H st c .after)
-  valid-step st c v = record {
-    formed = formed-step H st (v .formed) c;
-    desks = desks-sound (firstNo (questions H st c)) (c .desk) (c .step) refl;
+  pub valid-step : (limits : Limits) (st : State) (c : Call) → Valid H st → Valid H (step limits H st c .after)
+  valid-step limits st c v = record {
+    formed = formed-step limits H st (v .formed) c;
+    desks = desks-sound (firstNo (questions limits H st c)) (c .desk) (c .step) refl;
   }
     where
       afterwards : ℕ → ℕ → Step → State
@@ -95,7 +93,7 @@ module _ (H : Hall) (fits : Fits H) where
       stored : (d : ℕ) (new : Desk) → Sound (allScreens H) new → All (Sound (allScreens H)) (set (st .desks) (d - 1) new)
       stored d new ok = all-set (Sound (allScreens H)) (st .desks) (d - 1) new ok (v .desks)
 
-      desks-sound : (n d : ℕ) (s : Step) → firstNo (questions H st (d sends s)) ≡ n → All (Sound (allScreens H)) (afterwards n d s .desks)
+      desks-sound : (n d : ℕ) (s : Step) → firstNo (questions limits H st (d sends s)) ≡ n → All (Sound (allScreens H)) (afterwards n d s .desks)
       desks-sound zero d (Take c p) e = v .desks
       desks-sound zero d (Drop c) e = v .desks
       desks-sound zero d (Swap p w) e =
@@ -103,7 +101,7 @@ module _ (H : Hall) (fits : Fits H) where
           cond-both (λ (after : State). All (Sound (allScreens H)) (after .desks)) (isRepeat old w) (v .desks)
           (stored d _ (sound-owe (allScreens H) old (deskOf st d) (desk-sound d)))
       desks-sound zero d Retire e =
-          let asked = retire-asked H st d e in
+          let asked = retire-asked limits H st d e in
           stored d _ (retire-sound (allScreens H) (deskOf st d) (asked .owes) (asked .room) (desk-sound d))
       desks-sound zero d Collect e =
           stored d _ (collect-sound (allScreens H) (st .shown) (deskOf st d) some-screens (v .formed .screens) (desk-sound d))
@@ -301,9 +299,9 @@ module _ (H : Hall) (fits : Fits H) where
         ∙ sym (as-shown (st .held) (set (st .shown) (screenIndex H d c) w) f)
 
     -- what an accepted call writes is the table of the state after it
-    pub after-encoded : (c : Call) → firstNo (questions H st c) ≡ 0 → tableAfter (encode H st ++ rest) c ≡ encode H (perform H st c .after) ++ rest
+    pub after-encoded : (limits : Limits) (c : Call) → firstNo (questions limits H st c) ≡ 0 → tableAfter (encode H st ++ rest) c ≡ encode H (perform H st c .after) ++ rest
     unfolding encodeDesk
-    after-encoded c e = by-step (c .desk) (c .step) e
+    after-encoded limits c e = by-step (c .desk) (c .step) e
       where
         swapped : (d p w : ℕ) → SwapAsked H st d p → (b : Bool)
             → let o = getD (st .held) (p - 1) 0 in
@@ -326,22 +324,22 @@ module _ (H : Hall) (fits : Fits H) where
             ∙ sym
             (as-record h (st .shown) (k .front) (encodeDesk (allScreens H) (owe (deskOf st d) o)) (k .back) (concat (map (encodeDesk (allScreens H)) (set (st .desks) (d - 1) (owe (deskOf st d) o)))) (k .put (owe (deskOf st d) o)))
 
-        by-step : (d : ℕ) (s : Step) → firstNo (questions H st (d sends s)) ≡ 0
+        by-step : (d : ℕ) (s : Step) → firstNo (questions limits H st (d sends s)) ≡ 0
             → tableAfterStep (encode H st ++ rest) d s ≡ encode H (performStep H st d s .after) ++ rest
         by-step d (Take c p) e =
-            let asked = take-asked H st d c p e in
+            let asked = take-asked limits H st d c p e in
             (λ i. set (encode H st ++ rest) (screenWord H d c) (position-word-is p (asked .position .0) (asked .position .1) i))
             ∙ screen-written d c (getD (st .held) (p - 1) 0) (asked .desk) (asked .screen)
-        by-step d (Drop c) e = let asked = drop-asked H st d c e in screen-written d c 0 (asked .desk) (asked .screen)
+        by-step d (Drop c) e = let asked = drop-asked limits H st d c e in screen-written d c 0 (asked .desk) (asked .screen)
         by-step d (Swap p w) e =
-            let asked = swap-asked H st d p w e in
+            let asked = swap-asked limits H st d p w e in
             rw (position-word-is p (asked .position .0) (asked .position .1)) (swapped d p w asked (isRepeat (getD (st .held) (p - 1) 0) w))
         by-step d Retire e =
-            let k = at-desk d (retire-asked H st d e .desk) in
+            let k = at-desk d (retire-asked limits H st d e .desk) in
             ap (λ (D : Desk). putRecord H (encode H st ++ rest) d (encodeDesk (allScreens H) (retire D))) (record-decoded d k)
             ∙ put-record-is d (retire (deskOf st d)) k
         by-step d Collect e =
-            let k = at-desk d (desk-asked H st (d sends Collect) e) in
+            let k = at-desk d (desk-asked limits H st (d sends Collect) e) in
             (λ i. putRecord H (encode H st ++ rest) d (encodeDesk (allScreens H) (collect (allScreens H) (decode-encode i .shown) (record-decoded d k i) .after)))
             ∙ put-record-is d (collect (allScreens H) (st .shown) (deskOf st d) .after) k
 
@@ -376,11 +374,11 @@ module _ (H : Hall) (fits : Fits H) where
           sym
           (ap (λ (l : List ℕ). replicate (H .positions) 0 ++ (replicate (allScreens H) 0 ++ l)) (concat-empty (H .desks)) ∙ ap (λ (l : List ℕ). replicate (H .positions) 0 ++ l) (replicate-append-replicate (allScreens H) (H .desks * recordWidth H) 0) ∙ replicate-append-replicate (H .positions) (allScreens H + H .desks * recordWidth H) 0 ∙ alike (H .positions + (allScreens H + H .desks * recordWidth H)) (need H - headerWords) (omega arith))
 
-  pub valid-end : (cs : List Call) (st : State) → Valid H st → Valid H (end (step H) st cs)
-  valid-end [] st v = v
-  valid-end (c ∷ cs) st v = valid-end cs (step H st c .after) (valid-step st c v)
+  pub valid-end : (limits : Limits) (cs : List Call) (st : State) → Valid H st → Valid H (end (step limits H) st cs)
+  valid-end limits [] st v = v
+  valid-end limits (c ∷ cs) st v = valid-end limits cs (step limits H st c .after) (valid-step limits st c v)
 
--- ---- A step, and a list of steps, on the table of a state, where the hall is within the board's limits.
+-- ---- A step, and a list of steps, on the table of a state, where the hall is within the limits of the room.
 module _ (limits : Limits) (H : Hall) (inside : inLimits limits H ≡ true) where
   abbrev fits : Fits H
   fits = limits-fit limits H inside
@@ -394,50 +392,51 @@ module _ (limits : Limits) (H : Hall) (inside : inLimits limits H ≡ true) wher
         (ap (every (recordSound (allScreens H))) (records-of-encode H fits st v rest) ∙ all-sound H fits (st .desks) (v .desks)))
 
     -- a step on the table is the step of the rules
-    pub table-step : (c : Call) → stepTable limits (encode H st ++ rest) c ≡ record { answer = step H st c .answer; after = encode H (step H st c .after) ++ rest }
+    pub table-step : (c : Call) → stepTable limits (encode H st ++ rest) c ≡ record { answer = step limits H st c .answer; after = encode H (step limits H st c .after) ++ rest }
     unfolding stepTable
     table-step c =
-        ap (λ (b : Bool). stepIf b (encode H st ++ rest) c) encode-is-sound ∙ ap result (decode-encode H fits st v rest)
-        ∙ by-number (firstNo (questions H st c)) refl
+        ap (λ (b : Bool). stepIf limits b (encode H st ++ rest) c) encode-is-sound ∙ ap result (decode-encode H fits st v rest)
+        ∙ by-number (firstNo (questions limits H st c)) refl
       where
         result : State → Result (List ℕ)
-        result s = decide (firstNo (questions H s c)) (encode H st ++ rest) (perform H s c .session) (tableAfter (encode H st ++ rest) c)
+        result s = decide (firstNo (questions limits H s c)) (encode H st ++ rest) (perform H s c .session) (tableAfter (encode H st ++ rest) c)
 
-        by-number : (n : ℕ) → firstNo (questions H st c) ≡ n
+        by-number : (n : ℕ) → firstNo (questions limits H st c) ≡ n
             → let outcome = perform H st c in
             let r = decide n st (outcome .session) (outcome .after) in
             decide n (encode H st ++ rest) (outcome .session) (tableAfter (encode H st ++ rest) c)
             ≡ record { answer = r .answer; after = encode H (r .after) ++ rest }
-        by-number zero e = λ i. accept (perform H st c .session) (after-encoded H fits st v rest c e i)
+        by-number zero e = λ i. accept (perform H st c .session) (after-encoded H fits st v rest limits c e i)
         by-number (suc n) e = refl
 
-  pub table-run : (cs : List Call) (st : State) → Valid H st → (rest : List ℕ) → run (stepTable limits) (encode H st ++ rest) cs ≡ run (step H) st cs
+  pub table-run : (cs : List Call) (st : State) → Valid H st → (rest : List ℕ) → run (stepTable limits) (encode H st ++ rest) cs ≡ run (step limits H) st cs
   table-run [] st v rest = refl
   table-run (c ∷ cs) st v rest =
       ap (λ (r : Result (List ℕ)). more r) (table-step st v rest c)
-      ∙ ap {B = List Event} (λ es. record { call = c; answer = step H st c .answer } ∷ es) (table-run cs (step H st c .after) (valid-step H fits st c v) rest)
+      ∙ ap {B = List Event} (λ es. record { call = c; answer = step limits H st c .answer } ∷ es) (table-run cs (step limits H st c .after) (valid-step H fits limits st c v) rest)
     where
       more : Result (List ℕ) → List Event
       more r = record { call = c; answer = r .answer } ∷ run (stepTable limits) (r .after) cs
 
   pub table-end : (cs : List Call) (st : State) → Valid H st → (rest : List ℕ)
-      → end (stepTable limits) (encode H st ++ rest) cs ≡ encode H (end (step H) st cs) ++ rest
+      → end (stepTable limits) (encode H st ++ rest) cs ≡ encode H (end (step limits H) st cs) ++ rest
   table-end [] st v rest = refl
   table-end (c ∷ cs) st v rest =
-      ap (λ (r : Result (List ℕ)). end (stepTable limits) (r .after) cs) (table-step st v rest c) ∙ table-end cs (step H st c .after) (valid-step H fits st c v) rest
+      ap (λ (r : Result (List ℕ)). end (stepTable limits) (r .after) cs) (table-step st v rest c) ∙ table-end cs (step limits H st c .after) (valid-step H fits limits st c v) rest
 
   -- The table stays sound: no step from an opening on is answered 5.
   pub sound-table : (t : List ℕ) (cs : List Call) → sound limits (end (stepTable limits) (openedTable H t) cs) ≡ true
   sound-table t cs =
       let start = fresh-valid H fits in
       rw (opened-is-fresh H fits t, table-end cs (fresh H) start (drop (need H) t))
-      (encode-is-sound (end (step H) (fresh H) cs) (valid-end H fits cs (fresh H) start) (drop (need H) t))
+      (encode-is-sound (end (step limits H) (fresh H) cs) (valid-end H fits limits cs (fresh H) start) (drop (need H) t))
 
 -- What an accepted opening asked of its hall and its table.
 pub hall-opens : (limits : Limits) (H : Hall) (t : List ℕ) → firstNo (openQuestions limits H t) ≡ 0 → (inLimits limits H ≡ true) × (need H ≤ length t)
 hall-opens limits H t e =
-    let y1 = holds (inRange (H .desks) (limits .desks)) _ 0 e in
-    let y2 = holds (inRange (H .screens) (limits .screens)) _ 1 (y1 .1) in
-    let y3 = holds (inRange (H .positions) (limits .positions)) _ 2 (y2 .1) in
-    let y4 = holds (leb (need H) (length t)) _ 3 (y3 .1) in
-    (and-true _ _ (y1 .0) (and-true _ _ (y2 .0) (y3 .0)), leb-true (need H) (length t) (y4 .0))
+    let y1 = holds (inRange (H .desks) maxDesks) _ 0 e in
+    let y2 = holds (inRange (H .screens) maxScreens) _ 1 (y1 .1) in
+    let y3 = holds (inRange (H .positions) maxPositions) _ 2 (y2 .1) in
+    let y22 = holds (within limits H) _ 21 (y3 .1) in
+    let y4 = holds (leb (need H) (length t)) _ 3 (y22 .1) in
+    (and-true _ _ (and-true _ _ (y1 .0) (and-true _ _ (y2 .0) (y3 .0))) (y22 .0), leb-true (need H) (length t) (y4 .0))

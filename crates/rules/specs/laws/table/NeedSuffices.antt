@@ -121,18 +121,18 @@ module _ (a b : List ℕ) (three : headerWords ≤ length a) where
     set-same : (t : List ℕ) (i v : ℕ) → length t ≡ length a → i < need H → set (t ++ b) i v ≡ set t i v ++ b
     set-same t i v l h = set-append-left t b i v (omega (arith, far))
 
-    after-before : (st : State) (d : ℕ) (s : Step) → firstNo (questions H st (d sends s)) ≡ 0 → afterIn H (a ++ b) d s ≡ afterIn H a d s ++ b
-    after-before st d (Take c p) e =
-        let f = take-asked H st d c p e in
+    after-before : (limits : Limits) (st : State) (d : ℕ) (s : Step) → firstNo (questions limits H st (d sends s)) ≡ 0 → afterIn H (a ++ b) d s ≡ afterIn H a d s ++ b
+    after-before limits st d (Take c p) e =
+        let f = take-asked limits H st d c p e in
         let screen = screen-in H d c (f .desk .0) (f .desk .1) (f .screen .0) (f .screen .1) in
         ap (set (a ++ b) (screenWord H d c)) (word-same (positionWord p) (omega (arith, f .position)))
         ∙ set-same a (screenWord H d c) (getD a (positionWord p) 0) refl (omega arith)
-    after-before st d (Drop c) e =
-        let f = drop-asked H st d c e in
+    after-before limits st d (Drop c) e =
+        let f = drop-asked limits H st d c e in
         let screen = screen-in H d c (f .desk .0) (f .desk .1) (f .screen .0) (f .screen .1) in
         set-same a (screenWord H d c) 0 refl (omega arith)
-    after-before st d (Swap p v) e =
-        let f = swap-asked H st d p v e in
+    after-before limits st d (Swap p v) e =
+        let f = swap-asked limits H st d p v e in
         rw (word-same (positionWord p) (omega (arith, f .position))) (by-repeat f (isRepeat (getD a (positionWord p) 0) v))
       where
         by-repeat : SwapAsked H st d p → (r : Bool)
@@ -144,12 +144,12 @@ module _ (a b : List ℕ) (three : headerWords ≤ length a) where
             let m : suc (d - 1) * recordWidth H ≤ H .desks * recordWidth H = mul-le-mul-right (recordWidth H) (omega (arith, f .desk)) in
             (λ i. set (set-same a (positionWord p) v refl (omega (arith, f .position)) i) (recordStart H d) (getD a (positionWord p) 0))
             ∙ set-same (set a (positionWord p) v) (recordStart H d) (getD a (positionWord p) 0) (length-set a (positionWord p) v) (omega (arith, f .desk))
-    after-before st d Retire e =
-        let r = desk-asked H st (d sends Retire) e in
+    after-before limits st d Retire e =
+        let r = desk-asked limits H st (d sends Retire) e in
         ap (λ (words : List ℕ). putRecord H (a ++ b) d (encodeDesk (allScreens H) (retire (decodeDesk (allScreens H) words)))) (record-same d r)
         ∙ put-same-rest d r (encodeDesk (allScreens H) (retire (decodeDesk (allScreens H) (recordOf H a d))))
-    after-before st d Collect e =
-        let r = desk-asked H st (d sends Collect) e in
+    after-before limits st d Collect e =
+        let r = desk-asked limits H st (d sends Collect) e in
         (λ i. putRecord H (a ++ b) d (encodeDesk (allScreens H) (collect (allScreens H) (decode-same i .shown) (decodeDesk (allScreens H) (record-same d r i)) .after)))
         ∙ put-same-rest d r (encodeDesk (allScreens H) (collect (allScreens H) (decode H a .shown) (decodeDesk (allScreens H) (recordOf H a d)) .after))
 
@@ -177,7 +177,7 @@ module _ (limits : Limits) (a b : List ℕ) (three : headerWords ≤ length a) (
 
       by-sound : (x : Bool) → sound limits a ≡ x → stepTable limits (a ++ b) c ≡ followed (stepTable limits a c)
       by-sound false s = unsound-step limits (a ++ b) c (sound-same ∙ s) ∙ sym (ap followed (unsound-step limits a c s))
-      by-sound true s = by-number (asked a c) refl
+      by-sound true s = by-number (asked limits a c) refl
         where
           far : need (hallIn a) ≤ length a
           far = known limits a s .long
@@ -188,18 +188,18 @@ module _ (limits : Limits) (a b : List ℕ) (three : headerWords ≤ length a) (
               ap (λ (H : Hall). perform H (decode H (a ++ b)) c .session) (hall-same a b three)
               ∙ ap (λ (st : State). perform (hallIn a) st c .session) (decode-same a b three (hallIn a) far)
 
-          asked-same : asked (a ++ b) c ≡ asked a c
+          asked-same : asked limits (a ++ b) c ≡ asked limits a c
           asked-same =
-              ap (λ (H : Hall). firstNo (questions H (decode H (a ++ b)) c)) (hall-same a b three)
-              ∙ ap (λ (st : State). firstNo (questions (hallIn a) st c)) (decode-same a b three (hallIn a) far)
+              ap (λ (H : Hall). firstNo (questions limits H (decode H (a ++ b)) c)) (hall-same a b three)
+              ∙ ap (λ (st : State). firstNo (questions limits (hallIn a) st c)) (decode-same a b three (hallIn a) far)
 
-          after-same : asked a c ≡ 0 → tableAfter (a ++ b) c ≡ tableAfter a c ++ b
+          after-same : asked limits a c ≡ 0 → tableAfter (a ++ b) c ≡ tableAfter a c ++ b
           after-same q =
               after-is-in (a ++ b) (c .desk) (c .step) ∙ ap (λ (H : Hall). afterIn H (a ++ b) (c .desk) (c .step)) (hall-same a b three)
-              ∙ after-before a b three (hallIn a) far (decode (hallIn a) a) (c .desk) (c .step) q
+              ∙ after-before a b three (hallIn a) far limits (decode (hallIn a) a) (c .desk) (c .step) q
               ∙ ap (λ (l : List ℕ). l ++ b) (sym (after-is-in a (c .desk) (c .step)))
 
-          by-number : (n : ℕ) → asked a c ≡ n → stepTable limits (a ++ b) c ≡ followed (stepTable limits a c)
+          by-number : (n : ℕ) → asked limits a c ≡ n → stepTable limits (a ++ b) c ≡ followed (stepTable limits a c)
           by-number zero q =
               accepted-step limits (a ++ b) c (sound-same ∙ s) (asked-same ∙ q)
               ∙ (λ i. accept (outcome-same i) (after-same q i))

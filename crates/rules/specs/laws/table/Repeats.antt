@@ -20,19 +20,19 @@ abbrev tableAfterSwap : List ℕ → ℕ → ℕ → ℕ → Bool → List ℕ
 tableAfterSwap t d p v b = cond b t (set (set t (positionWord p) v) (recordStart (hallIn t) d) (getD t (positionWord p) 0))
 
 -- what an accepted swap found
-asks : (t : List ℕ) (d p v : ℕ) → asked t (d sends Swap p v) ≡ 0 → SwapAsked (hallIn t) (decode (hallIn t) t) d p
-asks t = swap-asked (hallIn t) (decode (hallIn t) t)
+asks : (limits : Limits) (t : List ℕ) (d p v : ℕ) → asked limits t (d sends Swap p v) ≡ 0 → SwapAsked (hallIn t) (decode (hallIn t) t) d p
+asks limits t = swap-asked limits (hallIn t) (decode (hallIn t) t)
 
 -- its reply is what the position held
-replies-old : (t : List ℕ) (d p v : ℕ) → asked t (d sends Swap p v) ≡ 0 → getD (decode (hallIn t) t .held) (p - 1) 0 ≡ getD t (positionWord p) 0
-replies-old t d p v q = let a = asks t d p v q in held-word t p (a .position .0) (a .position .1)
+replies-old : (limits : Limits) (t : List ℕ) (d p v : ℕ) → asked limits t (d sends Swap p v) ≡ 0 → getD (decode (hallIn t) t .held) (p - 1) 0 ≡ getD t (positionWord p) 0
+replies-old limits t d p v q = let a = asks limits t d p v q in held-word t p (a .position .0) (a .position .1)
 
 pub repeat-stays : (limits : Limits) (t : List ℕ) → sound limits t ≡ true → (d p : ℕ)
     → let old = getD t (positionWord p) 0 in
-    asked t (d sends Swap p old) ≡ 0 → stepTable limits t (d sends Swap p old) ≡ accept old t
+    asked limits t (d sends Swap p old) ≡ 0 → stepTable limits t (d sends Swap p old) ≡ accept old t
 repeat-stays limits t s d p q =
     let old = getD t (positionWord p) 0 in
-    accepted-step limits t (d sends Swap p old) s q ∙ (λ i. accept (replies-old t d p old q i) (tableAfterSwap t d p old (eq-eqb old old refl i)))
+    accepted-step limits t (d sends Swap p old) s q ∙ (λ i. accept (replies-old limits t d p old q i) (tableAfterSwap t d p old (eq-eqb old old refl i)))
 
 module _ (limits : Limits) (t : List ℕ) (d p v : ℕ) where
   abbrev old : ℕ
@@ -67,12 +67,12 @@ module _ (limits : Limits) (t : List ℕ) (d p v : ℕ) where
       by-step limits (SwapPromise (hallIn t) d p v t) t (d sends Swap p v) (refused 4) (λ n q. refused n)
       (λ s q.
       let repeat = isRepeat old v in
-      let found = asks t d p v q in
+      let found = asks limits t d p v q in
       let holds = holds-sent (known limits t s .long) found repeat refl in
       record {
-        replies = λ number. replies-old t d p v q;
+        replies = λ number. replies-old limits t d p v q;
         holds = λ number. holds;
-        unchanged = λ same. ap (tableAfterSwap t d p v) (eq-eqb old v (sym (replies-old t d p v q) ∙ same));
+        unchanged = λ same. ap (tableAfterSwap t d p v) (eq-eqb old v (sym (replies-old limits t d p v q) ∙ same));
         replaced = λ number owes same. owes-another (known limits t s .long) found repeat refl owes (sym holds ∙ same);
       })
     where

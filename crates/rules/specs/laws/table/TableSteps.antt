@@ -19,23 +19,23 @@ use Rattle.rules.specs.laws.lists.Bools.{and-left, and-right}
 use Rattle.rules.specs.laws.table.EncodedStep.{Fits, limits-fit}
 
 -- the number that a call's questions give, on a sound table
-abbrev pub asked : List ℕ → Call → ℕ
-asked t c = firstNo (questions (hallIn t) (decode (hallIn t) t) c)
+abbrev pub asked : Limits → List ℕ → Call → ℕ
+asked limits t c = firstNo (questions limits (hallIn t) (decode (hallIn t) t) c)
 
 pub unsound-step : (limits : Limits) (t : List ℕ) (c : Call) → sound limits t ≡ false → stepTable limits t c ≡ refuse 5 t
 unfolding stepTable
-unsound-step limits t c e = ap (λ (b : Bool). stepIf b t c) e
+unsound-step limits t c e = ap (λ (b : Bool). stepIf limits b t c) e
 
-pub refused-step : (limits : Limits) (t : List ℕ) (c : Call) (n : ℕ) → sound limits t ≡ true → asked t c ≡ suc n → stepTable limits t c ≡ refuse (suc n) t
+pub refused-step : (limits : Limits) (t : List ℕ) (c : Call) (n : ℕ) → sound limits t ≡ true → asked limits t c ≡ suc n → stepTable limits t c ≡ refuse (suc n) t
 unfolding stepTable
 refused-step limits t c n e q =
-    ap (λ (b : Bool). stepIf b t c) e ∙ ap (λ (m : ℕ). decide m t (perform (hallIn t) (decode (hallIn t) t) c .session) (tableAfter t c)) q
+    ap (λ (b : Bool). stepIf limits b t c) e ∙ ap (λ (m : ℕ). decide m t (perform (hallIn t) (decode (hallIn t) t) c .session) (tableAfter t c)) q
 
-pub accepted-step : (limits : Limits) (t : List ℕ) (c : Call) → sound limits t ≡ true → asked t c ≡ 0
+pub accepted-step : (limits : Limits) (t : List ℕ) (c : Call) → sound limits t ≡ true → asked limits t c ≡ 0
     → stepTable limits t c ≡ accept (perform (hallIn t) (decode (hallIn t) t) c .session) (tableAfter t c)
 unfolding stepTable
 accepted-step limits t c e q =
-    ap (λ (b : Bool). stepIf b t c) e ∙ ap (λ (m : ℕ). decide m t (perform (hallIn t) (decode (hallIn t) t) c .session) (tableAfter t c)) q
+    ap (λ (b : Bool). stepIf limits b t c) e ∙ ap (λ (m : ℕ). decide m t (perform (hallIn t) (decode (hallIn t) t) c .session) (tableAfter t c)) q
 
 -- ---- a sound table
 pub record Known (t : List ℕ) : Type 0 where

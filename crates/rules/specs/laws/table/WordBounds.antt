@@ -169,17 +169,17 @@ module _ (S : ℕ) (shown : List ℕ) (D : Desk) (some : 1 ≤ S) (all : length 
 -- ---- A step, by its three cases.
 pub by-step : (limits : Limits) (Q : Result (List ℕ) → Type 0) (t : List ℕ) (c : Call)
     → Q (refuse 5 t)
-    → ((n : ℕ) → asked t c ≡ suc n → Q (refuse (suc n) t))
-    → (sound limits t ≡ true → asked t c ≡ 0 → Q (accept (perform (hallIn t) (decode (hallIn t) t) c .session) (tableAfter t c)))
+    → ((n : ℕ) → asked limits t c ≡ suc n → Q (refuse (suc n) t))
+    → (sound limits t ≡ true → asked limits t c ≡ 0 → Q (accept (perform (hallIn t) (decode (hallIn t) t) c .session) (tableAfter t c)))
     → Q (stepTable limits t c)
 by-step limits Q t c unsound refused accepted = at (sound limits t) refl
   where
-    by-number : (n : ℕ) → asked t c ≡ n → sound limits t ≡ true → Q (stepTable limits t c)
+    by-number : (n : ℕ) → asked limits t c ≡ n → sound limits t ≡ true → Q (stepTable limits t c)
     by-number zero q s = subst Q (sym (accepted-step limits t c s q)) (accepted s q)
     by-number (suc n) q s = subst Q (sym (refused-step limits t c n s q)) (refused n q)
 
     at : (b : Bool) → sound limits t ≡ b → Q (stepTable limits t c)
-    at true s = by-number (asked t c) refl s
+    at true s = by-number (asked limits t c) refl s
     at false s = subst Q (sym (unsound-step limits t c s)) unsound
 
 -- the opening, by its two
@@ -204,10 +204,10 @@ first-no-is-asked (q ∷ qs) n h = by-cases (q .yes?) h (first-no-is-asked qs n)
     by-cases true e later = omega (arith, later e)
     by-cases false e later = omega (arith, ap (indicator (suc n)) e, indicator-same (suc n))
 
-refusals-are-asked : (H : Hall) (st : State) (c : Call) → refusals c ≡ 5 ∷ map (λ q. q .number) (questions H st c)
-refusals-are-asked H st c = by-step (c .step)
+refusals-are-asked : (limits : Limits) (H : Hall) (st : State) (c : Call) → refusals c ≡ 5 ∷ map (λ q. q .number) (questions limits H st c)
+refusals-are-asked limits H st c = by-step (c .step)
   where
-    by-step : (s : Step) → stepRefusals s ≡ 5 ∷ map (λ q. q .number) (questions H st (c .desk sends s))
+    by-step : (s : Step) → stepRefusals s ≡ 5 ∷ map (λ q. q .number) (questions limits H st (c .desk sends s))
     by-step (Take c p) = refl
     by-step (Drop c) = refl
     by-step (Swap p w) = refl
@@ -222,20 +222,20 @@ step-refused limits t c =
     (λ n e. (unsound n e, refl, refl)) (λ m q n e. (asks m q n e, refl, refl)) (λ s q n e. absurd (omega arith))
   where
     numbers : List ℕ
-    numbers = map (λ q. q .number) (questions (hallIn t) (decode (hallIn t) t) c)
+    numbers = map (λ q. q .number) (questions limits (hallIn t) (decode (hallIn t) t) c)
 
     first : (n : ℕ) → occurrences (suc n) (refusals c) ≡ occurrences (suc n) (5 ∷ numbers)
-    first n = ap (occurrences (suc n)) (refusals-are-asked (hallIn t) (decode (hallIn t) t) c)
+    first n = ap (occurrences (suc n)) (refusals-are-asked limits (hallIn t) (decode (hallIn t) t) c)
 
     unsound : (n : ℕ) → 5 ≡ suc n → 1 ≤ occurrences (suc n) (refusals c)
     unsound n e = omega (arith, first n, ap (indicator (suc n)) e, indicator-same (suc n))
 
-    asks : (m : ℕ) → asked t c ≡ suc m → (n : ℕ) → suc m ≡ suc n → 1 ≤ occurrences (suc n) (refusals c)
-    asks m q n e = omega (arith, first n, first-no-is-asked (questions (hallIn t) (decode (hallIn t) t) c) n (q ∙ e))
+    asks : (m : ℕ) → asked limits t c ≡ suc m → (n : ℕ) → suc m ≡ suc n → 1 ≤ occurrences (suc n) (refusals c)
+    asks m q n e = omega (arith, first n, first-no-is-asked (questions limits (hallIn t) (decode (hallIn t) t) c) n (q ∙ e))
 
 -- ---- The session in an answer.
-performed-small : (t : List ℕ) (c : Call) → Words16 t → Known t → asked t c ≡ 0 → perform (hallIn t) (decode (hallIn t) t) c .session < 65536
-performed-small t c h k q = by-step (c .step)
+performed-small : (limits : Limits) (t : List ℕ) (c : Call) → Words16 t → Known t → asked limits t c ≡ 0 → perform (hallIn t) (decode (hallIn t) t) c .session < 65536
+performed-small limits t c h k q = by-step (c .step)
   where
     H : Hall
     H = hallIn t
@@ -249,7 +249,7 @@ performed-small t c h k q = by-step (c .step)
         (small-drop (hallIn t .positions) (drop headerWords t) (small-drop headerWords t h))
 
     desk : Desk16 (allScreens (hallIn t)) (deskOf (decode (hallIn t) t) (c .desk))
-    desk = desk-read t (c .desk) h k (desk-asked (hallIn t) (decode (hallIn t) t) c q)
+    desk = desk-read t (c .desk) h k (desk-asked limits (hallIn t) (decode (hallIn t) t) c q)
 
     by-step : (s : Step) → performStep (hallIn t) (decode (hallIn t) t) (c .desk) s .session < 65536
     by-step (Take c p) = held (p - 1)
@@ -261,7 +261,7 @@ performed-small t c h k q = by-step (c .step)
         (valid t k .formed .screens) desk
 
 pub step-session : (limits : Limits) (t : List ℕ) (c : Call) → Words16 t → stepTable limits t c .answer .session < 65536
-step-session limits t c h = by-step limits (λ r. r .answer .session < 65536) t c (omega arith) (λ n q. omega arith) (λ s q. performed-small t c h (known limits t s) q)
+step-session limits t c h = by-step limits (λ r. r .answer .session < 65536) t c (omega arith) (λ n q. omega arith) (λ s q. performed-small limits t c h (known limits t s) q)
 
 pub open-session : (limits : Limits) (H : Hall) (t : List ℕ) → openTable limits H t .answer .session ≡ 0
 open-session limits H t = by-open limits (λ r. r .answer .session ≡ 0) H t (λ n q. refl) (λ q. refl)
@@ -273,8 +273,8 @@ put-words H t d words h g =
     below-append 65536 (take start t) (words ++ drop (recordWidth H) (drop start t)) (small-take start t h)
     (below-append 65536 words (drop (recordWidth H) (drop start t)) g (small-drop (recordWidth H) (drop start t) (small-drop start t h)))
 
-after-words : (t : List ℕ) (c : Call) → Words16 t → Call16 c → Known t → asked t c ≡ 0 → Words16 (tableAfter t c)
-after-words t c h w k q = by-step (c .desk) (c .step) (w .1) q
+after-words : (limits : Limits) (t : List ℕ) (c : Call) → Words16 t → Call16 c → Known t → asked limits t c ≡ 0 → Words16 (tableAfter t c)
+after-words limits t c h w k q = by-step (c .desk) (c .step) (w .1) q
   where
     S : ℕ
     S = allScreens (hallIn t)
@@ -282,7 +282,7 @@ after-words t c h w k q = by-step (c .desk) (c .step) (w .1) q
     st : State
     st = decode (hallIn t) t
 
-    by-step : (d : ℕ) (s : Step) → Step16 s → asked t (d sends s) ≡ 0 → Words16 (tableAfterStep t d s)
+    by-step : (d : ℕ) (s : Step) → Step16 s → asked limits t (d sends s) ≡ 0 → Words16 (tableAfterStep t d s)
     by-step d (Take c p) w q = words-set t (screenWord (hallIn t) d c) (getD t (positionWord p) 0) (h (positionWord p)) h
     by-step d (Drop c) w q = words-set t (screenWord (hallIn t) d c) 0 (omega arith) h
     by-step d (Swap p v) w q =
@@ -290,13 +290,13 @@ after-words t c h w k q = by-step (c .desk) (c .step) (w .1) q
         cond-both Words16 (isRepeat old v) h
         (words-set (set t (positionWord p) v) (recordStart (hallIn t) d) old (h (positionWord p)) (words-set t (positionWord p) v (w .1) h))
     by-step d Retire w q =
-        let asks = retire-asked (hallIn t) st d q in
+        let asks = retire-asked limits (hallIn t) st d q in
         let D : Desk = deskOf st d in
         put-words (hallIn t) t d (encodeDesk S (retire (decodeDesk S (recordOf (hallIn t) t d)))) h
         (subst (λ (E : Desk). Words16 (encodeDesk S (retire E))) (desk-word t d (asks .desk .0) (asks .desk .1))
         (record-words S (retire D) (k .bounded) (retire-16 S D (asks .owes) (asks .room) (desk-read t d h k (asks .desk)))))
     by-step d Collect w q =
-        let r = desk-asked (hallIn t) st (d sends Collect) q in
+        let r = desk-asked limits (hallIn t) st (d sends Collect) q in
         let D : Desk = deskOf st d in
         put-words (hallIn t) t d (encodeDesk S (collect S (st .shown) (decodeDesk S (recordOf (hallIn t) t d)) .after)) h
         (subst (λ (E : Desk). Words16 (encodeDesk S (collect S (st .shown) E .after))) (desk-word t d (r .0) (r .1))
@@ -304,7 +304,7 @@ after-words t c h w k q = by-step (c .desk) (c .step) (w .1) q
         (collect-16 S (st .shown) D (some-screens (hallIn t) (k .fits)) (valid t k .formed .screens) (desk-read t d h k r))))
 
 pub step-words : (limits : Limits) (t : List ℕ) (c : Call) → Words16 t → Call16 c → Words16 (stepTable limits t c .after)
-step-words limits t c h w = by-step limits (λ r. Words16 (r .after)) t c h (λ n q. h) (λ s q. after-words t c h w (known limits t s) q)
+step-words limits t c h w = by-step limits (λ r. Words16 (r .after)) t c h (λ n q. h) (λ s q. after-words limits t c h w (known limits t s) q)
 
 -- ---- The opening.
 opened-words : (H : Hall) (t : List ℕ) → Words16 t → Fits H → Words16 (openedTable H t)
@@ -318,15 +318,15 @@ pub open-words : (limits : Limits) (H : Hall) (t : List ℕ) → Words16 t → W
 open-words limits H t h = by-open limits (λ r. Words16 (r .after)) H t (λ n q. h) (λ q. opened-words H t h (limits-fit limits H (hall-opens limits H t q .0)))
 
 -- ---- The length of the table.
-pub after-length : (limits : Limits) (t : List ℕ) (c : Call) → Words16 t → sound limits t ≡ true → asked t c ≡ 0 → length (tableAfter t c) ≡ length t
+pub after-length : (limits : Limits) (t : List ℕ) (c : Call) → Words16 t → sound limits t ≡ true → asked limits t c ≡ 0 → length (tableAfter t c) ≡ length t
 after-length limits t c h s q =
     let H : Hall = hallIn t in
     let st : State = decode H t in
     let k = known limits t s in
     let o = k .fits in
     let after : State = perform H st c .after in
-    let v : Valid H after = subst (λ (n : ℕ). Valid H (decide n st (perform H st c .session) (perform H st c .after) .after)) q (valid-step H o st c (valid t k)) in
-    ap length (encoded t c h k q)
+    let v : Valid H after = subst (λ (n : ℕ). Valid H (decide n st (perform H st c .session) (perform H st c .after) .after)) q (valid-step H o limits st c (valid t k)) in
+    ap length (encoded limits t c h k q)
     ∙ omega (arith, length-append (encode H after) (drop (need H) t), length-table H o after v [], length-drop (need H) t, k .long)
 
 pub step-length : (limits : Limits) (t : List ℕ) (c : Call) → Words16 t → length (stepTable limits t c .after) ≡ length t
