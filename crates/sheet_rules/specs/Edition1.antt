@@ -3,8 +3,8 @@ use Prim.Native.Nat.{ℕ, zero, suc, _+_, _/_, _%_}
 use mathlib.Core.Bool.{Bool, true, false, cond}
 use mathlib.Core.List.{List, [], _∷_, _++_}
 use lib.Dec.{ltb}
-use Rattle.rules.specs.Hall.{Hall, hallOf}
-use Rattle.rules.specs.Numbers.{Parsed, allowed, barred, bind, decodeNumber, maxNumber, parsed, refusal, refused}
+use Rattle.rules.specs.Hall.{Hall, Limits, hallLimits, hallOf, trainingLimits}
+use Rattle.rules.specs.Numbers.{Padding, Parsed, allowed, barred, bind, decodeNumber, maxNumber, parsed, refusal, refused}
 use Rattle.sheet_rules.specs.Sheet.{Edition, Record, deskField, follows, isCode, positionField, recordFor, screenField, sessionField}
 
 -- ---- How numbers are read.
@@ -13,18 +13,25 @@ use Rattle.sheet_rules.specs.Sheet.{Edition, Record, deskField, follows,
 abbrev pub NumberReader : Type 0
 NumberReader = ℕ → List ℕ → ℕ → Parsed ℕ
 
--- What may differ between readers of one edition.
+-- What may differ between readers of one edition. Document 02, "A training room": "the same number reader, which is now told its limit by the
+-- caller".
 pub record Format : Type 0 where
   pub readNumber : NumberReader
-  pub maxSession : ℕ
+  pub limits : Limits
 
--- The hall's format: padded numbers are refused, and sessions are at most 65,535.
+-- Padded numbers are accepted or refused, and a session is read against the limit of the room.
+abbrev pub formatFor : Padding → Limits → Format
+formatFor padding limits = record { readNumber = decodeNumber padding; limits = limits }
+
 abbrev pub hallFormat : Format
-hallFormat = record { readNumber = decodeNumber barred; maxSession = maxNumber }
+hallFormat = formatFor barred hallLimits
+
+abbrev pub trainingFormat : Format
+trainingFormat = formatFor barred trainingLimits
 
 -- The format of the sheets in the archive. Document 02, "Padded numbers go": "Old sheets in the archive are kept"
 abbrev pub archiveFormat : Format
-archiveFormat = record { readNumber = decodeNumber allowed; maxSession = maxNumber }
+archiveFormat = formatFor allowed hallLimits
 
 -- ---- Reading.
 
@@ -38,7 +45,7 @@ abbrev pub decodeRest : Format → ℕ → ℕ → List ℕ → ℕ → Parsed R
 decodeRest format code desk sheet at =
     bind (decodeField (format .readNumber) (follows code screenField) maxNumber sheet at) λ screen afterScreen.
     bind (decodeField (format .readNumber) (follows code positionField) maxNumber sheet afterScreen) λ position afterPosition.
-    bind (decodeField (format .readNumber) (follows code sessionField) (format .maxSession) sheet afterPosition) λ session afterSession.
+    bind (decodeField (format .readNumber) (follows code sessionField) (format .limits .sessions) sheet afterPosition) λ session afterSession.
     parsed (recordFor code desk screen position session) afterSession
 
 abbrev pub decodeFields : Format → ℕ → List ℕ → ℕ → Parsed Record
@@ -97,15 +104,19 @@ encodeHeader hall = encodeNumber (hall .desks) ++ (encodeNumber (hall .screens) 
 -- ---- The edition. It does not use what is carried over from one record to the next.
 abbrev pub edition1 : Format → Edition
 edition1 format = record {
+  limits = format .limits;
   decodeHeader = decodeHeader (format .readNumber);
   encodeHeader = encodeHeader;
   decodeRecord = λ carried. decodeRecord format;
   encodeRecord = λ carried. encodeRecord;
 }
 
--- The hall's sheets of edition 1, and those in the archive.
+-- The sheets of edition 1 of the hall and of the training room, and those in the archive.
 abbrev pub hallEdition : Edition
 hallEdition = edition1 hallFormat
+
+abbrev pub trainingEdition : Edition
+trainingEdition = edition1 trainingFormat
 
 abbrev pub archiveEdition : Edition
 archiveEdition = edition1 archiveFormat

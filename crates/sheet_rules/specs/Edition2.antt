@@ -75,6 +75,7 @@ encodeRecord2 carried entry = cond (repeats carried (entry .desk)) (encodeNumber
 -- ---- The edition.
 abbrev pub edition2 : Format → Edition
 edition2 format = record {
+  limits = format .limits;
   decodeHeader = decodeHeader2 (format .readNumber);
   encodeHeader = encodeHeader2;
   decodeRecord = decodeRecord2 format;

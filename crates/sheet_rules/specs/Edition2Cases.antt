@@ -5,14 +5,13 @@ use mathlib.Core.Path.{_≡_, refl}
 use mathlib.Core.Bool.{true, false}
 use mathlib.Core.List.{List, [], _∷_, map}
 use lib.ListN.{length, replicate}
-use Rattle.rules.specs.Hall.{hallOf}
+use Rattle.rules.specs.Hall.{hallLimits, hallOf}
 use Rattle.rules.specs.Lists.{toNat}
 use Rattle.rules.specs.Numbers.{Parsed, barred, decodeNumber, parsed, refusal, refusalOf}
-use Rattle.sheet_rules.specs.Edition1.{decodeHeader, encodeHeader, encodeNumber, encodeRecord, hallEdition, hallFormat}
+use Rattle.sheet_rules.specs.Edition1.{decodeHeader, encodeHeader, encodeNumber, encodeRecord, hallEdition, hallFormat, trainingFormat}
 use Rattle.sheet_rules.specs.Edition2.{checkDesk, decodeHeader2, decodeRecord2, deskBefore, edition2, editionFor, encodeHeader2, encodeRecord2, expectNumber, hallEdition2}
 use Rattle.sheet_rules.specs.Edition2.{isShorthand, repeats, shorthandFor, standsFor, version1, version2}
 use Rattle.sheet_rules.specs.Lines.{decimal, printed}
-use Rattle.sheet_rules.specs.ReadingCases.{limitedTo999}
 use Rattle.sheet_rules.specs.Rewriting.{refusedSheetLine, rewrite, toEdition1, toEdition2, unlessTooLong}
 use Rattle.sheet_rules.specs.RewritingCases.{Case as Rewriting, _becomes_}
 use Rattle.sheet_rules.specs.Sheet.{Carried, Edition, Record, encodeSheet, lastDesk, more, noDesk, opened, reading, recordFor, stop}
@@ -155,7 +154,7 @@ written-out-checked = refl
 
 -- The format's limit of sessions holds in edition 2 too: 999 is read, and 1,000 is refused.
 pub sessions-to-999 :
-    map (λ (bytes : List ℕ). edition2 limitedTo999 .decodeRecord (lastDesk 1) bytes 0) ((0x0B ∷ 0x01 ∷ 0xE7 ∷ 0x07 ∷ []) ∷ (0x0B ∷ 0x01 ∷ 0xE8 ∷ 0x07 ∷ []) ∷ [])
+    map (λ (bytes : List ℕ). edition2 trainingFormat .decodeRecord (lastDesk 1) bytes 0) ((0x0B ∷ 0x01 ∷ 0xE7 ∷ 0x07 ∷ []) ∷ (0x0B ∷ 0x01 ∷ 0xE8 ∷ 0x07 ∷ []) ∷ [])
     ≡ parsed (recordFor 3 1 0 1 999) 4 ∷ refusal 3 16 2 ∷ []
 unfolding decodeRecord2 decodeNumber
 sessions-to-999 = refl
@@ -265,6 +264,7 @@ too-long-is-18 = (refl, refl)
 -- It is asked of every meaning that is written: here in an edition whose headers have 65,537 bytes.
 abbrev longHeaders : Edition
 longHeaders = record {
+  limits = hallLimits;
   decodeHeader = hallEdition .decodeHeader;
   encodeHeader = λ hall. replicate 65537 7;
   decodeRecord = hallEdition .decodeRecord;

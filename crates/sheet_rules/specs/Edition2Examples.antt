@@ -5,7 +5,7 @@ use mathlib.Core.Path.{_≡_, refl, _∙_}
 use mathlib.Core.List.{List, [], _∷_}
 use lib.ListN.{length, replicate}
 use borrow.Author.Tests.{lt-leb}
-use Rattle.rules.specs.Hall.{hallOf}
+use Rattle.rules.specs.Hall.{hallLimits, hallOf}
 use Rattle.rules.specs.Numbers.{barred, decodeNumber, refusalOf}
 use Rattle.rules.specs.Table.{decodeDesk, encodeDesk, openTable, recordSound, sound, stepTable}
 use Rattle.sheet_rules.specs.OtherEdition.{HeaderNumberRefused}
@@ -66,7 +66,7 @@ pub D2-there-and-back : toEdition2 (toEdition1 sheetD2) ≡ sheetD2
 D2-there-and-back = to-edition-1-and-back sheetD2 (are-bytes sheetD2 refl) D2-to-edition-1
 
 pub D-prints-the-same : printed hallEdition2 (toEdition2 sheetD) ≡ printed hallEdition sheetD
-D-prints-the-same = rewritten-sheets-print-the-same sheetD D-to-edition-2
+D-prints-the-same = rewritten-sheets-print-the-same refl sheetD D-to-edition-2
 
 -- What holds of every edition: the hand-back at index 6 is paired with a retirement before it,
 pub paired-in-D2 : demand-2-of-sheets hallEdition2 sheetD2 (hallOf 1 1 1) recordsD D2-accepted .guarantee .pair 6 < 6
@@ -146,7 +146,7 @@ collects-good : (n : ℕ) → EachGood 65535 (replicate n (recordFor 5 1 0 0 0))
 collects-good zero = tt
 collects-good (suc n) = (record { code = refl; desk = omega arith; screen = refl; position = refl; session = refl }, collects-good n)
 
-busy-can-be : (n : ℕ) → GoodMeaning 65535 (busy n)
+busy-can-be : (n : ℕ) → GoodMeaning hallLimits (busy n)
 unfolding openingNumber lentTable
 busy-can-be n = record {
   opens = refl;
@@ -179,7 +179,7 @@ pub exactly-65536 :
     Rewritten hallEdition2 hallEdition (encodeSheet hallEdition2 (busy 32765)) (toEdition1 (encodeSheet hallEdition2 (busy 32765)))
     × (length (encodeSheet hallEdition (busy 32765)) ≡ 65536)
 exactly-65536 =
-    (rewritten hall-edition-2-lawful hall-edition-lawful (encodeSheet hallEdition2 (busy 32765)) (busy 32765) (busy-accepted 32764 (omega arith)) (omega (arith, busy-length 32765)), busy-length 32765)
+    (rewritten hall-edition-2-lawful hall-edition-lawful refl (encodeSheet hallEdition2 (busy 32765)) (busy 32765) (busy-accepted 32764 (omega arith)) (omega (arith, busy-length 32765)), busy-length 32765)
 
 pub over-65536 : TooLong hallEdition2 hallEdition (encodeSheet hallEdition2 (busy 32766)) (toEdition1 (encodeSheet hallEdition2 (busy 32766)))
 over-65536 = record {
@@ -208,7 +208,7 @@ turns-good zero = tt
 turns-good (suc n) =
     (record { code = refl; desk = omega arith; screen = refl; position = refl; session = refl }, (record { code = refl; desk = omega arith; screen = refl; position = refl; session = refl }, turns-good n))
 
-in-turn-can-be : (n : ℕ) → GoodMeaning 65535 (inTurn n)
+in-turn-can-be : (n : ℕ) → GoodMeaning hallLimits (inTurn n)
 unfolding openingNumber lentTable
 in-turn-can-be n = record { opens = refl; records = turns-good n }
 

@@ -31,16 +31,16 @@ abbrev pub CarriedHolds : Carried → Type 0
 CarriedHolds noDesk = Unit {0}
 CarriedHolds (lastDesk desk) = desk ≤ maxNumber
 
-pub record Lawful (edition : Edition) (maxSession : ℕ) : Type 0 where
+pub record Lawful (edition : Edition) : Type 0 where
   -- A header that opens a hall is read back.
-  pub header-read-back : (hall : Hall) → openingNumber hall ≡ 0 → ReadsBack (edition .decodeHeader) (edition .encodeHeader hall) hall
+  pub header-read-back : (hall : Hall) → openingNumber (edition .limits) hall ≡ 0 → ReadsBack (edition .decodeHeader) (edition .encodeHeader hall) hall
   -- A header that is read has at least one byte.
   pub header-moves : (sheet : List ℕ) (at : ℕ) (hall : Hall) (next : ℕ) → edition .decodeHeader sheet at ≡ parsed hall next → Moved sheet at next
   -- What is written for it has no more bytes.
   pub header-no-longer : (sheet : List ℕ) (at : ℕ) (hall : Hall) (next : ℕ) → edition .decodeHeader sheet at ≡ parsed hall next
       → at + length (edition .encodeHeader hall) ≤ next
   -- A good record is read back, if the same was carried over when it was written.
-  pub record-read-back : (carried : Carried) (entry : Record) → GoodRecord maxSession entry
+  pub record-read-back : (carried : Carried) (entry : Record) → GoodRecord (edition .limits .sessions) entry
       → ReadsBack (edition .decodeRecord carried) (edition .encodeRecord carried entry) entry
   -- A record that is read has at least one byte,
   pub record-moves : (carried : Carried) (sheet : List ℕ) (at : ℕ) (entry : Record) (next : ℕ)
@@ -57,7 +57,7 @@ pub record Lawful (edition : Edition) (maxSession : ℕ) : Type 0 where
   -- and it is good, if the desk that was carried over is at most 65,535.
   pub record-good : (carried : Carried) (sheet : List ℕ) (at : ℕ) (entry : Record) (next : ℕ) → CarriedHolds carried
       → edition .decodeRecord carried sheet at ≡ parsed entry next
-      → GoodRecord maxSession entry
+      → GoodRecord (edition .limits .sessions) entry
 
 -- An edition is exact if it reads nothing but what it writes, in a sheet that consists of bytes.
 pub record Exact (edition : Edition) : Type 0 where

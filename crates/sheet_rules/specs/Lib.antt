@@ -14,6 +14,7 @@ pub mod ReadingCases
 pub mod OffsetCases
 pub mod RewritingCases
 pub mod Edition2Cases
+pub mod TrainingCases
 pub mod RunCases
 pub mod SheetInstances
 pub mod SheetExamples

@@ -9,9 +9,8 @@ use lib.ListN.{length, drop, length-append, replicate}
 use lib.Seq.{drop-append-seam}
 use Rattle.rules.specs.Lists.{toNat}
 use Rattle.rules.specs.Numbers.{Parsed, Refusal, barred, decodeNumber, parsed, refusal, refusalOf, refused}
-use Rattle.sheet_rules.specs.Edition1.{decodeHeader, decodeRecord, hallEdition, hallFormat}
+use Rattle.sheet_rules.specs.Edition1.{decodeHeader, decodeRecord, hallEdition, hallFormat, trainingFormat}
 use Rattle.sheet_rules.specs.Offsets.{NumbersFill, ShowsByte, WholeLines, ending, refusesNumber}
-use Rattle.sheet_rules.specs.ReadingCases.{limitedTo999}
 use Rattle.sheet_rules.specs.Sheet.{lentTable, noDesk, openingNumber, reading}
 use Rattle.sheet_rules.specs.SheetCases.{sheetD}
 
@@ -141,8 +140,8 @@ not-the-byte = (
 -- The limit is 65,535 or that of a session: 65,536 is refused in both formats, and 1,000 where sessions are at most 999.
 pub limits-of-numbers :
     ShowsByte hallFormat (0x80 ∷ 0x80 ∷ 0x04 ∷ []) 0 16 0
-    × ShowsByte limitedTo999 (0x80 ∷ 0x80 ∷ 0x04 ∷ []) 0 16 0
-    × ShowsByte limitedTo999 (0xE8 ∷ 0x07 ∷ []) 0 16 0
+    × ShowsByte trainingFormat (0x80 ∷ 0x80 ∷ 0x04 ∷ []) 0 16 0
+    × ShowsByte trainingFormat (0xE8 ∷ 0x07 ∷ []) 0 16 0
 unfolding decodeNumber
 limits-of-numbers = (
   record { before = record { count = 0; numbers = refl }; limit = 65535; limited = inr refl; refuses = refl },
@@ -150,10 +149,10 @@ limits-of-numbers = (
   record { before = record { count = 0; numbers = refl }; limit = 999; limited = inr refl; refuses = refl },
 )
 
--- 1,000 is not refused in the hall's format, and 1 not even where sessions are at most 999.
+-- 1,000 is not refused in the hall's format, and 1 not even in the training room's.
 pub no-other-limits :
     (ShowsByte hallFormat (0xE8 ∷ 0x07 ∷ []) 0 16 0 → ⊥)
-    × (ShowsByte limitedTo999 (0x01 ∷ []) 0 16 0 → ⊥)
+    × (ShowsByte trainingFormat (0x01 ∷ []) 0 16 0 → ⊥)
 unfolding decodeNumber
 no-other-limits = (
   λ byte. (

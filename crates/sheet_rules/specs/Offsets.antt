@@ -63,7 +63,7 @@ pub record NumbersBetween (format : Format) (sheet : List ℕ) (at end : ℕ) : 
 pub record ShowsByte (format : Format) (sheet : List ℕ) (at number offset : ℕ) : Type 0 where
   pub before : NumbersBetween format sheet at offset
   pub limit : ℕ
-  pub limited : (limit ≡ maxNumber) ⊎ (limit ≡ format .maxSession)
+  pub limited : (limit ≡ maxNumber) ⊎ (limit ≡ format .limits .sessions)
   pub refuses : format .readNumber limit sheet offset ≡ refusal 0 number offset
 
 -- A refusal in a sheet that is read from an offset on: 15, 16 and 19 show the byte of a number, and no other refusal shows an offset.

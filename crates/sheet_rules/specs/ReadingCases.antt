@@ -3,10 +3,10 @@ use Prim.Native.Nat.{ℕ, _+_}
 use mathlib.Core.Path.{_≡_, refl}
 use mathlib.Core.List.{List, [], _∷_, map}
 use lib.ListN.{getD, length, replicate}
-use Rattle.rules.specs.Hall.{hallOf}
+use Rattle.rules.specs.Hall.{hallLimits, hallOf}
 use Rattle.rules.specs.Lists.{toNat}
 use Rattle.rules.specs.Numbers.{barred, decodeNumber, parsed, refusal, refusalOf}
-use Rattle.sheet_rules.specs.Edition1.{Format, archiveEdition, decodeHeader, decodeRecord, edition1, encodeHeader, encodeNumber, encodeRecord, hallEdition}
+use Rattle.sheet_rules.specs.Edition1.{Format, archiveEdition, decodeHeader, decodeRecord, edition1, encodeHeader, encodeNumber, encodeRecord, hallEdition, trainingEdition}
 use Rattle.sheet_rules.specs.Lines.{decimal, endingLine, line}
 use Rattle.sheet_rules.specs.Sheet.{Carried, Edition, Meaning, Record, Records, complete, encodeSheet, fieldTable, follows, lastDesk, lentTable, more}
 use Rattle.sheet_rules.specs.Sheet.{noDesk, openSheet, opened, openingNumber, reading, recordFor, stop, unopened, whole}
@@ -124,12 +124,10 @@ pub small-bytes : encodeSheet hallEdition small ≡ 0x01 ∷ 0x01 ∷ 0x01 ∷ 0
 unfolding encodeSheet encodeHeader encodeRecord encodeNumber
 small-bytes = refl
 
--- ---- `maxSession` limits sessions alone: if it is 999, position 1,000 and session 999 are read, and session 1,000 is refused.
-abbrev pub limitedTo999 : Format
-limitedTo999 = record { readNumber = decodeNumber barred; maxSession = 999 }
-
+-- ---- "Only a session is read against 999; other numbers keep 65,535": in the training room position 1,000 and session 999 are read, and session
+-- 1,000 is refused with its offset.
 pub sessions-to-999 :
-    map (λ (sheet : List ℕ). edition1 limitedTo999 .decodeRecord noDesk sheet 0)
+    map (λ (sheet : List ℕ). trainingEdition .decodeRecord noDesk sheet 0)
     ((0x03 ∷ 0x01 ∷ 0xE8 ∷ 0x07 ∷ 0xE7 ∷ 0x07 ∷ []) ∷ (0x03 ∷ 0x01 ∷ 0xE8 ∷ 0x07 ∷ 0xE8 ∷ 0x07 ∷ []) ∷ [])
     ≡ parsed (recordFor 3 1 0 1000 999) 6 ∷ refusal 3 16 4 ∷ []
 unfolding decodeRecord decodeNumber
@@ -143,6 +141,7 @@ deskDue (lastDesk desk) = desk + 1
 
 abbrev pub countsDesks : Edition
 countsDesks = record {
+  limits = hallLimits;
   decodeHeader = λ sheet at. parsed (hallOf 1 1 1) at;
   encodeHeader = λ hall. [];
   decodeRecord = λ carried sheet at. parsed (recordFor (getD sheet at 0) (deskDue carried) 0 0 0) (at + 1);

@@ -40,7 +40,7 @@ calls-without-17 = refl
 
 -- Such a record has a line, and is not counted.
 pub line-of-17 :
-    linesFrom (7 ∷ 8 ∷ 9 ∷ []) 1 zeros (more (recordFor 6 1 0 0 0) (more (recordFor 4 2 0 0 0) complete))
+    linesFrom hallLimits (7 ∷ 8 ∷ 9 ∷ []) 1 zeros (more (recordFor 6 1 0 0 0) (more (recordFor 4 2 0 0 0) complete))
     ≡ text ("1 6 17 0" ∷ "2 4 5 0" ∷ "end 0 1 0" ∷ [])
 unfolding stepTable sound addStep decimal line endLine
 line-of-17 = refl

@@ -8,7 +8,7 @@ use mathlib.Core.Logic.{_⊎_}
 use mathlib.Core.Option.{some}
 use lib.ListN.{length, take, drop}
 use Rattle.rules.specs.Bytes.{IsBytes}
-use Rattle.rules.specs.Hall.{hallOf}
+use Rattle.rules.specs.Hall.{Limits, hallOf}
 use Rattle.rules.specs.Numbers.{Parsed, Refusal, parsed, refusal, refusalOf, refused}
 use Rattle.sheet_rules.specs.OtherEdition.{HeaderNumberRefused, RefusedHeader}
 use Rattle.sheet_rules.specs.Edition1.{Format, NumberReader, archiveEdition, decodeHeader, edition1, encodeNumber, hallEdition}
@@ -57,7 +57,11 @@ no-good-records = (
 pub says-each-good : (first second : Record) → EachGood 999 (first ∷ second ∷ []) → GoodRecord 999 first × GoodRecord 999 second
 says-each-good first second good = (good .0, good .1 .0)
 
-pub says-good-meaning : (meaning : Meaning) → GoodMeaning 999 meaning → (openingNumber (meaning .header) ≡ 0) × EachGood 999 (meaning .records)
+-- A room with limits that all differ.
+abbrev pub limited : Limits
+limited = record { desks = 2; screens = 3; positions = 4; sessions = 999 }
+
+pub says-good-meaning : (meaning : Meaning) → GoodMeaning limited meaning → (openingNumber limited (meaning .header) ≡ 0) × EachGood 999 (meaning .records)
 says-good-meaning meaning good = (good .opens, good .records)
 
 pub says-accepted : (edition : Edition) (sheet : List ℕ) (meaning : Meaning) → Accepted edition sheet meaning → reading edition sheet ≡ opened (meaning .header) (whole (meaning .records))
@@ -80,9 +84,9 @@ says-read-back parser bytes sheet reads = reads sheet 2 4
 pub says-carried : CarriedHolds noDesk × CarriedHolds (lastDesk 65535) × (CarriedHolds (lastDesk 65536) → ⊥)
 says-carried = (tt, omega arith, λ holds. omega (arith, holds))
 
--- ---- Editions, where sessions are at most 999; desk 3 is carried over.
-module _ (edition : Edition) (lawful : Lawful edition 999) (sheet : List ℕ) where
-  pub says-header-read-back : openingNumber (hallOf 2 3 4) ≡ 0 → ReadsBack (edition .decodeHeader) (edition .encodeHeader (hallOf 2 3 4)) (hallOf 2 3 4)
+-- ---- Editions; desk 3 is carried over.
+module _ (edition : Edition) (lawful : Lawful edition) (sheet : List ℕ) where
+  pub says-header-read-back : openingNumber (edition .limits) (hallOf 2 3 4) ≡ 0 → ReadsBack (edition .decodeHeader) (edition .encodeHeader (hallOf 2 3 4)) (hallOf 2 3 4)
   says-header-read-back = lawful .header-read-back (hallOf 2 3 4)
 
   pub says-header-moves : edition .decodeHeader sheet 5 ≡ parsed (hallOf 2 3 4) 8 → Moved sheet 5 8
@@ -92,7 +96,7 @@ module _ (edition : Edition) (lawful : Lawful edition 999) (sheet : List ℕ) wh
   says-header-no-longer = lawful .header-no-longer sheet 5 (hallOf 2 3 4) 8
 
   module _ (entry : Record) where
-    pub says-record-read-back : GoodRecord 999 entry → ReadsBack (edition .decodeRecord (lastDesk 3)) (edition .encodeRecord (lastDesk 3) entry) entry
+    pub says-record-read-back : GoodRecord (edition .limits .sessions) entry → ReadsBack (edition .decodeRecord (lastDesk 3)) (edition .encodeRecord (lastDesk 3) entry) entry
     says-record-read-back = lawful .record-read-back (lastDesk 3) entry
 
     pub says-record-moves : edition .decodeRecord (lastDesk 3) sheet 5 ≡ parsed entry 8 → Moved sheet 5 8
@@ -104,7 +108,7 @@ module _ (edition : Edition) (lawful : Lawful edition 999) (sheet : List ℕ) wh
     pub says-record-code : edition .decodeRecord (lastDesk 3) sheet 5 ≡ parsed entry 8 → isCode (entry .code) ≡ true
     says-record-code = lawful .record-code (lastDesk 3) sheet 5 entry 8
 
-    pub says-record-good : CarriedHolds (lastDesk 3) → edition .decodeRecord (lastDesk 3) sheet 5 ≡ parsed entry 8 → GoodRecord 999 entry
+    pub says-record-good : CarriedHolds (lastDesk 3) → edition .decodeRecord (lastDesk 3) sheet 5 ≡ parsed entry 8 → GoodRecord (edition .limits .sessions) entry
     says-record-good = lawful .record-good (lastDesk 3) sheet 5 entry 8
 
 -- An edition that is exact.
@@ -120,8 +124,8 @@ pub says-exact-numbers : (readNumber : NumberReader) (sheet : List ℕ) → Exac
     → Stands (encodeNumber 7) sheet 5 8
 says-exact-numbers readNumber sheet exact = exact 999 sheet 5 7 8
 
-pub says-written : (edition : Edition) (sheet : List ℕ) (meaning : Meaning) → WrittenSheet edition 999 sheet meaning
-    → GoodMeaning 999 meaning × (length sheet ≤ 65536) × (sheet ≡ encodeSheet edition meaning)
+pub says-written : (edition : Edition) (sheet : List ℕ) (meaning : Meaning) → WrittenSheet edition sheet meaning
+    → GoodMeaning (edition .limits) meaning × (length sheet ≤ 65536) × (sheet ≡ encodeSheet edition meaning)
 says-written edition sheet meaning written = (written .good, written .short, written .bytes)
 
 -- Numbers that are at most 999: 7, from offset 5 up to offset 8.
@@ -163,7 +167,7 @@ module _ (format : Format) (sheet : List ℕ) where
 
   pub says-shows-byte : (byte : ShowsByte format sheet 5 15 8)
       → NumbersBetween format sheet 5 8
-      × ((byte .limit ≡ 65535) ⊎ (byte .limit ≡ format .maxSession))
+      × ((byte .limit ≡ 65535) ⊎ (byte .limit ≡ format .limits .sessions))
       × (format .readNumber (byte .limit) sheet 8 ≡ refusal 0 15 8)
   says-shows-byte byte = (byte .before, byte .limited, byte .refuses)
 

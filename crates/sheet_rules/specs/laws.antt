@@ -11,3 +11,4 @@ pub mod NumbersBetween
 pub mod Offsets
 pub mod Tally
 pub mod Run
+pub mod Sessions

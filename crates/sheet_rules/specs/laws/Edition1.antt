@@ -58,7 +58,7 @@ module _ (format : Format) (numbers : LawfulNumbers (format .readNumber)) where
       ∙ ap (λ (n : ℕ). length (encodeField (follows code screenField) screen) + n) (length-append (encodeField (follows code positionField) position) _)
 
   pub record RestParsed (code desk : ℕ) (sheet : List ℕ) (at : ℕ) (entry : Record) (next : ℕ) : Type 0 where
-    pub good : isCode code ≡ true → FieldHolds (follows code deskField) maxNumber desk → GoodRecord (format .maxSession) entry
+    pub good : isCode code ≡ true → FieldHolds (follows code deskField) maxNumber desk → GoodRecord (format .limits .sessions) entry
     pub past : at ≤ next
     pub inside : next ≤ length sheet
     pub same-code : entry .code ≡ code
@@ -73,8 +73,8 @@ module _ (format : Format) (numbers : LawfulNumbers (format .readNumber)) where
       let g₁ = field-parsed (follows code screenField) maxNumber sheet at (e₁ .0) (e₁ .1) h (e₁ .2) in
       let e₂ = bind-parsed (decodeField (format .readNumber) (follows code positionField) maxNumber sheet (e₁ .1)) _ entry next (e₁ .3) in
       let g₂ = field-parsed (follows code positionField) maxNumber sheet (e₁ .1) (e₂ .0) (e₂ .1) (g₁ .inside) (e₂ .2) in
-      let e₃ = bind-parsed (decodeField (format .readNumber) (follows code sessionField) (format .maxSession) sheet (e₂ .1)) _ entry next (e₂ .3) in
-      let g₃ = field-parsed (follows code sessionField) (format .maxSession) sheet (e₂ .1) (e₃ .0) (e₃ .1) (g₂ .inside) (e₃ .2) in
+      let e₃ = bind-parsed (decodeField (format .readNumber) (follows code sessionField) (format .limits .sessions) sheet (e₂ .1)) _ entry next (e₂ .3) in
+      let g₃ = field-parsed (follows code sessionField) (format .limits .sessions) sheet (e₂ .1) (e₃ .0) (e₃ .1) (g₂ .inside) (e₃ .2) in
       same-parsed (RestParsed code desk sheet at) (recordFor code desk (e₁ .0) (e₂ .0) (e₃ .0)) entry (e₃ .1) next (e₃ .3)
       (record {
         good = λ fine holds. record { code = fine; desk = holds; screen = g₁ .holds; position = g₂ .holds; session = g₃ .holds };
@@ -87,7 +87,7 @@ module _ (format : Format) (numbers : LawfulNumbers (format .readNumber)) where
 
   -- all fields of a record whose code was read
   pub record FieldsParsed (code : ℕ) (sheet : List ℕ) (at : ℕ) (entry : Record) (next : ℕ) : Type 0 where
-    pub good : isCode code ≡ true → GoodRecord (format .maxSession) entry
+    pub good : isCode code ≡ true → GoodRecord (format .limits .sessions) entry
     pub past : at ≤ next
     pub inside : next ≤ length sheet
     pub same-code : entry .code ≡ code
@@ -113,7 +113,7 @@ module _ (format : Format) (numbers : LawfulNumbers (format .readNumber)) where
       }
 
   pub record RecordParsed (sheet : List ℕ) (at : ℕ) (entry : Record) (next : ℕ) : Type 0 where
-    pub good : GoodRecord (format .maxSession) entry
+    pub good : GoodRecord (format .limits .sessions) entry
     pub moved : Moved sheet at next
     pub no-longer : at + length (encodeRecord entry) ≤ next
 
@@ -181,36 +181,36 @@ module _ (format : Format) (numbers : LawfulNumbers (format .readNumber)) where
   field-read-back true limit value fits holds = numbers .read-back limit value holds fits
   field-read-back false limit value fits holds = λ sheet at next stands. (let offset : next ≡ at = omega (arith, stands .end) in cc)
 
-  module _ (fits : format .maxSession ≤ maxNumber) where
-    pub rest-read-back : (entry : Record) → GoodRecord (format .maxSession) entry
+  module _ (fits : format .limits .sessions ≤ maxNumber) where
+    pub rest-read-back : (entry : Record) → GoodRecord (format .limits .sessions) entry
         → ReadsBack (decodeRest format (entry .code) (entry .desk)) (encodeRest entry) entry
     rest-read-back entry good =
         bind-read-back _ _ _ (field-read-back (follows (entry .code) screenField) maxNumber (entry .screen) (omega arith) (good .screen))
         (bind-read-back _ _ _ (field-read-back (follows (entry .code) positionField) maxNumber (entry .position) (omega arith) (good .position))
         (last-read-back (recordFor (entry .code) (entry .desk) (entry .screen) (entry .position))
-        (field-read-back (follows (entry .code) sessionField) (format .maxSession) (entry .session) fits (good .session))))
+        (field-read-back (follows (entry .code) sessionField) (format .limits .sessions) (entry .session) fits (good .session))))
 
-    pub fields-read-back : (entry : Record) → GoodRecord (format .maxSession) entry
+    pub fields-read-back : (entry : Record) → GoodRecord (format .limits .sessions) entry
         → ReadsBack (decodeFields format (entry .code)) (encodeFields entry) entry
     fields-read-back entry good =
         bind-read-back _ _ _ (field-read-back (follows (entry .code) deskField) maxNumber (entry .desk) (omega arith) (good .desk))
         (rest-read-back entry good)
 
-    record-read-back : (entry : Record) → GoodRecord (format .maxSession) entry → ReadsBack (decodeRecord format) (encodeRecord entry) entry
+    record-read-back : (entry : Record) → GoodRecord (format .limits .sessions) entry → ReadsBack (decodeRecord format) (encodeRecord entry) entry
     unfolding decodeRecord encodeRecord
     record-read-back entry good =
         bind-read-back _ _ _ (number-read-back (entry .code) (omega (arith, in-range (entry .code) 5 (good .code) .1)))
         (λ sheet at next stands. simp (good .code, fields-read-back entry good sheet at next stands))
 
-    pub header-read-back : (hall : Hall) → openingNumber hall ≡ 0 → ReadsBack (decodeHeader (format .readNumber)) (encodeHeader hall) hall
+    pub header-read-back : (hall : Hall) → openingNumber (format .limits) hall ≡ 0 → ReadsBack (decodeHeader (format .readNumber)) (encodeHeader hall) hall
     unfolding decodeHeader encodeHeader openingNumber
     header-read-back hall opens =
-        let asked = limits-fit hallLimits hall (hall-opens hallLimits hall lentTable opens .0) in
+        let asked = limits-fit (format .limits) hall (hall-opens (format .limits) hall lentTable opens .0) in
         bind-read-back _ _ _ (number-read-back (hall .desks) (omega (arith, asked .desks .1)))
         (bind-read-back _ _ _ (number-read-back (hall .screens) (omega (arith, asked .screens .1)))
         (last-read-back (hallOf (hall .desks) (hall .screens)) (number-read-back (hall .positions) (omega (arith, asked .positions .1)))))
 
-    pub edition1-lawful : Lawful (edition1 format) (format .maxSession)
+    pub edition1-lawful : Lawful (edition1 format)
     edition1-lawful = record {
       header-read-back = header-read-back;
       header-moves = λ sheet at hall next e. header-parsed sheet at hall next e .moved;
@@ -222,10 +222,10 @@ module _ (format : Format) (numbers : LawfulNumbers (format .readNumber)) where
       record-good = λ carried sheet at entry next holds e. record-parsed sheet at entry next e .good;
     }
 
-pub hall-lawful : Lawful hallEdition maxNumber
+pub hall-lawful : Lawful hallEdition
 hall-lawful = edition1-lawful hallFormat (numbers-lawful barred) (omega arith)
 
-pub archive-lawful : Lawful archiveEdition maxNumber
+pub archive-lawful : Lawful archiveEdition
 archive-lawful = edition1-lawful archiveFormat (numbers-lawful allowed) (omega arith)
 
 -- ---- Nothing but what is written is read, if that holds of numbers.
@@ -248,7 +248,7 @@ module _ (format : Format) (exact : ExactNumbers (format .readNumber)) where
   rest-exact code desk sheet at entry next are e =
       let e₁ = bind-parsed (decodeField (format .readNumber) (follows code screenField) maxNumber sheet at) _ entry next e in
       let e₂ = bind-parsed (decodeField (format .readNumber) (follows code positionField) maxNumber sheet (e₁ .1)) _ entry next (e₁ .3) in
-      let e₃ = bind-parsed (decodeField (format .readNumber) (follows code sessionField) (format .maxSession) sheet (e₂ .1)) _ entry next (e₂ .3) in
+      let e₃ = bind-parsed (decodeField (format .readNumber) (follows code sessionField) (format .limits .sessions) sheet (e₂ .1)) _ entry next (e₂ .3) in
       same-parsed (RestExact code desk sheet at) (recordFor code desk (e₁ .0) (e₂ .0) (e₃ .0)) entry (e₃ .1) next (e₃ .3)
       (record {
         same-code = refl;
@@ -256,7 +256,7 @@ module _ (format : Format) (exact : ExactNumbers (format .readNumber)) where
         stands =
             stands-join _ _ sheet (field-exact (follows code screenField) maxNumber sheet at (e₁ .0) (e₁ .1) are (e₁ .2))
             (stands-join _ _ sheet (field-exact (follows code positionField) maxNumber sheet (e₁ .1) (e₂ .0) (e₂ .1) are (e₂ .2))
-            (field-exact (follows code sessionField) (format .maxSession) sheet (e₂ .1) (e₃ .0) (e₃ .1) are (e₃ .2)));
+            (field-exact (follows code sessionField) (format .limits .sessions) sheet (e₂ .1) (e₃ .0) (e₃ .1) are (e₃ .2)));
       })
 
   -- a record whose code and fields were read

@@ -169,7 +169,7 @@ module _ (format : Format) (numbers : LawfulNumbers (format .readNumber)) where
   -- ---- What is read takes bytes and could be written.
   record Record2Parsed (carried : Carried) (sheet : List ℕ) (at : ℕ) (entry : Record) (next : ℕ) : Type 0 where
     code : isCode (entry .code) ≡ true
-    good : CarriedHolds carried → GoodRecord (format .maxSession) entry
+    good : CarriedHolds carried → GoodRecord (format .limits .sessions) entry
     moved : Moved sheet at next
     no-longer : at + length (encodeRecord2 carried entry) ≤ next
 
@@ -246,14 +246,14 @@ module _ (format : Format) (numbers : LawfulNumbers (format .readNumber)) where
   expected-read-back : (value : ℕ) → value ≤ maxNumber → ReadsBack (expectNumber (format .readNumber) value) (encodeNumber value) value
   expected-read-back value small sheet at next stands = simp (number-read-back format numbers value small sheet at next stands, eq-eqb value value refl)
 
-  module _ (fits : format .maxSession ≤ maxNumber) where
-    header2-read-back : (hall : Hall) → openingNumber hall ≡ 0 → ReadsBack (decodeHeader2 (format .readNumber)) (encodeHeader2 hall) hall
+  module _ (fits : format .limits .sessions ≤ maxNumber) where
+    header2-read-back : (hall : Hall) → openingNumber (format .limits) hall ≡ 0 → ReadsBack (decodeHeader2 (format .readNumber)) (encodeHeader2 hall) hall
     unfolding decodeHeader2 encodeHeader2
     header2-read-back hall opens =
         bind-read-back _ _ _ (expected-read-back 0 (omega arith))
         (bind-read-back _ _ _ (expected-read-back 2 (omega arith)) (header-read-back format numbers fits hall opens))
 
-    record2-read-back : (carried : Carried) (entry : Record) → GoodRecord (format .maxSession) entry
+    record2-read-back : (carried : Carried) (entry : Record) → GoodRecord (format .limits .sessions) entry
         → ReadsBack (decodeRecord2 format carried) (encodeRecord2 carried entry) entry
     unfolding decodeRecord2 encodeRecord2 encodeRecord
     record2-read-back carried entry good = by-desk (repeats carried (entry .desk)) refl
@@ -274,7 +274,7 @@ module _ (format : Format) (numbers : LawfulNumbers (format .readNumber)) where
             (λ sheet at next stands.
             simp (lt-leb 9 (entry .code) (omega (arith, range .1)), good .code, fields-read-back format numbers fits entry good sheet at next stands, is))
 
-    pub edition2-lawful : Lawful (edition2 format) (format .maxSession)
+    pub edition2-lawful : Lawful (edition2 format)
     edition2-lawful = record {
       header-read-back = header2-read-back;
       header-moves = λ sheet at hall next e. header2-parsed sheet at hall next e .moved;
@@ -331,7 +331,7 @@ rest-code : (format : Format) (code desk : ℕ) (sheet : List ℕ) (at : ℕ) (e
 rest-code format code desk sheet at entry next e =
     let screen = bind-parsed (decodeField (format .readNumber) (follows code screenField) maxNumber sheet at) _ entry next e in
     let position = bind-parsed (decodeField (format .readNumber) (follows code positionField) maxNumber sheet (screen .1)) _ entry next (screen .3) in
-    let session = bind-parsed (decodeField (format .readNumber) (follows code sessionField) (format .maxSession) sheet (position .1)) _ entry next (position .3) in
+    let session = bind-parsed (decodeField (format .readNumber) (follows code sessionField) (format .limits .sessions) sheet (position .1)) _ entry next (position .3) in
     same-parsed (λ (found : Record) (after : ℕ). found .code ≡ code) (recordFor code desk (screen .0) (position .0) (session .0)) entry (session .1) next (session .3) refl
 
 module _ (format : Format) (carried : Carried) (sheet : List ℕ) (at code afterCode : ℕ) (read : format .readNumber maxNumber sheet at ≡ parsed code afterCode)

@@ -22,8 +22,8 @@ use Rattle.sheet_rules.specs.laws.Edition2.{edition2-exact, edition2-law
 use Rattle.sheet_rules.specs.laws.Parsing.{bind-parsed, refused-not-parsed}
 use Rattle.sheet_rules.specs.laws.Sheet.{begun, not-begun, opened-from, reading-opens, short-enough}
 
-pub edition-lawful : (version : Version) (format : Format) → LawfulNumbers (format .readNumber) → format .maxSession ≤ maxNumber
-    → Lawful (editionFor version format) (format .maxSession)
+pub edition-lawful : (version : Version) (format : Format) → LawfulNumbers (format .readNumber) → format .limits .sessions ≤ maxNumber
+    → Lawful (editionFor version format)
 edition-lawful version1 format numbers fits = edition1-lawful format numbers fits
 edition-lawful version2 format numbers fits = edition2-lawful format numbers fits
 
@@ -59,7 +59,7 @@ module _ (format : Format) where
   unfolding openingNumber
   first-of-edition-1 sheet meaning e =
       let was = opened-from (edition1 format) sheet (meaning .header) (whole (meaning .records)) e in
-      let asked = limits-fit hallLimits (meaning .header) (hall-opens hallLimits (meaning .header) lentTable (was .accepted) .0) in
+      let asked = limits-fit (format .limits) (meaning .header) (hall-opens (format .limits) (meaning .header) lentTable (was .accepted) .0) in
       (meaning .header .desks, desks-first sheet (meaning .header) (was .next) (was .read), asked .desks .0, asked .desks .1)
 
   -- and in edition 2 it is 0.
@@ -133,12 +133,12 @@ module _ (format : Format) (numbers : LawfulNumbers (format .readNumber)) where
       by-header : (found : Parsed Hall) → decodeHeader (format .readNumber) sheet 0 ≡ found → RefusedHeader format sheet
       by-header (parsed hall next) read =
           let none : hall .desks ≡ 0 = one-first-number format sheet (hall .desks) 0 (desks-first format sheet hall next read) (first-byte 0 rest (omega arith)) in
-          let asked : openingNumber hall ≡ 1 = simp none in
+          let asked : openingNumber (format .limits) hall ≡ 1 = simp none in
           let opens : reading (edition1 format) sheet ≡ unopened (refusalOf 0 1 0) =
           reading-opens (edition1 format) sheet (begun (edition1 format) sheet (short-enough (edition1 format) sheet short read) asked) in
           record {
             reason = refusalOf 0 1 0;
-            two-lines = ap linesOf opens;
+            two-lines = ap (linesOf (format .limits)) opens;
             gets-through = λ other after e. refl;
             otherwise = λ found e. absurd (refused-not-parsed (sym e ∙ read));
           }
@@ -147,7 +147,7 @@ module _ (format : Format) (numbers : LawfulNumbers (format .readNumber)) where
           reading-opens (edition1 format) sheet (not-begun (edition1 format) sheet (short-enough (edition1 format) sheet short read)) in
           record {
             reason = reason;
-            two-lines = ap linesOf opens;
+            two-lines = ap (linesOf (format .limits)) opens;
             gets-through = λ hall next e. absurd (refused-not-parsed (sym read ∙ e));
             otherwise = λ found e. let both : refused reason ≡ refused found = sym read ∙ e in let same : reason ≡ found = cc in (same, header-refused sheet found e);
           }

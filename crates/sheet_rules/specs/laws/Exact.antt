@@ -20,7 +20,7 @@ not-complete : {entry : Record} {rest : Records} → complete ≡ more entry res
 not-complete e = let z : _≡_ {A = ℕ} 0 1 = cc in omega arith
 
 -- ---- What is written is no longer.
-module _ {edition : Edition} {maxSession : ℕ} (lawful : Lawful edition maxSession) where
+module _ {edition : Edition} (lawful : Lawful edition) where
   records-no-longer : (most : ℕ) (entries : List Record) (carried : Carried) (sheet : List ℕ) (at : ℕ) → at ≤ length sheet
       → decodeRecords edition most carried sheet at ≡ whole entries
       → at + length (encodeRecords edition carried entries) ≤ length sheet
@@ -67,7 +67,7 @@ records-last edition most carried sheet at e = by-offset (ltb at (length sheet))
     by-offset true inside q = absurd (not-read (edition .decodeRecord carried sheet at) q)
     by-offset false outside q = ltb-false at (length sheet) outside
 
-module _ {edition : Edition} {maxSession : ℕ} (lawful : Lawful edition maxSession) (exact : Exact edition) where
+module _ {edition : Edition} (lawful : Lawful edition) (exact : Exact edition) where
   records-exact : (most : ℕ) (entries : List Record) (carried : Carried) (sheet : List ℕ) (at : ℕ) → IsBytes sheet → length sheet ≤ at + most → at ≤ length sheet
       → decodeRecords edition most carried sheet at ≡ whole entries
       → Stands (encodeRecords edition carried entries) sheet at (length sheet)
@@ -96,14 +96,14 @@ module _ {edition : Edition} {maxSession : ℕ} (lawful : Lawful edition maxSess
       stands .content ∙ ap (λ (rest : List ℕ). bytes ++ rest) (drop-length sheet) ∙ append-nil bytes
 
 -- ---- What is accepted is what was written.
-module _ {edition : Edition} {maxSession : ℕ} (lawful : Lawful edition maxSession) where
-  pub written-is-accepted : (sheet : List ℕ) (meaning : Meaning) → WrittenSheet edition maxSession sheet meaning → Accepted edition sheet meaning
+module _ {edition : Edition} (lawful : Lawful edition) where
+  pub written-is-accepted : (sheet : List ℕ) (meaning : Meaning) → WrittenSheet edition sheet meaning → Accepted edition sheet meaning
   written-is-accepted sheet meaning written =
       subst (λ (bytes : List ℕ). Accepted edition bytes meaning) (sym (written .bytes))
       (reading-back lawful meaning (written .good) (omega (arith, written .short, ap length (written .bytes))))
 
   module _ (exact : Exact edition) where
-    pub is-written : (sheet : List ℕ) (meaning : Meaning) → IsBytes sheet → Accepted edition sheet meaning → WrittenSheet edition maxSession sheet meaning
+    pub is-written : (sheet : List ℕ) (meaning : Meaning) → IsBytes sheet → Accepted edition sheet meaning → WrittenSheet edition sheet meaning
     is-written sheet meaning are e = record {
       good = accepted-good lawful sheet meaning e;
       short = opened-from edition sheet (meaning .header) (whole (meaning .records)) e .short;

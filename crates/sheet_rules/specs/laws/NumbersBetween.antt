@@ -116,8 +116,8 @@ module _ (format : Format) (sheet : List ℕ) where
   no-number at code number other = record { shows = λ is. absurd (true≢false (sym is ∙ other)); no-offset = λ is. refl }
 
 -- ---- The editions.
-module _ {format : Format} (numbers : LawfulNumbers (format .readNumber)) (fits : format .maxSession ≤ maxNumber) where
-  read-of-numbers : (limit : ℕ) → (limit ≡ maxNumber) ⊎ (limit ≡ format .maxSession) → (sheet : List ℕ) (at : ℕ)
+module _ (format : Format) (numbers : LawfulNumbers (format .readNumber)) (fits : format .limits .sessions ≤ maxNumber) where
+  read-of-numbers : (limit : ℕ) → (limit ≡ maxNumber) ⊎ (limit ≡ format .limits .sessions) → (sheet : List ℕ) (at : ℕ)
       → OfNumbers format sheet at (format .readNumber limit sheet at)
   read-of-numbers limit limited sheet at = by-result (format .readNumber limit sheet at) refl
     where
@@ -138,7 +138,7 @@ module _ {format : Format} (numbers : LawfulNumbers (format .readNumber)) (fits 
   any-number : (sheet : List ℕ) (at : ℕ) → OfNumbers format sheet at (format .readNumber maxNumber sheet at)
   any-number = read-of-numbers maxNumber (inl refl)
 
-  field-of-numbers : (present : Bool) (limit : ℕ) → (limit ≡ maxNumber) ⊎ (limit ≡ format .maxSession) → (sheet : List ℕ) (at : ℕ)
+  field-of-numbers : (present : Bool) (limit : ℕ) → (limit ≡ maxNumber) ⊎ (limit ≡ format .limits .sessions) → (sheet : List ℕ) (at : ℕ)
       → OfNumbers format sheet at (decodeField (format .readNumber) present limit sheet at)
   field-of-numbers true limit limited sheet at = read-of-numbers limit limited sheet at
   field-of-numbers false limit limited sheet at = between-none format sheet at
@@ -149,8 +149,8 @@ module _ {format : Format} (numbers : LawfulNumbers (format .readNumber)) (fits 
       (field-of-numbers (follows code screenField) maxNumber (inl refl) sheet at) λ screen afterScreen.
       bind-of-numbers format sheet afterScreen (decodeField (format .readNumber) (follows code positionField) maxNumber sheet afterScreen) _
       (field-of-numbers (follows code positionField) maxNumber (inl refl) sheet afterScreen) λ position afterPosition.
-      bind-of-numbers format sheet afterPosition (decodeField (format .readNumber) (follows code sessionField) (format .maxSession) sheet afterPosition) _
-      (field-of-numbers (follows code sessionField) (format .maxSession) (inr refl) sheet afterPosition) λ session afterSession.
+      bind-of-numbers format sheet afterPosition (decodeField (format .readNumber) (follows code sessionField) (format .limits .sessions) sheet afterPosition) _
+      (field-of-numbers (follows code sessionField) (format .limits .sessions) (inr refl) sheet afterPosition) λ session afterSession.
       between-none format sheet afterSession
 
   fields-of-numbers : (code : ℕ) (sheet : List ℕ) (at : ℕ) → OfNumbers format sheet at (decodeFields format code sheet at)

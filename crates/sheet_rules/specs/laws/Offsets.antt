@@ -4,12 +4,12 @@ use native.Mathlib.Omega.{arith}
 use mathlib.Core.Path.{_≡_, refl, sym, ap, _∙_, subst}
 use mathlib.Core.Bool.{Bool, true, false, cond}
 use mathlib.Core.List.{List, [], _∷_, _++_, append-assoc, append-nil}
-use mathlib.Core.Logic.{inl, inr, ⊎-elim}
+use mathlib.Core.Logic.{_⊎_, inl, inr, ⊎-elim}
 use mathlib.Core.Option.{Option, none, some}
 use lib.ListN.{length, take}
 use lib.Dec.{leb, ltb}
 use borrow.Author.Tests.{leb-false, leb-true, ne-eqb}
-use Rattle.rules.specs.Hall.{Hall, hallLimits}
+use Rattle.rules.specs.Hall.{Hall, Limits, hallLimits}
 use Rattle.rules.specs.Numbers.{Parsed, Refusal, allowed, bind, maxNumber, parsed, refusal, refusalOf, refused}
 use Rattle.rules.specs.Table.{openTable}
 use Rattle.sheet_rules.specs.Edition1.{Format, archiveEdition, archiveFormat}
@@ -24,14 +24,15 @@ use Rattle.sheet_rules.specs.Tally.{Tally, addStep, zeros}
 use Rattle.sheet_rules.specs.laws.Numbers.{allowed-never-19, numbers-lawful}
 use Rattle.sheet_rules.specs.laws.NumbersBetween.{between-append, between-one, edition-of-numbers, fill-inside, fill-kept, located-after, no-number}
 use Rattle.sheet_rules.specs.laws.NumbersBetween.{refused-past}
-use Rattle.sheet_rules.specs.laws.Sheet.{opening-never-four, too-long}
+use Rattle.sheet_rules.specs.laws.Sheet.{opening-gives, too-long}
 
 -- ---- Readings.
 
--- 1, 2 and 3 refuse an opening, and no number.
-opening-refuses-no-number : (n : ℕ) → n ≤ 3 → refusesNumber n ≡ false
-opening-refuses-no-number n few =
+-- 1, 2, 3 and 22 refuse an opening, and no number.
+opening-refuses-no-number : (n : ℕ) → (n ≤ 3) ⊎ (n ≡ 22) → refusesNumber n ≡ false
+opening-refuses-no-number n (inl few) =
     simp (ne-eqb n 15 (λ same. omega (arith, same, few)), ne-eqb n 16 (λ same. omega (arith, same, few)), ne-eqb n 19 (λ same. omega (arith, same, few)))
+opening-refuses-no-number n (inr over) = ap refusesNumber over
 
 module _ {format : Format} {edition : Edition} (of-numbers : EditionOfNumbers format edition) (sheet : List ℕ) where
   abbrev EndLocated : Option Refusal → ℕ → Type 0
@@ -60,19 +61,19 @@ module _ {format : Format} {edition : Edition} (of-numbers : EditionOfNumbers fo
   unfolding reading
   reading-located = by-length (leb (length sheet) maxBytes)
     where
-      by-number : (n : ℕ) → n ≤ 3 → (hall : Hall) (next : ℕ) → NumbersBetween format sheet 0 next
+      by-number : (n : ℕ) → (n ≤ 3) ⊎ (n ≡ 22) → (hall : Hall) (next : ℕ) → NumbersBetween format sheet 0 next
           → EndLocated (ending (afterOpening edition sheet (ifOpens n hall next))) 0
       by-number zero few hall next filled =
           end-after filled (endingIn (decodeRecords edition (length sheet) noDesk sheet next)) (records-located (length sheet) noDesk next)
       by-number (suc n) few hall next filled = no-number format sheet 0 0 (suc n) (opening-refuses-no-number (suc n) few)
 
       by-header : (found : Parsed Hall) → OfNumbers format sheet 0 found
-          → EndLocated (ending (afterOpening edition sheet (bind found (λ hall next. ifOpens (openingNumber hall) hall next)))) 0
-      by-header (parsed hall next) filled = by-number (openingNumber hall) (opening-never-four hall) hall next filled
+          → EndLocated (ending (afterOpening edition sheet (bind found (λ hall next. ifOpens (openingNumber (edition .limits) hall) hall next)))) 0
+      by-header (parsed hall next) filled = by-number (openingNumber (edition .limits) hall) (opening-gives (edition .limits) hall) hall next filled
       by-header (refused reason) located = located
 
       by-length : (short : Bool)
-          → EndLocated (ending (afterOpening edition sheet (bind (cond short (edition .decodeHeader sheet 0) (refused (refusalOf 0 18 0))) (λ hall next. ifOpens (openingNumber hall) hall next)))) 0
+          → EndLocated (ending (afterOpening edition sheet (bind (cond short (edition .decodeHeader sheet 0) (refused (refusalOf 0 18 0))) (λ hall next. ifOpens (openingNumber (edition .limits) hall) hall next)))) 0
       by-length true = by-header (edition .decodeHeader sheet 0) (of-numbers .header-of-numbers sheet 0)
       by-length false = no-number format sheet 0 0 18 refl
 
@@ -82,7 +83,7 @@ module _ {format : Format} {edition : Edition} (of-numbers : EditionOfNumbers fo
 -- ---- The byte that is shown.
 
 -- It is refused by the limit of all numbers, if sessions have this limit too.
-pub refused-there : {format : Format} → format .maxSession ≡ maxNumber → {sheet : List ℕ} {number offset : ℕ} → ShowsByte format sheet 0 number offset
+pub refused-there : {format : Format} → format .limits .sessions ≡ maxNumber → {sheet : List ℕ} {number offset : ℕ} → ShowsByte format sheet 0 number offset
     → format .readNumber maxNumber sheet offset ≡ refusal 0 number offset
 refused-there {format} sessions {sheet} {number} {offset} byte =
     let largest : byte .limit ≡ maxNumber = ⊎-elim (λ same. same) (λ same. same ∙ sessions) (byte .limited) in
@@ -110,7 +111,7 @@ module _ {format : Format} (numbers : LawfulNumbers (format .readNumber)) where
           let no-offset : reason .offset ≡ 0 = cc in
           omega (arith, no-offset)
 
-  module _ (sessions : format .maxSession ≡ maxNumber) where
+  module _ (sessions : format .limits .sessions ≡ maxNumber) where
     -- It is past all numbers that fill the first bytes.
     past-numbers : {sheet : List ℕ} {end number offset : ℕ} → NumbersBetween format sheet 0 end → ShowsByte format sheet 0 number offset → end ≤ offset
     past-numbers {sheet} {end} {number} {offset} filled byte =
@@ -148,7 +149,7 @@ module _ {format : Format} (numbers : LawfulNumbers (format .readNumber)) where
 
 -- 19 ends no reading of a sheet in the archive.
 pub archive-of-numbers : EditionOfNumbers archiveFormat archiveEdition
-archive-of-numbers = edition-of-numbers (numbers-lawful allowed) (omega arith) version1
+archive-of-numbers = edition-of-numbers archiveFormat (numbers-lawful allowed) (omega arith) version1
 
 pub archive-never-19 : (sheet : List ℕ) (reason : Refusal) → ending (reading archiveEdition sheet) ≡ some reason → reason .number ≡ 19 → ⊥
 archive-never-19 sheet reason e is =
@@ -179,26 +180,26 @@ line-before first whole prints = record {
 two-lines : (index : ℕ) (tally : Tally) (reason : Refusal) → PrintsRefusal (refusalLine index reason ++ endLine tally) reason
 two-lines index tally reason = record { before = []; whole = inl refl; index = index; tally = tally; printed = refl }
 
-lines-end : (table : List ℕ) (index : ℕ) (tally : Tally) (records : Records) (reason : Refusal) → endingIn records ≡ some reason
-    → PrintsRefusal (linesFrom table index tally records) reason
-lines-end table index tally complete reason e = absurd (let z : _≡_ {A = ℕ} 0 1 = cc in omega arith)
-lines-end table index tally (stop found) reason e =
+lines-end : (limits : Limits) (table : List ℕ) (index : ℕ) (tally : Tally) (records : Records) (reason : Refusal) → endingIn records ≡ some reason
+    → PrintsRefusal (linesFrom limits table index tally records) reason
+lines-end limits table index tally complete reason e = absurd (let z : _≡_ {A = ℕ} 0 1 = cc in omega arith)
+lines-end limits table index tally (stop found) reason e =
     let same : found ≡ reason = cc in
-    subst (PrintsRefusal (linesFrom table index tally (stop found))) same (two-lines index tally found)
-lines-end table index tally (more entry rest) reason e =
-    let done = runRecord hallLimits table entry in
+    subst (PrintsRefusal (linesFrom limits table index tally (stop found))) same (two-lines index tally found)
+lines-end limits table index tally (more entry rest) reason e =
+    let done = runRecord limits table entry in
     line-before (answerLine index (entry .code) (done .answer)) (line-whole index (entry .code) (done .answer .number) (done .answer .session))
-    (lines-end (done .after) (suc index) (addStep tally (entry .code) (done .answer)) rest reason e)
+    (lines-end limits (done .after) (suc index) (addStep tally (entry .code) (done .answer)) rest reason e)
 
 pub refusal-printed : (edition : Edition) (sheet : List ℕ) (reason : Refusal) → ending (reading edition sheet) ≡ some reason
     → PrintsRefusal (printed edition sheet) reason
 unfolding printed
 refusal-printed edition sheet reason = of-reading (reading edition sheet)
   where
-    of-reading : (found : Reading) → ending found ≡ some reason → PrintsRefusal (linesOf found) reason
+    of-reading : (found : Reading) → ending found ≡ some reason → PrintsRefusal (linesOf (edition .limits) found) reason
     of-reading (unopened refused-with) e =
         let same : refused-with ≡ reason = cc in
-        subst (PrintsRefusal (linesOf (unopened refused-with))) same (two-lines 0 zeros refused-with)
+        subst (PrintsRefusal (linesOf (edition .limits) (unopened refused-with))) same (two-lines 0 zeros refused-with)
     of-reading (opened hall records) e =
-        let done = openTable hallLimits hall lentTable in
-        line-before (answerLine 0 0 (done .answer)) (line-whole 0 0 (done .answer .number) (done .answer .session)) (lines-end (done .after) 1 zeros records reason e)
+        let done = openTable (edition .limits) hall lentTable in
+        line-before (answerLine 0 0 (done .answer)) (line-whole 0 0 (done .answer .number) (done .answer .session)) (lines-end (edition .limits) (done .after) 1 zeros records reason e)

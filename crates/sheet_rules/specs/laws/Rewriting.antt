@@ -10,7 +10,7 @@ use lib.ListN.{length}
 use lib.Dec.{leb, ltb}
 use borrow.Author.Tests.{le-leb, leb-false, leb-true, ltb-true}
 use Rattle.rules.specs.Bytes.{IsBytes}
-use Rattle.rules.specs.Hall.{Hall}
+use Rattle.rules.specs.Hall.{Hall, Limits, hallLimits}
 use Rattle.rules.specs.Numbers.{Refusal, maxNumber}
 use Rattle.sheet_rules.specs.Edition1.{Format, archiveEdition, archiveFormat, edition1, hallEdition, hallFormat}
 use Rattle.sheet_rules.specs.Edition2.{Version, editionFor}
@@ -61,7 +61,7 @@ pub rewrite-short : (from to : Edition) (sheet : List ℕ) (meaning : Meaning) �
 rewrite-short from to sheet meaning e short = rewrite-accepted from to sheet meaning e ∙ not-too-long (encodeSheet to meaning) short
 
 -- ---- Whatever the editions, a sheet is rewritten or refused.
-module _ {from to : Edition} {maxSession : ℕ} (from-lawful : Lawful from maxSession) (to-lawful : Lawful to maxSession) where
+module _ {from to : Edition} (from-lawful : Lawful from) (to-lawful : Lawful to) (room : from .limits ≡ to .limits) where
   pub rewritten : (sheet : List ℕ) (meaning : Meaning) → Accepted from sheet meaning → length (encodeSheet to meaning) ≤ maxBytes
       → Rewritten from to sheet (rewrite from to sheet)
   rewritten sheet meaning e short =
@@ -72,7 +72,7 @@ module _ {from to : Edition} {maxSession : ℕ} (from-lawful : Lawful from maxSe
         written = output;
         is-accepted =
             subst (λ (bytes : List ℕ). Accepted to bytes meaning) (sym output)
-            (reading-back to-lawful meaning (accepted-good from-lawful sheet meaning e) short);
+            (reading-back to-lawful meaning (subst (λ (limits : Limits). GoodMeaning limits meaning) room (accepted-good from-lawful sheet meaning e)) short);
       }
 
   pub rewritten-or-refused : (sheet : List ℕ) → RewrittenOrRefused from to sheet (rewrite from to sheet)
@@ -103,12 +103,12 @@ module _ {from to : Edition} {maxSession : ℕ} (from-lawful : Lawful from maxSe
       by-reading (opened hall records) e = by-ending hall records e (endingIn records) refl
 
 -- Its lines stay the same,
-pub rewritten-prints-the-same : {from to : Edition} {sheet output : List ℕ} → Rewritten from to sheet output → printed to output ≡ printed from sheet
+pub rewritten-prints-the-same : {from to : Edition} {sheet output : List ℕ} → from .limits ≡ to .limits → Rewritten from to sheet output → printed to output ≡ printed from sheet
 unfolding printed
-rewritten-prints-the-same is = ap linesOf (is .is-accepted ∙ sym (is .was-accepted))
+rewritten-prints-the-same room is = λ i. linesOf (sym room i) ((is .is-accepted ∙ sym (is .was-accepted)) i)
 
 -- and if the first edition is exact, the way back gives the first bytes again.
-pub back-again : {from to : Edition} {maxSession : ℕ} → Lawful from maxSession → Exact from → {sheet output : List ℕ} → IsBytes sheet → Rewritten from to sheet output
+pub back-again : {from to : Edition} → Lawful from → Exact from → {sheet output : List ℕ} → IsBytes sheet → Rewritten from to sheet output
     → rewrite to from output ≡ sheet
 back-again {from} {to} lawful exact {sheet} {output} are is =
     let bytes : sheet ≡ encodeSheet from (is .meaning) = accepted-bytes lawful exact sheet (is .meaning) are (is .was-accepted) in
@@ -146,7 +146,7 @@ unfolding encodeSheet
 same-written format other meaning =
     ap (λ (rest : List ℕ). edition1 format .encodeHeader (meaning .header) ++ rest) (records-written format other noDesk (meaning .records))
 
-pub read-by-both : (meaning : Meaning) → GoodMeaning maxNumber meaning → length (encodeSheet hallEdition meaning) ≤ maxBytes
+pub read-by-both : (meaning : Meaning) → GoodMeaning hallLimits meaning → length (encodeSheet hallEdition meaning) ≤ maxBytes
     → Accepted hallEdition (encodeSheet hallEdition meaning) meaning × Accepted archiveEdition (encodeSheet hallEdition meaning) meaning
 read-by-both meaning good short =
     let same : encodeSheet archiveEdition meaning ≡ encodeSheet hallEdition meaning = same-written archiveFormat hallFormat meaning in
@@ -165,7 +165,7 @@ shortened sheet meaning e =
     let short : length (encodeSheet hallEdition meaning) ≤ length sheet = shortened-short sheet meaning e in
     let fits : length (encodeSheet hallEdition meaning) ≤ maxBytes = omega (arith, short, archive-short sheet meaning e) in
     record {
-      rewritten = rewritten archive-lawful hall-lawful sheet meaning e fits;
+      rewritten = rewritten archive-lawful hall-lawful refl sheet meaning e fits;
       no-longer = omega (arith, short, ap length (rewrite-short archiveEdition hallEdition sheet meaning e fits));
     }
 
@@ -175,7 +175,7 @@ shortened-or-refused sheet =
     (⊎-elim
     (λ long. absurd (omega (arith, long .over, shortened-short sheet (long .meaning) (long .was-accepted), archive-short sheet (long .meaning) (long .was-accepted))))
     (λ refusal. inr refusal))
-    (rewritten-or-refused archive-lawful hall-lawful sheet)
+    (rewritten-or-refused archive-lawful hall-lawful refl sheet)
 
 pub shortest-stays : (sheet : List ℕ) (meaning : Meaning) → IsBytes sheet → Accepted hallEdition sheet meaning → shorten sheet ≡ sheet
 shortest-stays sheet meaning are e =

@@ -8,7 +8,7 @@ use mathlib.Core.Option.{none, some}
 use lib.ListN.{length}
 use lib.Dec.{eqb, ltb}
 use borrow.Author.Tests.{le-leb, ne-eqb}
-use Rattle.rules.specs.Hall.{Hall, hallLimits}
+use Rattle.rules.specs.Hall.{Hall, Limits}
 use Rattle.rules.specs.Numbers.{Parsed, parsed, refused}
 use Rattle.rules.specs.Steps.{Call, Event, Result, accept, run}
 use Rattle.rules.specs.Table.{openTable, openedTable, stepTable}
@@ -24,9 +24,9 @@ use Rattle.sheet_rules.specs.laws.Sheet.{opened-from}
 use Rattle.sheet_rules.specs.laws.Tally.{tally-from-zeros}
 
 pub opening-accepted : (edition : Edition) (sheet : List ℕ) (hall : Hall) (records : Records) → reading edition sheet ≡ opened hall records
-    → openTable hallLimits hall lentTable ≡ accept 0 (openedTable hall lentTable)
+    → openTable (edition .limits) hall lentTable ≡ accept 0 (openedTable hall lentTable)
 unfolding openingNumber
-opening-accepted edition sheet hall records e = accepted-open hallLimits hall lentTable (opened-from edition sheet hall records e .accepted)
+opening-accepted edition sheet hall records e = accepted-open (edition .limits) hall lentTable (opened-from edition sheet hall records e .accepted)
 
 -- ---- Each record that is read has a step's code, so the step's code is the record's.
 abbrev EachCode : Records → Type 0
@@ -34,7 +34,7 @@ EachCode complete = Unit {0}
 EachCode (stop reason) = Unit {0}
 EachCode (more entry rest) = (isCode (entry .code) ≡ true) × EachCode rest
 
-each-code : {edition : Edition} {maxSession : ℕ} → Lawful edition maxSession → (most : ℕ) (carried : Carried) (sheet : List ℕ) (at : ℕ)
+each-code : {edition : Edition} → Lawful edition → (most : ℕ) (carried : Carried) (sheet : List ℕ) (at : ℕ)
     → EachCode (decodeRecords edition most carried sheet at)
 each-code lawful zero carried sheet at = tt
 each-code {edition} lawful (suc most) carried sheet at =
@@ -80,55 +80,55 @@ other-code-asks-none entry other =
 
 -- ---- The lines are those of the run.
 -- the lines of a run of these calls, then that of what ended the reading, then the counts
-abbrev runLines : List ℕ → ℕ → Tally → Records → List Call → List ℕ
-runLines table index total records calls =
-    let events : List Event = run (stepTable hallLimits) table calls in
+abbrev runLines : Limits → List ℕ → ℕ → Tally → Records → List Call → List ℕ
+runLines limits table index total records calls =
+    let events : List Event = run (stepTable limits) table calls in
     eventLines index events ++ (endingLine index records ++ endLine (addSteps total events))
 
 -- one call more
-lines-of-call : (table : List ℕ) (index code : ℕ) (total : Tally) (entry : Record) (rest : Records) (call : Call) → codeOf (call .step) ≡ code →
-    let done : Result (List ℕ) = stepTable hallLimits table call in
+lines-of-call : (limits : Limits) (table : List ℕ) (index code : ℕ) (total : Tally) (entry : Record) (rest : Records) (call : Call) → codeOf (call .step) ≡ code →
+    let done : Result (List ℕ) = stepTable limits table call in
     let next : Tally = addStep total code (done .answer) in
-    linesFrom (done .after) (suc index) next rest ≡ runLines (done .after) (suc index) next rest (callsIn rest)
-    → answerLine index code (done .answer) ++ linesFrom (done .after) (suc index) next rest ≡ runLines table index total (more entry rest) (call ∷ callsIn rest)
-lines-of-call table index code total entry rest call same later =
-    let done : Result (List ℕ) = stepTable hallLimits table call in
-    let events : List Event = run (stepTable hallLimits) (done .after) (callsIn rest) in
+    linesFrom limits (done .after) (suc index) next rest ≡ runLines limits (done .after) (suc index) next rest (callsIn rest)
+    → answerLine index code (done .answer) ++ linesFrom limits (done .after) (suc index) next rest ≡ runLines limits table index total (more entry rest) (call ∷ callsIn rest)
+lines-of-call limits table index code total entry rest call same later =
+    let done : Result (List ℕ) = stepTable limits table call in
+    let events : List Event = run (stepTable limits) (done .after) (callsIn rest) in
     ap (λ (lines : List ℕ). answerLine index code (done .answer) ++ lines) later
     ∙ ap (λ (n : ℕ). answerLine index n (done .answer) ++ (eventLines (suc index) events ++ (endingLine (suc index) rest ++ endLine (addSteps (addStep total n (done .answer)) events)))) (sym same)
     ∙ sym (append-assoc (answerLine index (codeOf (call .step)) (done .answer)) (eventLines (suc index) events) _)
 
-lines-from : (table : List ℕ) (index : ℕ) (total : Tally) (records : Records) → EachCode records
-    → linesFrom table index total records ≡ runLines table index total records (callsIn records)
-lines-from table index total complete codes = refl
-lines-from table index total (stop reason) codes = refl
-lines-from table index total (more entry rest) codes =
+lines-from : (limits : Limits) (table : List ℕ) (index : ℕ) (total : Tally) (records : Records) → EachCode records
+    → linesFrom limits table index total records ≡ runLines limits table index total records (callsIn records)
+lines-from limits table index total complete codes = refl
+lines-from limits table index total (stop reason) codes = refl
+lines-from limits table index total (more entry rest) codes =
     let asks : Asks entry = record-asks entry (codes .0) in
-    let next : Result (List ℕ) = stepTable hallLimits table (asks .call) in
+    let next : Result (List ℕ) = stepTable limits table (asks .call) in
     simp (asks .asked)
-    (lines-of-call table index (entry .code) total entry rest (asks .call) (asks .sameCode)
-    (lines-from (next .after) (suc index) (addStep total (entry .code) (next .answer)) rest (codes .1)))
+    (lines-of-call limits table index (entry .code) total entry rest (asks .call) (asks .sameCode)
+    (lines-from limits (next .after) (suc index) (addStep total (entry .code) (next .answer)) rest (codes .1)))
 
-pub lines-of-run : {edition : Edition} {maxSession : ℕ} → Lawful edition maxSession → (sheet : List ℕ) (hall : Hall) (records : Records)
+pub lines-of-run : {edition : Edition} → Lawful edition → (sheet : List ℕ) (hall : Hall) (records : Records)
     → reading edition sheet ≡ opened hall records
     → printed edition sheet
     ≡ line 0 0 0 0
-    ++ (eventLines 1 (run (stepTable hallLimits) (openTable hallLimits hall lentTable .after) (callsIn records))
-    ++ (endingLine 1 records ++ endLine (countsIn (run (stepTable hallLimits) (openTable hallLimits hall lentTable .after) (callsIn records)))))
+    ++ (eventLines 1 (run (stepTable (edition .limits)) (openTable (edition .limits) hall lentTable .after) (callsIn records))
+    ++ (endingLine 1 records ++ endLine (countsIn (run (stepTable (edition .limits)) (openTable (edition .limits) hall lentTable .after) (callsIn records)))))
 unfolding printed
 lines-of-run {edition} lawful sheet hall records e =
-    ap linesOf e
-    ∙ ap (λ (lines : List ℕ). answerLine 0 0 (openTable hallLimits hall lentTable .answer) ++ lines) (lines-from table 1 zeros records codes)
-    ∙ ap (λ (total : Tally). answerLine 0 0 (openTable hallLimits hall lentTable .answer) ++ (eventLines 1 events ++ (endingLine 1 records ++ endLine total)))
+    ap (linesOf (edition .limits)) e
+    ∙ ap (λ (lines : List ℕ). answerLine 0 0 (openTable (edition .limits) hall lentTable .answer) ++ lines) (lines-from (edition .limits) table 1 zeros records codes)
+    ∙ ap (λ (total : Tally). answerLine 0 0 (openTable (edition .limits) hall lentTable .answer) ++ (eventLines 1 events ++ (endingLine 1 records ++ endLine total)))
     (tally-from-zeros events)
     ∙ ap (λ (done : Result (List ℕ)). answerLine 0 0 (done .answer) ++ (eventLines 1 events ++ (endingLine 1 records ++ endLine (countsIn events))))
     (opening-accepted edition sheet hall records e)
   where
     table : List ℕ
-    table = openTable hallLimits hall lentTable .after
+    table = openTable (edition .limits) hall lentTable .after
 
     events : List Event
-    events = run (stepTable hallLimits) table (callsIn records)
+    events = run (stepTable (edition .limits)) table (callsIn records)
 
     codes : EachCode records
     codes =

@@ -1,0 +1,114 @@
+-- A session that is read is within the limit of the room, so no step of a sheet is answered 22.
+use Prim.Native.Nat.{ℕ, zero, suc, _≤_}
+use native.Mathlib.Omega.{arith}
+use mathlib.Core.Path.{_≡_, refl, sym, _∙_, subst}
+use mathlib.Core.Bool.{Bool, true, false, cond}
+use mathlib.Core.List.{List, [], _∷_}
+use lib.ListN.{length}
+use lib.Dec.{ltb}
+use borrow.Author.Tests.{le-leb}
+use Rattle.rules.specs.Hall.{Hall, Limits, State, deskOf}
+use Rattle.rules.specs.History.{numberAt}
+use Rattle.rules.specs.Numbers.{Parsed, parsed, refused}
+use Rattle.rules.specs.Steps.{Call, Collect, Drop, Retire, Step, Swap, Take, _sends_, firstNo, inRange, isNone, questions, run}
+use Rattle.rules.specs.Table.{decode, hallIn, stepTable}
+use Rattle.rules.specs.laws.history.StepEffects.{in-range}
+use Rattle.rules.specs.laws.table.WordBounds.{by-step, first-no-is-asked}
+use Rattle.sheet_rules.specs.Lawful.{CarriedHolds, Lawful}
+use Rattle.sheet_rules.specs.Run.{callOf, callsIn, consSome}
+use Rattle.sheet_rules.specs.Sheet.{Carried, Edition, FieldHolds, GoodRecord, Record, Records, bindRecords, carriedAfter, complete, decodeRecords, deskField, follows, isCode}
+use Rattle.sheet_rules.specs.Sheet.{more, noDesk, opened, reading, recordFor, sessionField, stop}
+use Rattle.sheet_rules.specs.laws.Sheet.{field-small, opened-from}
+
+-- ---- The records that are read are good, whether something ends the reading later or not.
+abbrev EachGoodIn : ℕ → Records → Type 0
+EachGoodIn most complete = Unit {0}
+EachGoodIn most (stop reason) = Unit {0}
+EachGoodIn most (more entry rest) = GoodRecord most entry × EachGoodIn most rest
+
+each-good : {edition : Edition} → Lawful edition → (most : ℕ) (carried : Carried) (sheet : List ℕ) (at : ℕ) → CarriedHolds carried
+    → EachGoodIn (edition .limits .sessions) (decodeRecords edition most carried sheet at)
+each-good lawful zero carried sheet at holds = tt
+each-good {edition} lawful (suc most) carried sheet at holds =
+    by-offset (ltb at (length sheet)) (edition .decodeRecord carried sheet at) refl (λ entry. each-good lawful most (carriedAfter entry) sheet)
+  where
+    by-offset : (inside : Bool) (found : Parsed Record) → edition .decodeRecord carried sheet at ≡ found
+        → ((entry : Record) (next : ℕ) → CarriedHolds (carriedAfter entry)
+        → EachGoodIn (edition .limits .sessions) (decodeRecords edition most (carriedAfter entry) sheet next))
+        → EachGoodIn (edition .limits .sessions) (cond inside (bindRecords found (λ entry next. more entry (decodeRecords edition most (carriedAfter entry) sheet next))) complete)
+    by-offset true (parsed entry next) e later =
+        let good = lawful .record-good carried sheet at entry next holds e in
+        (good, later entry next (field-small (follows (entry .code) deskField) (entry .desk) (good .desk)))
+    by-offset true (refused reason) e later = tt
+    by-offset false found e later = tt
+
+-- ---- So the swaps that they request send no session over the limit.
+abbrev Small : ℕ → Step → Type 0
+Small most (Take c p) = Unit {0}
+Small most (Drop c) = Unit {0}
+Small most (Swap p session) = session ≤ most
+Small most Retire = Unit {0}
+Small most Collect = Unit {0}
+
+abbrev EachSmall : ℕ → List Call → Type 0
+EachSmall most [] = Unit {0}
+EachSmall most (call ∷ calls) = Small most (call .step) × EachSmall most calls
+
+small-first : (most code desk screen position session : ℕ) (calls : List Call) → isCode code ≡ true → FieldHolds (follows code sessionField) most session
+    → EachSmall most calls
+    → EachSmall most (consSome (callOf (recordFor code desk screen position session)) calls)
+small-first most zero desk screen position session calls good holds later = later
+small-first most (suc zero) desk screen position session calls good holds later = (tt, later)
+small-first most (suc (suc zero)) desk screen position session calls good holds later = (tt, later)
+small-first most (suc (suc (suc zero))) desk screen position session calls good holds later = (holds, later)
+small-first most (suc (suc (suc (suc zero)))) desk screen position session calls good holds later = (tt, later)
+small-first most (suc (suc (suc (suc (suc zero))))) desk screen position session calls good holds later = (tt, later)
+small-first most (suc (suc (suc (suc (suc (suc n)))))) desk screen position session calls good holds later =
+    absurd (omega (arith, in-range (suc (suc (suc (suc (suc (suc n)))))) 5 good .1))
+
+each-small : (most : ℕ) (records : Records) → EachGoodIn most records → EachSmall most (callsIn records)
+each-small most complete good = tt
+each-small most (stop reason) good = tt
+each-small most (more entry rest) good =
+    small-first most (entry .code) (entry .desk) (entry .screen) (entry .position) (entry .session) (callsIn rest) (good .0 .code) (good .0 .session)
+    (each-small most rest (good .1))
+
+-- ---- And such a call is not answered 22.
+not-22 : (limits : Limits) (hall : Hall) (state : State) (d : ℕ) (step : Step) → Small (limits .sessions) step
+    → firstNo (questions limits hall state (d sends step)) ≡ 22
+    → ⊥
+not-22 limits hall state d (Take c p) small e = omega (arith, first-no-is-asked (questions limits hall state (d sends Take c p)) 21 e)
+not-22 limits hall state d (Drop c) small e = omega (arith, first-no-is-asked (questions limits hall state (d sends Drop c)) 21 e)
+not-22 limits hall state d (Swap p session) small e =
+    by-answers (inRange d (hall .desks)) (inRange p (hall .positions)) (isNone (deskOf state d .owed))
+    (subst (λ (yes : Bool). cond {A = ℕ} (inRange d (hall .desks)) (cond (inRange p (hall .positions)) (cond yes (cond (isNone (deskOf state d .owed)) 0 12) 22) 8) 6 ≡ 22)
+    (le-leb session (limits .sessions) small) e)
+  where
+    by-answers : (desk position none : Bool) → cond {A = ℕ} desk (cond position (cond none 0 12) 8) 6 ≡ 22 → ⊥
+    by-answers true true true e = omega (arith, e)
+    by-answers true true false e = omega (arith, e)
+    by-answers true false none e = omega (arith, e)
+    by-answers false position none e = omega (arith, e)
+not-22 limits hall state d Retire small e = omega (arith, first-no-is-asked (questions limits hall state (d sends Retire)) 21 e)
+not-22 limits hall state d Collect small e = omega (arith, first-no-is-asked (questions limits hall state (d sends Collect)) 21 e)
+
+step-not-22 : (limits : Limits) (table : List ℕ) (call : Call) → Small (limits .sessions) (call .step) → stepTable limits table call .answer .number ≡ 22 → ⊥
+step-not-22 limits table call small =
+    by-step limits (λ result. result .answer .number ≡ 22 → ⊥) table call (λ e. omega (arith, e))
+    (λ n asked e. not-22 limits (hallIn table) (decode (hallIn table) table) (call .desk) (call .step) small (asked ∙ e)) (λ sound asked e. omega (arith, e))
+
+run-not-22 : (limits : Limits) (table : List ℕ) (calls : List Call) → EachSmall (limits .sessions) calls → (i : ℕ)
+    → numberAt (run (stepTable limits) table calls) i ≡ 22
+    → ⊥
+run-not-22 limits table [] small i e = omega (arith, e)
+run-not-22 limits table (call ∷ calls) small zero e = step-not-22 limits table call (small .0) e
+run-not-22 limits table (call ∷ calls) small (suc i) e = run-not-22 limits (stepTable limits table call .after) calls (small .1) i e
+
+pub sheet-not-22 : {edition : Edition} → Lawful edition → (sheet : List ℕ) (hall : Hall) (records : Records) → reading edition sheet ≡ opened hall records
+    → (table : List ℕ) (i : ℕ)
+    → numberAt (run (stepTable (edition .limits)) table (callsIn records)) i ≡ 22
+    → ⊥
+sheet-not-22 {edition} lawful sheet hall records opens table i =
+    let was = opened-from edition sheet hall records opens in
+    let good = subst (EachGoodIn (edition .limits .sessions)) (sym (was .are)) (each-good lawful (length sheet) noDesk sheet (was .next) tt) in
+    run-not-22 (edition .limits) table (callsIn records) (each-small (edition .limits .sessions) records good) i
