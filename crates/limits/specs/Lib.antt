@@ -1,0 +1,2 @@
+-- The definition that the contracts about a room cite.
+pub mod Room
