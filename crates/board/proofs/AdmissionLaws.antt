@@ -8,7 +8,7 @@ use lib.Dec.{leb}
 use lib.ListN.{drop, length}
 use lib.Seq.{drop-drop}
 use borrow.Author.Tests.{le-leb, leb-true}
-use Rattle.rules.specs.Hall.{Hall, allScreens, hallLimits, maxAllScreens}
+use Rattle.rules.specs.Hall.{Hall, Limits, allScreens, maxAllScreens}
 use Rattle.rules.specs.Lists.{chunks, every}
 use Rattle.rules.specs.Steps.{Call, inRange}
 use Rattle.rules.specs.Table.{hallIn, headerWords, inLimits, need, recordSound, recordStart, recordWidth, sound, startFor, stepTable, widthFor}
@@ -27,42 +27,42 @@ pub next-start : (H : Hall) (d : ℕ) → 1 ≤ d → startFor (H .positions) (a
 next-start H d h = let e : d ≡ 1 + (d - 1) = omega arith in ap (startFor (H .positions) (allScreens H)) e ∙ omega arith
 
 -- ---- the hall that a header names, and no hall
-pub record Named (t : List ℕ) (h : Numbers) : Type 0 where
-  pub inside : inLimits hallLimits (hallIn t) ≡ true
+pub record Named (limits : Limits) (t : List ℕ) (h : Numbers) : Type 0 where
+  pub inside : inLimits limits (hallIn t) ≡ true
   pub long : need (hallIn t) ≤ length t
   pub is : h ≡ numbersIn t
 
-pub named : {t : List ℕ} {h : Numbers} → Of h ≡ headerOf t → Named t h
+pub named : {limits : Limits} {t : List ℕ} {h : Numbers} → Of h ≡ headerOf limits t → Named limits t h
 unfolding headerOf
-named {t} {h} q = go (inLimits hallLimits (hallIn t)) (leb (need (hallIn t)) (length t)) refl refl
+named {limits} {t} {h} q = go (inLimits limits (hallIn t)) (leb (need (hallIn t)) (length t)) refl refl
   where
-    go : (a b : Bool) → inLimits hallLimits (hallIn t) ≡ a → leb (need (hallIn t)) (length t) ≡ b → Named t h
+    go : (a b : Bool) → inLimits limits (hallIn t) ≡ a → leb (need (hallIn t)) (length t) ≡ b → Named limits t h
     go true true e g = let z : Of h ≡ Of (numbersIn t) = rw (e, g) at q in record { inside = e; long = leb-true (need (hallIn t)) (length t) g; is = cc }
     go true false e g = let z : Of h ≡ Broken = rw (e, g) at q in let never : _≡_ {A = ℕ} 0 1 = cc in absurd (omega arith)
     go false b e g = let z : Of h ≡ Broken = rw e at q in let never : _≡_ {A = ℕ} 0 1 = cc in absurd (omega arith)
 
-header-broken : (t : List ℕ) → Broken ≡ headerOf t → sound hallLimits t ≡ false
+header-broken : (limits : Limits) (t : List ℕ) → Broken ≡ headerOf limits t → sound limits t ≡ false
 unfolding headerOf sound
-header-broken t q = go (inLimits hallLimits (hallIn t)) (leb (need (hallIn t)) (length t)) refl refl
+header-broken limits t q = go (inLimits limits (hallIn t)) (leb (need (hallIn t)) (length t)) refl refl
   where
-    go : (a b : Bool) → inLimits hallLimits (hallIn t) ≡ a → leb (need (hallIn t)) (length t) ≡ b → sound hallLimits t ≡ false
+    go : (a b : Bool) → inLimits limits (hallIn t) ≡ a → leb (need (hallIn t)) (length t) ≡ b → sound limits t ≡ false
     go true true e g = let z : Broken ≡ Of (numbersIn t) = rw (e, g) at q in let never : _≡_ {A = ℕ} 0 1 = cc in absurd (omega arith)
     go true false e g = rw (e, g)
     go false b e g = rw e
 
 -- then the table is sound where the records are
-pub by-records : {t : List ℕ} {h : Numbers} → Named t h
-    → sound hallLimits t ≡ every (recordSound (h .all)) (chunks (h .desks) (widthFor (h .all)) (drop (headerWords + h .positions + h .all) t))
+pub by-records : {limits : Limits} {t : List ℕ} {h : Numbers} → Named limits t h
+    → sound limits t ≡ every (recordSound (h .all)) (chunks (h .desks) (widthFor (h .all)) (drop (headerWords + h .positions + h .all) t))
 unfolding sound
-by-records {t} {h} n =
+by-records {limits} {t} {h} n =
     let H = hallIn t in
     let e : headerWords + (H .positions + allScreens H) ≡ headerWords + H .positions + allScreens H = omega arith in
     rw (n .inside, le-leb (need H) (length t) (n .long), drop-drop (allScreens H) (H .positions), drop-drop, e)
     (ap (λ (x : Numbers). every (recordSound (x .all)) (chunks (x .desks) (widthFor (x .all)) (drop (headerWords + x .positions + x .all) t))) (sym (n .is)))
 
 -- ---- accepted
-pub record Admitted (t : List ℕ) (desk : ℕ) (p : Location) : Type 0 where
-  pub yes-sound : sound hallLimits t ≡ true
+pub record Admitted (limits : Limits) (t : List ℕ) (desk : ℕ) (p : Location) : Type 0 where
+  pub yes-sound : sound limits t ≡ true
   pub yes-desk : inRange desk (hallIn t .desks) ≡ true
   pub facts : Known t
   pub range : (1 ≤ desk) × (desk ≤ hallIn t .desks)
@@ -74,9 +74,9 @@ pub record Admitted (t : List ℕ) (desk : ℕ) (p : Location) : Type 0 where
   pub bounded : p .all ≤ maxAllScreens
   pub room : p .end ≤ length t
 
-pub admitted : {t : List ℕ} {desk : ℕ} {p : Location} → Admits t desk p → Admitted t desk p
-admitted {t} {desk} {p} a =
-    let f = known hallLimits t (a .yes-sound) in
+pub admitted : {limits : Limits} {t : List ℕ} {desk : ℕ} {p : Location} → Admits limits t desk p → Admitted limits t desk p
+admitted {limits} {t} {desk} {p} a =
+    let f = known limits t (a .yes-sound) in
     let r = in-range desk (hallIn t .desks) (a .yes-desk) in
     let all = ap (λ (x : Location). x .all) (a .is) in
     let start = ap (λ (x : Location). x .start) (a .is) in
@@ -95,36 +95,36 @@ admitted {t} {desk} {p} a =
       room = omega (arith, end, f .long, record-within (hallIn t) desk (r .0) (r .1));
     }
 
-pub admits : {t : List ℕ} {desk : ℕ} {p : Location} → At p ≡ admissionOf t desk → Admits t desk p
+pub admits : {limits : Limits} {t : List ℕ} {desk : ℕ} {p : Location} → At p ≡ admissionOf limits t desk → Admits limits t desk p
 unfolding admissionOf
-admits {t} {desk} {p} q = go (sound hallLimits t) (inRange desk (hallIn t .desks)) refl refl
+admits {limits} {t} {desk} {p} q = go (sound limits t) (inRange desk (hallIn t .desks)) refl refl
   where
-    go : (a b : Bool) → sound hallLimits t ≡ a → inRange desk (hallIn t .desks) ≡ b → Admits t desk p
+    go : (a b : Bool) → sound limits t ≡ a → inRange desk (hallIn t .desks) ≡ b → Admits limits t desk p
     go true true e g = let z : At p ≡ At (locationOf t desk) = rw (e, g) at q in record { yes-sound = e; yes-desk = g; is = cc }
     go true false e g = let z : At p ≡ NoDesk = rw (e, g) at q in let never : _≡_ {A = ℕ} 0 1 = cc in absurd (omega arith)
     go false b e g = let z : At p ≡ Unsound = rw e at q in let never : _≡_ {A = ℕ} 0 1 = cc in absurd (omega arith)
 
 -- ---- refused: every call asks for its desk first
-no-desk : (t : List ℕ) (c : Call) → inRange (c .desk) (hallIn t .desks) ≡ false → asked t c ≡ 6
-no-desk t c out = rw out
+no-desk : (limits : Limits) (t : List ℕ) (c : Call) → inRange (c .desk) (hallIn t .desks) ≡ false → asked limits t c ≡ 6
+no-desk limits t c out = rw out
 
-pub refused-header : (t : List ℕ) (c : Call) → Broken ≡ headerOf t → tableResult NotSoundReply t ≡ stepTable hallLimits t c
-refused-header t c q = sym (unsound-step hallLimits t c (header-broken t q))
+pub refused-header : (limits : Limits) (t : List ℕ) (c : Call) → Broken ≡ headerOf limits t → tableResult NotSoundReply t ≡ stepTable limits t c
+refused-header limits t c q = sym (unsound-step limits t c (header-broken limits t q))
 
-pub refused-table : (t : List ℕ) (c : Call) → Unsound ≡ admissionOf t (c .desk) → tableResult NotSoundReply t ≡ stepTable hallLimits t c
+pub refused-table : (limits : Limits) (t : List ℕ) (c : Call) → Unsound ≡ admissionOf limits t (c .desk) → tableResult NotSoundReply t ≡ stepTable limits t c
 unfolding admissionOf
-refused-table t c q = go (sound hallLimits t) (inRange (c .desk) (hallIn t .desks)) refl refl
+refused-table limits t c q = go (sound limits t) (inRange (c .desk) (hallIn t .desks)) refl refl
   where
-    go : (a b : Bool) → sound hallLimits t ≡ a → inRange (c .desk) (hallIn t .desks) ≡ b → tableResult NotSoundReply t ≡ stepTable hallLimits t c
+    go : (a b : Bool) → sound limits t ≡ a → inRange (c .desk) (hallIn t .desks) ≡ b → tableResult NotSoundReply t ≡ stepTable limits t c
     go true true e g = let z : Unsound ≡ At (locationOf t (c .desk)) = rw (e, g) at q in let never : _≡_ {A = ℕ} 0 1 = cc in absurd (omega arith)
     go true false e g = let z : Unsound ≡ NoDesk = rw (e, g) at q in let never : _≡_ {A = ℕ} 0 1 = cc in absurd (omega arith)
-    go false b e g = sym (unsound-step hallLimits t c e)
+    go false b e g = sym (unsound-step limits t c e)
 
-pub refused-desk : (t : List ℕ) (c : Call) → NoDesk ≡ admissionOf t (c .desk) → tableResult NoDeskReply t ≡ stepTable hallLimits t c
+pub refused-desk : (limits : Limits) (t : List ℕ) (c : Call) → NoDesk ≡ admissionOf limits t (c .desk) → tableResult NoDeskReply t ≡ stepTable limits t c
 unfolding admissionOf
-refused-desk t c q = go (sound hallLimits t) (inRange (c .desk) (hallIn t .desks)) refl refl
+refused-desk limits t c q = go (sound limits t) (inRange (c .desk) (hallIn t .desks)) refl refl
   where
-    go : (a b : Bool) → sound hallLimits t ≡ a → inRange (c .desk) (hallIn t .desks) ≡ b → tableResult NoDeskReply t ≡ stepTable hallLimits t c
+    go : (a b : Bool) → sound limits t ≡ a → inRange (c .desk) (hallIn t .desks) ≡ b → tableResult NoDeskReply t ≡ stepTable limits t c
     go true true e g = let z : NoDesk ≡ At (locationOf t (c .desk)) = rw (e, g) at q in let never : _≡_ {A = ℕ} 0 1 = cc in absurd (omega arith)
-    go true false e g = sym (refused-step hallLimits t c 5 e (no-desk t c g))
+    go true false e g = sym (refused-step limits t c 5 e (no-desk limits t c g))
     go false b e g = let z : NoDesk ≡ Unsound = rw e at q in let never : _≡_ {A = ℕ} 0 1 = cc in absurd (omega arith)

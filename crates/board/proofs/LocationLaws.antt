@@ -7,7 +7,7 @@ use mathlib.Core.Path.{_≡_, refl, sym, ap, ap₂, _∙_}
 use lib.ListN.{length, getD, take, drop}
 use borrow.Rule.Slice.PartMut.{mid-len, midOf, putMid}
 use Rattle.rules.specs.Bytes.{wordsOfBytes}
-use Rattle.rules.specs.Hall.{Hall, allScreens, deskOf, screenIndex}
+use Rattle.rules.specs.Hall.{Hall, Limits, allScreens, deskOf, screenIndex}
 use Rattle.rules.specs.Steps.{inRange}
 use Rattle.rules.specs.Table.{decode, decodeDesk, hallIn, maxWords, positionWord, putRecord, recordOf, recordSound, recordStart, screenWord, widthFor}
 use Rattle.rules.specs.laws.desk.Decoding.{small-drop, small-take}
@@ -32,9 +32,9 @@ pub record AtScreen (t : List ℕ) (d i a : ℕ) : Type 0 where
   pub there : a < length t
   pub shows : getD (decode (hallIn t) t .shown) (screenIndex (hallIn t) d i) 0 ≡ getD t a 0
 
-pub at-screen : {t : List ℕ} {d i a : ℕ} {p : Location} → Admitted t d p → inRange i (p .screens) ≡ true
+pub at-screen : {limits : Limits} {t : List ℕ} {d i a : ℕ} {p : Location} → Admitted limits t d p → inRange i (p .screens) ≡ true
     → a ≡ screenFor (p .positions) (p .screens) d i → AtScreen t d i a
-at-screen {t} {d} {i} {a} {p} e inside at =
+at-screen {t = t} {d} {i} {a} {p} e inside at =
     let H : Hall = hallIn t in
     let yes-screen : inRange i (H .screens) ≡ true = ap (inRange i) (sym (e .screens-is)) ∙ inside in
     let r = in-range i (H .screens) yes-screen in
@@ -59,8 +59,8 @@ pub record AtPosition (t : List ℕ) (d q : ℕ) : Type 0 where
   pub apart : (a : ℕ) → a ≡ recordStart (hallIn t) d → positionWord q < a
   pub holds : getD (decode (hallIn t) t .held) (q - 1) 0 ≡ getD t (positionWord q) 0
 
-pub at-position : {t : List ℕ} {d q : ℕ} {p : Location} → Admitted t d p → inRange q (p .positions) ≡ true → AtPosition t d q
-at-position {t} {d} {q} e inside =
+pub at-position : {limits : Limits} {t : List ℕ} {d q : ℕ} {p : Location} → Admitted limits t d p → inRange q (p .positions) ≡ true → AtPosition t d q
+at-position {t = t} {d} {q} e inside =
     let yes-position : inRange q (hallIn t .positions) ≡ true = ap (inRange q) (sym (e .positions-is)) ∙ inside in
     let r = in-range q (hallIn t .positions) yes-position in
     record {
@@ -85,8 +85,8 @@ pub record Lent (t : List ℕ) (d : ℕ) (p : Location) : Type 0 where
   pub desk-is : decodeDesk (p .all) (lentRecord t p) ≡ deskOf (decode (hallIn t) t) d
   pub put : (ys : List ℕ) → withRecord t p ys ≡ putRecord (hallIn t) t d ys
 
-pub lent : {t : List ℕ} {d : ℕ} {p : Location} → Admitted t d p → ((i : ℕ) → getD t i 0 < 2 ^ 16) → Lent t d p
-lent {t} {d} {p} e small =
+pub lent : {limits : Limits} {t : List ℕ} {d : ℕ} {p : Location} → Admitted limits t d p → ((i : ℕ) → getD t i 0 < 2 ^ 16) → Lent t d p
+lent {t = t} {d} {p} e small =
     let n : ℕ = p .end - p .start in
     let wide : n ≡ widthFor (p .all) = omega (arith, e .end-is) in
     let long : length (lentRecord t p) ≡ widthFor (p .all) = mid-len (p .start) (p .end) t (e .room) ∙ wide in
@@ -102,7 +102,7 @@ lent {t} {d} {p} e small =
     }
 
 -- the same part of the bytes
-module _ (bytes : List ℕ) {d : ℕ} {p : Location} (e : Admitted (wordsOfBytes bytes) d p) where
+module _ (bytes : List ℕ) {limits : Limits} {d : ℕ} {p : Location} (e : Admitted limits (wordsOfBytes bytes) d p) where
   room-bytes : 2 * p .end ≤ length bytes
   room-bytes = omega (arith, e .room, length-words bytes)
 

@@ -5,124 +5,129 @@ use native.Mathlib.Omega.{arith}
 use mathlib.Core.Bool.{Bool, true, false, cond}
 use mathlib.Core.List.{List, [], _∷_}
 use mathlib.Core.Path.{_≡_, refl, sym, ap, ap₂, _∙_}
-use lib.Dec.{eqb·suc-zero}
+use lib.Dec.{eqb·suc-zero, leb}
 use lib.ListN.{length, getD, take, drop, set, length-drop}
 use lib.Seq.{getD-drop, getD-set-other, getD-take, length-take-le, set-getD}
-use borrow.Author.Tests.{eq-eqb, ne-eqb}
+use borrow.Author.Tests.{eq-eqb, le-leb, lt-leb, ne-eqb}
 use borrow.Rule.Slice.PartMut.{put-same}
-use Rattle.rules.specs.Hall.{Desk, Hall, allScreens, deskOf, hallLimits}
+use Rattle.rules.specs.Hall.{Desk, Hall, Limits, allScreens, deskOf}
 use Rattle.rules.specs.Steps.{Call, Collect, Collected, Drop, Retire, Swap, Take, collect, collectSeeing, firstNo, inRange, isRepeat, nextScreens, perform, retire, _sends_, accept, refuse}
 use Rattle.rules.specs.Steps.{retireQuestions}
-use Rattle.rules.specs.Table.{decode, decodeDesk, encodeDesk, hallIn, headerWords, positionWord, putRecord, recordOf, scannedOffset, stepTable, tableAfter}
+use Rattle.rules.specs.Table.{decode, decodeDesk, encodeDesk, hallIn, headerWords, owedOffset, positionWord, putRecord, recordOf, recordStart, scannedOffset, stepTable, tableAfter}
 use Rattle.rules.specs.laws.table.EncodedStep.{some-screens}
 use Rattle.rules.specs.laws.table.TableSteps.{accepted-step, asked, collect-seeing, owed-word, refused-step, shown-at}
 use Rattle.desk.specs.Record.{Retired}
 use Rattle.reply.specs.Answer.{answerOf, tableResult}
 use Rattle.reply.specs.declared.Reply.{Reply}
-use Rattle.reply.specs.declared.Reply.the-variants.{Accepted, NoPosition, NoScreen, Owing, PositionEmpty, ScreenEmpty, ScreenFull}
+use Rattle.reply.specs.declared.Reply.the-variants.{Accepted, NoPosition, NoScreen, OverLimits, Owing, PositionEmpty, ScreenEmpty, ScreenFull}
 use Rattle.words.proofs.Scan.{ended, rest}
 use Rattle.desk.proofs.DeskTie.{scanned-below}
 use Rattle.board.specs.declared.Location.{Location}
 use Rattle.board.proofs.AdmissionLaws.{Admitted}
 use Rattle.board.proofs.LocationLaws.{AtPosition, AtScreen, Lent, lentRecord, withRecord}
 
-module _ {t : List ℕ} {d : ℕ} {p : Location} (e : Admitted t d p) where
+module _ {limits : Limits} {t : List ℕ} {d : ℕ} {p : Location} (e : Admitted limits t d p) where
   -- a step of the rules, by the number that its questions give
-  refused-as : (n : ℕ) (c : Call) → asked t c ≡ suc n → refuse (suc n) t ≡ stepTable hallLimits t c
-  refused-as n c q = sym (refused-step hallLimits t c n (e .yes-sound) q)
+  refused-as : (n : ℕ) (c : Call) → asked limits t c ≡ suc n → refuse (suc n) t ≡ stepTable limits t c
+  refused-as n c q = sym (refused-step limits t c n (e .yes-sound) q)
 
-  accepted-as : (c : Call) → asked t c ≡ 0 → accept (perform (hallIn t) (decode (hallIn t) t) c .session) (tableAfter t c) ≡ stepTable hallLimits t c
-  accepted-as c q = sym (accepted-step hallLimits t c (e .yes-sound) q)
+  accepted-as : (c : Call) → asked limits t c ≡ 0 → accept (perform (hallIn t) (decode (hallIn t) t) c .session) (tableAfter t c) ≡ stepTable limits t c
+  accepted-as c q = sym (accepted-step limits t c (e .yes-sound) q)
 
   -- ---- drop
-  pub drop-no-screen : (i : ℕ) → inRange i (p .screens) ≡ false → tableResult NoScreen t ≡ stepTable hallLimits t (d sends Drop i)
+  pub drop-no-screen : (i : ℕ) → inRange i (p .screens) ≡ false → tableResult NoScreen t ≡ stepTable limits t (d sends Drop i)
   drop-no-screen i out = refused-as 6 (d sends Drop i) (rw (e .yes-desk, ← e .screens-is, out))
 
   module _ {i a : ℕ} (s : AtScreen t d i a) where
-    pub drop-screen-empty : getD t a 0 ≡ 0 → tableResult ScreenEmpty t ≡ stepTable hallLimits t (d sends Drop i)
+    pub drop-screen-empty : getD t a 0 ≡ 0 → tableResult ScreenEmpty t ≡ stepTable limits t (d sends Drop i)
     drop-screen-empty none = refused-as 10 (d sends Drop i) (rw (e .yes-desk, s .yes-screen, s .shows, none))
 
     pub drop-accepted : (getD t a 0 ≡ 0 → ⊥)
-        → tableResult (Accepted (getD t a 0)) (set t a 0) ≡ stepTable hallLimits t (d sends Drop i)
+        → tableResult (Accepted (getD t a 0)) (set t a 0) ≡ stepTable limits t (d sends Drop i)
     drop-accepted some =
         (λ j. record { answer = record { number = 0; session = sym (s .shows) j }; after = set t (s .is j) 0 })
         ∙ accepted-as (d sends Drop i) (rw (e .yes-desk, s .yes-screen, s .shows, ne-eqb (getD t a 0) 0 some))
 
   -- ---- take
-  pub take-no-screen : (i q : ℕ) → inRange i (p .screens) ≡ false → tableResult NoScreen t ≡ stepTable hallLimits t (d sends Take i q)
+  pub take-no-screen : (i q : ℕ) → inRange i (p .screens) ≡ false → tableResult NoScreen t ≡ stepTable limits t (d sends Take i q)
   take-no-screen i q out = refused-as 6 (d sends Take i q) (rw (e .yes-desk, ← e .screens-is, out))
 
   module _ {i a : ℕ} (s : AtScreen t d i a) where
-    pub take-no-position : (q : ℕ) → inRange q (p .positions) ≡ false → tableResult NoPosition t ≡ stepTable hallLimits t (d sends Take i q)
+    pub take-no-position : (q : ℕ) → inRange q (p .positions) ≡ false → tableResult NoPosition t ≡ stepTable limits t (d sends Take i q)
     take-no-position q out = refused-as 7 (d sends Take i q) (rw (e .yes-desk, s .yes-screen, ← e .positions-is, out))
 
     module _ {q : ℕ} (h : AtPosition t d q) where
-      pub take-screen-full : (getD t a 0 ≡ 0 → ⊥) → tableResult ScreenFull t ≡ stepTable hallLimits t (d sends Take i q)
+      pub take-screen-full : (getD t a 0 ≡ 0 → ⊥) → tableResult ScreenFull t ≡ stepTable limits t (d sends Take i q)
       take-screen-full some =
           refused-as 8 (d sends Take i q) (rw (e .yes-desk, s .yes-screen, h .yes-position, s .shows, ne-eqb (getD t a 0) 0 some))
 
-      pub take-position-empty : getD t a 0 ≡ 0 → getD t (positionWord q) 0 ≡ 0 → tableResult PositionEmpty t ≡ stepTable hallLimits t (d sends Take i q)
+      pub take-position-empty : getD t a 0 ≡ 0 → getD t (positionWord q) 0 ≡ 0 → tableResult PositionEmpty t ≡ stepTable limits t (d sends Take i q)
       take-position-empty free none = refused-as 9 (d sends Take i q) (rw (e .yes-desk, s .yes-screen, h .yes-position, s .shows, free, h .holds, none))
 
       pub take-accepted : getD t a 0 ≡ 0 → (getD t (positionWord q) 0 ≡ 0 → ⊥)
-          → tableResult (Accepted (getD t (positionWord q) 0)) (set t a (getD t (positionWord q) 0)) ≡ stepTable hallLimits t (d sends Take i q)
+          → tableResult (Accepted (getD t (positionWord q) 0)) (set t a (getD t (positionWord q) 0)) ≡ stepTable limits t (d sends Take i q)
       take-accepted free some =
           (λ j. record { answer = record { number = 0; session = sym (h .holds) j }; after = set t (s .is j) (getD t (positionWord q) 0) })
           ∙ accepted-as (d sends Take i q) (rw (e .yes-desk, s .yes-screen, h .yes-position, s .shows, free, h .holds, ne-eqb (getD t (positionWord q) 0) 0 some))
 
-  -- ---- swap
-  owes : deskOf (decode (hallIn t) t) d .owed ≡ getD t (p .start) 0
-  owes = owed-word t d (e .range .0) (e .range .1) ∙ ap (λ (k : ℕ). getD t k 0) (sym (e .start-is))
+  -- ---- swap: the owed word and the word of the position, as the code reads them
+  owed-at : p .start + owedOffset ≡ recordStart (hallIn t) d
+  owed-at = omega (arith, e .start-is)
+
+  owes : deskOf (decode (hallIn t) t) d .owed ≡ getD t (p .start + owedOffset) 0
+  owes = owed-word t d (e .range .0) (e .range .1) ∙ ap (λ (k : ℕ). getD t k 0) (sym owed-at)
 
   module _ (q v : ℕ) where
-    pub swap-no-position : inRange q (p .positions) ≡ false → tableResult NoPosition t ≡ stepTable hallLimits t (d sends Swap q v)
+    pub swap-no-position : inRange q (p .positions) ≡ false → tableResult NoPosition t ≡ stepTable limits t (d sends Swap q v)
     swap-no-position out = refused-as 7 (d sends Swap q v) (rw (e .yes-desk, ← e .positions-is, out))
 
-    module _ (h : AtPosition t d q) where
-      pub swap-owing : (getD t (p .start) 0 ≡ 0 → ⊥) → tableResult Owing t ≡ stepTable hallLimits t (d sends Swap q v)
-      swap-owing some = refused-as 11 (d sends Swap q v) (rw (e .yes-desk, h .yes-position, owes, ne-eqb (getD t (p .start) 0) 0 some))
+    pub swap-over-limits : AtPosition t d q → limits .sessions < v → tableResult OverLimits t ≡ stepTable limits t (d sends Swap q v)
+    swap-over-limits h over = refused-as 21 (d sends Swap q v) (rw (e .yes-desk, h .yes-position, lt-leb v (limits .sessions) over))
 
-      -- an accepted swap, given whether it is a repeat
-      swap-accepted-as : getD t (p .start) 0 ≡ 0 → (repeat : Bool)
-          → let old = getD t (positionWord q) 0 in
-          isRepeat old v ≡ repeat
-          → tableResult (Accepted old) (cond repeat t (set (set t (positionWord q) v) (p .start) old)) ≡ stepTable hallLimits t (d sends Swap q v)
-      swap-accepted-as none repeat is =
-          let old = getD t (positionWord q) 0 in
-          (λ j. record {
-            answer = record { number = 0; session = sym (h .holds) j };
-            after = cond (sym is j) t (set (set t (positionWord q) v) (e .start-is j) old);
-          })
-          ∙ accepted-as (d sends Swap q v) (rw (e .yes-desk, h .yes-position, owes, none))
+    module _ (h : AtPosition t d q) (in-limits : v ≤ limits .sessions) {owed : ℕ} (owed-is : owed ≡ getD t (p .start + owedOffset) 0) where
+      yes-session : leb v (limits .sessions) ≡ true
+      yes-session = le-leb v (limits .sessions) in-limits
 
-      -- the position holds it already: nothing is written
-      pub swap-repeated : getD t (p .start) 0 ≡ 0 → getD t (positionWord q) 0 ≡ v
-          → tableResult (Accepted (getD t (positionWord q) 0)) t ≡ stepTable hallLimits t (d sends Swap q v)
-      swap-repeated none same = swap-accepted-as none true (eq-eqb (getD t (positionWord q) 0) v same)
+      pub swap-owing : (owed ≡ 0 → ⊥) → tableResult Owing t ≡ stepTable limits t (d sends Swap q v)
+      swap-owing some = refused-as 11 (d sends Swap q v) (rw (e .yes-desk, h .yes-position, yes-session, owes, ← owed-is, ne-eqb owed 0 some))
 
-      pub swap-accepted : getD t (p .start) 0 ≡ 0
-          → let old = getD t (positionWord q) 0 in
-          (old ≡ v → ⊥) → tableResult (Accepted old) (set (set t (positionWord q) v) (p .start) old) ≡ stepTable hallLimits t (d sends Swap q v)
-      swap-accepted none other = swap-accepted-as none false (ne-eqb (getD t (positionWord q) 0) v other)
+      module _ (none : owed ≡ 0) {old : ℕ} (old-is : old ≡ getD t (positionWord q) 0) where
+        -- an accepted swap, given whether it is a repeat
+        swap-accepted-as : (repeat : Bool) → isRepeat old v ≡ repeat
+            → tableResult (Accepted old) (cond repeat t (set (set t (positionWord q) v) (p .start + owedOffset) old)) ≡ stepTable limits t (d sends Swap q v)
+        swap-accepted-as repeat is =
+            (λ j. record {
+              answer = record { number = 0; session = (old-is ∙ sym (h .holds)) j };
+              after = cond ((sym is ∙ ap (λ (x : ℕ). isRepeat x v) old-is) j) t (set (set t (positionWord q) v) (owed-at j) (old-is j));
+            })
+            ∙ accepted-as (d sends Swap q v) (rw (e .yes-desk, h .yes-position, yes-session, owes, ← owed-is, none))
 
-      -- nothing stood there: the owed word stays 0
-      pub swap-accepted-none : getD t (p .start) 0 ≡ 0 → (getD t (positionWord q) 0 ≡ v → ⊥) → getD t (positionWord q) 0 ≡ 0
-          → tableResult (Accepted (getD t (positionWord q) 0)) (set t (positionWord q) v) ≡ stepTable hallLimits t (d sends Swap q v)
-      swap-accepted-none none other empty =
-          let after : List ℕ = set t (positionWord q) v in
-          let owed : getD after (p .start) 0 ≡ getD t (positionWord q) 0 = getD-set-other t (positionWord q) (p .start) v 0 (λ z. omega (arith, z, h .apart (p .start) (e .start-is))) ∙ none ∙ sym empty in
-          (λ j. tableResult (Accepted (getD t (positionWord q) 0)) ((sym (set-getD after (p .start) 0) ∙ ap (set after (p .start)) owed) j)) ∙ swap-accepted none other
+        -- the position holds it already: nothing is written
+        pub swap-repeated : old ≡ v → tableResult (Accepted old) t ≡ stepTable limits t (d sends Swap q v)
+        swap-repeated same = swap-accepted-as true (eq-eqb old v same)
+
+        pub swap-accepted : (old ≡ v → ⊥)
+            → tableResult (Accepted old) (set (set t (positionWord q) v) (p .start + owedOffset) old) ≡ stepTable limits t (d sends Swap q v)
+        swap-accepted other = swap-accepted-as false (ne-eqb old v other)
+
+        -- nothing stood there: the owed word stays 0
+        pub swap-accepted-none : (old ≡ v → ⊥) → old ≡ 0 → tableResult (Accepted old) (set t (positionWord q) v) ≡ stepTable limits t (d sends Swap q v)
+        swap-accepted-none other empty =
+            let after : List ℕ = set t (positionWord q) v in
+            let at : ℕ = p .start + owedOffset in
+            let stays : getD after at 0 ≡ old = getD-set-other t (positionWord q) at v 0 (λ z. omega (arith, z, h .apart at owed-at)) ∙ sym owed-is ∙ none ∙ sym empty in
+            (λ j. tableResult (Accepted old) ((sym (set-getD after at 0) ∙ ap (set after at) stays) j)) ∙ swap-accepted other
 
   -- ---- retire
   module _ (l : Lent t d p) where
     pub retire-result : (x : Reply) (ys : List ℕ) → Retired (p .all) (lentRecord t p) (answerOf x) ys
-        → tableResult x (withRecord t p ys) ≡ stepTable hallLimits t (d sends Retire)
+        → tableResult x (withRecord t p ys) ≡ stepTable limits t (d sends Retire)
     retire-result x ys r = go (answerOf x .number) refl
       where
-        all-asked : asked t (d sends Retire) ≡ answerOf x .number
+        all-asked : asked limits t (d sends Retire) ≡ answerOf x .number
         all-asked = rw (e .yes-desk) (sym (r .number ∙ ap₂ (λ (n : ℕ) (D : Desk). firstNo (retireQuestions n D)) (e .all-is) (l .desk-is)))
 
-        go : (n : ℕ) → answerOf x .number ≡ n → tableResult x (withRecord t p ys) ≡ stepTable hallLimits t (d sends Retire)
+        go : (n : ℕ) → answerOf x .number ≡ n → tableResult x (withRecord t p ys) ≡ stepTable limits t (d sends Retire)
         go zero z =
             let session : answerOf x .session ≡ deskOf (decode (hallIn t) t) d .owed = rw z at (r .session) ∙ ap (λ (D : Desk). D .owed) (l .desk-is) in
             let after : ys ≡ encodeDesk (allScreens (hallIn t)) (retire (decodeDesk (allScreens (hallIn t)) (recordOf (hallIn t) t d))) =
@@ -140,7 +145,7 @@ module _ {t : List ℕ} {d : ℕ} {p : Location} (e : Admitted t d p) where
     pub collect-result : (vs : List ℕ) → vs ≡ nextScreens (decode (hallIn t) t .shown) (decodeDesk (p .all) (lentRecord t p)) → (x : ℕ) (ys : List ℕ)
         → x ≡ collectSeeing (p .all) vs (decodeDesk (p .all) (lentRecord t p)) .session
         → ys ≡ encodeDesk (p .all) (collectSeeing (p .all) vs (decodeDesk (p .all) (lentRecord t p)) .after)
-        → tableResult (Accepted x) (withRecord t p ys) ≡ stepTable hallLimits t (d sends Collect)
+        → tableResult (Accepted x) (withRecord t p ys) ≡ stepTable limits t (d sends Collect)
     collect-result vs seen x ys ex ey =
         let H : Hall = hallIn t in
         let D : Desk = decodeDesk (p .all) (lentRecord t p) in
@@ -174,8 +179,8 @@ pub record Reads (t : List ℕ) (p : Location) (k : ℕ) : Type 0 where
       → let at = headerWords + p .positions + k in getD t at 0 ∷ getD t (at + 1) 0 ∷ [] ≡ nextScreens (decode (hallIn t) t .shown) (decodeDesk (p .all) (lentRecord t p))
   pub see-one : p .all ≤ k + 1 → getD t (headerWords + p .positions + k) 0 ∷ [] ≡ nextScreens (decode (hallIn t) t .shown) (decodeDesk (p .all) (lentRecord t p))
 
-pub reads : {t : List ℕ} {d k : ℕ} {p : Location} → Admitted t d p → Lent t d p → k ≡ getD t (p .start + scannedOffset) 0 → Reads t p k
-reads {t} {d} {k} {p} e l is =
+pub reads : {limits : Limits} {t : List ℕ} {d k : ℕ} {p : Location} → Admitted limits t d p → Lent t d p → k ≡ getD t (p .start + scannedOffset) 0 → Reads t p k
+reads {t = t} {d} {k} {p} e l is =
     let H : Hall = hallIn t in
     let s = p .all in
     let a = p .start in

@@ -5,7 +5,7 @@ use mathlib.Core.List.{List}
 use mathlib.Core.Path.{_≡_}
 use lib.Dec.{leb}
 use lib.ListN.{length}
-use Rattle.rules.specs.Hall.{allScreens, hallLimits}
+use Rattle.rules.specs.Hall.{Limits, allScreens}
 use Rattle.rules.specs.Steps.{inRange}
 use Rattle.rules.specs.Table.{hallIn, headerWords, inLimits, need, recordStart, sound, startFor}
 use Rattle.board.specs.declared.Hall.{Hall}
@@ -19,20 +19,20 @@ abbrev pub numbersIn : List ℕ → Hall
 numbersIn t = let H = hallIn t in record { desks = H .desks; screens = H .screens; positions = H .positions; all = allScreens H }
 
 -- "it is long enough, P, c and L are in range": the hall in the header, or `Broken`.
-unfoldable pub headerOf : List ℕ → Header
-headerOf t = cond (inLimits hallLimits (hallIn t) && leb (need (hallIn t)) (length t)) (Of (numbersIn t)) Broken
+unfoldable pub headerOf : Limits → List ℕ → Header
+headerOf limits t = cond (inLimits limits (hallIn t) && leb (need (hallIn t)) (length t)) (Of (numbersIn t)) Broken
 
 abbrev pub locationOf : List ℕ → ℕ → Location
 locationOf t desk =
     let H = hallIn t in
     record { positions = H .positions; screens = H .screens; all = allScreens H; start = recordStart H desk; end = startFor (H .positions) (allScreens H) desk }
 
-unfoldable pub admissionOf : List ℕ → ℕ → Admission
-admissionOf t desk = cond (sound hallLimits t) (cond (inRange desk (hallIn t .desks)) (At (locationOf t desk)) NoDesk) Unsound
+unfoldable pub admissionOf : Limits → List ℕ → ℕ → Admission
+admissionOf limits t desk = cond (sound limits t) (cond (inRange desk (hallIn t .desks)) (At (locationOf t desk)) NoDesk) Unsound
 
 -- Both questions are answered yes, and this is the desk's location.
-pub record Admits (t : List ℕ) (desk : ℕ) (location : Location) : Type 0 where
-  pub yes-sound : sound hallLimits t ≡ true
+pub record Admits (limits : Limits) (t : List ℕ) (desk : ℕ) (location : Location) : Type 0 where
+  pub yes-sound : sound limits t ≡ true
   pub yes-desk : inRange desk (hallIn t .desks) ≡ true
   pub is : location ≡ locationOf t desk
 

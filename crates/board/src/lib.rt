@@ -5,6 +5,8 @@ use desk::collect_record;
 use desk::record_words;
 use desk::retire_record;
 use desk::sound_record;
+use limits::Limits;
+use limits::within;
 use reply::Reply;
 use reply::number;
 use words::clear;
@@ -15,10 +17,11 @@ ghost use mathlib.Core.Path.{_≡_};
 ghost use Prim.Native.Nat.{_+_, _-_, _*_, _≤_, _<_};
 ghost use lib.ListN.{length, drop as dropWords};
 ghost use Rattle.rules.specs.Bytes.{wordsOfBytes};
-ghost use Rattle.rules.specs.Hall.{hallLimits, hallOf, maxAllScreens, maxDesks, maxPositions};
+ghost use Rattle.rules.specs.Hall.{hallLimits, hallOf, maxAllScreens, maxDesks, maxPositions, trainingLimits};
 ghost use Rattle.rules.specs.Lists.{chunks, every};
 ghost use Rattle.rules.specs.Steps.{Collect, Drop, Retire, Swap, Take, _sends_, inRange};
 ghost use Rattle.rules.specs.Table.{headerWords, inLimits, maxWords, need as hallNeed, recordSound, startFor, widthFor};
+ghost use Rattle.limits.specs.Room.{limitsOf};
 ghost use Rattle.reply.specs.Answer.{answerOf};
 ghost use Rattle.board.specs.Admission.{Admits, admissionOf, headerOf, screenFor};
 ghost use Rattle.board.specs.declared.Header.the-variants.{Of};
@@ -37,16 +40,40 @@ const POSITIONS: usize = 2;
 // The words before the session at each position.
 const HEADER: usize = 3;
 
-// The board of a hall: its limits, and the words that its table needs.
+// The board: the limits of its rooms, and the words that a table needs.
 pub struct Board;
 
 impl Board {
-    // The limits for P, c and L.
+    // The hall's limits for P, c and L, the most that a table has room for, and for a session.
     pub const MAX_DESKS: usize = 16;
 
     pub const MAX_SCREENS: usize = 4;
 
     pub const MAX_POSITIONS: usize = 64;
+
+    pub const MAX_SESSION: u16 = 65535;
+
+    // The training room's limits for P, c and a session. Its limit for L is the hall's.
+    pub const TRAINING_DESKS: usize = 4;
+
+    pub const TRAINING_SCREENS: usize = 1;
+
+    pub const TRAINING_SESSION: u16 = 999;
+
+    // The limits of the two rooms.
+    pub const HALL: Limits = Limits {
+        desks: Board::MAX_DESKS as u16,
+        screens: Board::MAX_SCREENS as u16,
+        positions: Board::MAX_POSITIONS as u16,
+        sessions: Board::MAX_SESSION,
+    };
+
+    pub const TRAINING: Limits = Limits {
+        desks: Board::TRAINING_DESKS as u16,
+        screens: Board::TRAINING_SCREENS as u16,
+        positions: Board::MAX_POSITIONS as u16,
+        sessions: Board::TRAINING_SESSION,
+    };
 
     // The words that the largest hall needs, and their bytes.
     pub const MAX_WORDS: usize = 2387;
@@ -63,6 +90,20 @@ impl Board {
     }
 }
 
+// The limits of the hall.
+pub fn hall_limits() -> Limits
+    ensures { λ r. ⌜ limitsOf r ≡ hallLimits ⌝ }
+{
+    Board::HALL
+}
+
+// The limits of the training room.
+pub fn training_limits() -> Limits
+    ensures { λ r. ⌜ limitsOf r ≡ trainingLimits ⌝ }
+{
+    Board::TRAINING
+}
+
 // Whether a number is 1 to `most`.
 fn in_range(n: u16, most: usize) -> bool
     ensures { λ r. ⌜ r ≡ inRange n most ⌝ }
@@ -71,9 +112,9 @@ fn in_range(n: u16, most: usize) -> bool
     1 <= x && x <= most
 }
 
-// Whether P, c and L are in range.
-fn in_limits(desks: u16, screens: u16, positions: u16) -> bool
-    ensures { λ r. ⌜ r ≡ inLimits hallLimits (hallOf desks screens positions) ⌝ }
+// Whether P, c and L are in range, in a room with these limits.
+fn in_limits(limits: Limits, desks: u16, screens: u16, positions: u16) -> bool
+    ensures { λ r. ⌜ r ≡ inLimits (limitsOf limits) (hallOf desks screens positions) ⌝ }
 {
     if !in_range(desks, Board::MAX_DESKS) {
         return false;
@@ -81,7 +122,7 @@ fn in_limits(desks: u16, screens: u16, positions: u16) -> bool
     if !in_range(screens, Board::MAX_SCREENS) {
         return false;
     }
-    in_range(positions, Board::MAX_POSITIONS)
+    in_range(positions, Board::MAX_POSITIONS) && within(limits, desks, screens, positions)
 }
 
 // The offset of the record of desk d, with d counted from 0, in a hall of l positions and s screens.
@@ -136,8 +177,8 @@ enum Header {
 }
 
 // Reads the header of a table, once for a call.
-fn read_header(t: &[u8]) -> Header
-    ensures { λ r. ⌜ r ≡ headerOf (wordsOfBytes (now (t .entry))) ⌝ }
+fn read_header(t: &[u8], limits: Limits) -> Header
+    ensures { λ r. ⌜ r ≡ headerOf (limitsOf limits) (wordsOfBytes (now (t .entry))) ⌝ }
 {
     let n = t.len() / 2;
     if n < HEADER {
@@ -146,7 +187,7 @@ fn read_header(t: &[u8]) -> Header
     let desks = word(t, DESKS);
     let screens = word(t, SCREENS);
     let positions = word(t, POSITIONS);
-    if !in_limits(desks, screens, positions) {
+    if !in_limits(limits, desks, screens, positions) {
         return Header::Broken;
     }
     if n < Board::need(desks, screens, positions) {
@@ -154,11 +195,13 @@ fn read_header(t: &[u8]) -> Header
     }
     let p = desks as usize;
     let c = screens as usize;
+    let l = positions as usize;
+    let s = p * c;
     Header::Of(Hall {
         desks: p,
         screens: c,
-        positions: positions as usize,
-        all: p * c,
+        positions: l,
+        all: s,
     })
 }
 
@@ -179,10 +222,10 @@ enum Admission {
     At(Location),
 }
 
-// What every step asks first: is the table sound, is the desk 1 to P. Precondition: `hall` is the one in the header.
-fn admit(t: &[u8], hall: Hall, desk: u16) -> Admission
-    requires { ⌜ Of hall ≡ headerOf (wordsOfBytes (now t)) ⌝ }
-    ensures { λ r. ⌜ r ≡ admissionOf (wordsOfBytes (now (t .entry))) desk ⌝ }
+// What every step asks first: is the table sound, is the desk 1 to P. Precondition: `hall` is the one in the header, within the limits.
+fn admit(t: &[u8], limits: Limits, hall: Hall, desk: u16) -> Admission
+    requires { ⌜ Of hall ≡ headerOf (limitsOf limits) (wordsOfBytes (now t)) ⌝ }
+    ensures { λ r. ⌜ r ≡ admissionOf (limitsOf limits) (wordsOfBytes (now (t .entry))) desk ⌝ }
 {
     let p = hall.desks;
     let l = hall.positions;
@@ -206,8 +249,8 @@ fn admit(t: &[u8], hall: Hall, desk: u16) -> Admission
 }
 
 // What the opening of a hall asks, in order, of its three numbers and of the words that the table has.
-pub fn opening(desks: u16, screens: u16, positions: u16, words: usize) -> Reply
-    ensures { λ r. ⌜ OpeningAnswer (hallOf desks screens positions) words (answerOf r) ⌝ }
+pub fn opening(limits: Limits, desks: u16, screens: u16, positions: u16, words: usize) -> Reply
+    ensures { λ r. ⌜ OpeningAnswer (limitsOf limits) (hallOf desks screens positions) words (answerOf r) ⌝ }
 {
     if !in_range(desks, Board::MAX_DESKS) {
         return Reply::BadDesks;
@@ -218,6 +261,9 @@ pub fn opening(desks: u16, screens: u16, positions: u16, words: usize) -> Reply
     if !in_range(positions, Board::MAX_POSITIONS) {
         return Reply::BadPositions;
     }
+    if !within(limits, desks, screens, positions) {
+        return Reply::OverLimits;
+    }
     if words < Board::need(desks, screens, positions) {
         return Reply::TableShort;
     }
@@ -225,10 +271,10 @@ pub fn opening(desks: u16, screens: u16, positions: u16, words: usize) -> Reply
 }
 
 // Opening writes P, c, L and zeros up to the need.
-pub fn open(t: &mut [u8], desks: u16, screens: u16, positions: u16) -> Reply
-    ensures { λ r. ⌜ Opened (hallOf desks screens positions) (now (t .entry)) r (now (t .exit)) ⌝ }
+pub fn open(t: &mut [u8], limits: Limits, desks: u16, screens: u16, positions: u16) -> Reply
+    ensures { λ r. ⌜ Opened (limitsOf limits) (hallOf desks screens positions) (now (t .entry)) r (now (t .exit)) ⌝ }
 {
-    let r = opening(desks, screens, positions, t.len() / 2);
+    let r = opening(limits, desks, screens, positions, t.len() / 2);
     if number(r) != 0 {
         return r;
     }
@@ -240,10 +286,18 @@ pub fn open(t: &mut [u8], desks: u16, screens: u16, positions: u16) -> Reply
     Reply::Accepted(0)
 }
 
-// Take, of an admitted desk. Precondition, here and for the other steps: the table is sound, it has the desk, and this is its location.
-fn take_at(t: &mut [u8], desk: u16, location: Location, screen: u16, position: u16) -> Reply
-    requires { ⌜ Admits (wordsOfBytes (now t)) desk location ⌝ }
-    ensures { λ r. ⌜ Stepped (desk sends Take screen position) (now (t .entry)) r (now (t .exit)) ⌝ }
+// Take, of an admitted desk. Precondition, here and for the other steps: the table is sound in a room with these limits, it has the desk,
+// and this is its location. (Only a swap asks the limits again.)
+fn take_at(
+    t: &mut [u8],
+    limits: Limits,
+    desk: u16,
+    location: Location,
+    screen: u16,
+    position: u16,
+) -> Reply
+    requires { ⌜ Admits (limitsOf limits) (wordsOfBytes (now t)) desk location ⌝ }
+    ensures { λ r. ⌜ Stepped (limitsOf limits) (desk sends Take screen position) (now (t .entry)) r (now (t .exit)) ⌝ }
 {
     let c = location.screens;
     let l = location.positions;
@@ -266,27 +320,27 @@ fn take_at(t: &mut [u8], desk: u16, location: Location, screen: u16, position: u
 }
 
 // Take: the screen shows the position's session; the reply is that session.
-pub fn take(t: &mut [u8], desk: u16, screen: u16, position: u16) -> Reply
-    ensures { λ r. ⌜ Stepped (desk sends Take screen position) (now (t .entry)) r (now (t .exit)) ⌝ }
+pub fn take(t: &mut [u8], limits: Limits, desk: u16, screen: u16, position: u16) -> Reply
+    ensures { λ r. ⌜ Stepped (limitsOf limits) (desk sends Take screen position) (now (t .entry)) r (now (t .exit)) ⌝ }
 {
-    let header = read_header(t);
+    let header = read_header(t, limits);
     match header {
         Header::Broken => Reply::Unsound,
         Header::Of(hall) => {
-            let admission = admit(t, hall, desk);
+            let admission = admit(t, limits, hall, desk);
             match admission {
                 Admission::Unsound => Reply::Unsound,
                 Admission::NoDesk => Reply::NoDesk,
-                Admission::At(location) => take_at(t, desk, location, screen, position),
+                Admission::At(location) => take_at(t, limits, desk, location, screen, position),
             }
         }
     }
 }
 
 // Drop, of an admitted desk.
-fn drop_at(t: &mut [u8], desk: u16, location: Location, screen: u16) -> Reply
-    requires { ⌜ Admits (wordsOfBytes (now t)) desk location ⌝ }
-    ensures { λ r. ⌜ Stepped (desk sends Drop screen) (now (t .entry)) r (now (t .exit)) ⌝ }
+fn drop_at(t: &mut [u8], limits: Limits, desk: u16, location: Location, screen: u16) -> Reply
+    requires { ⌜ Admits (limitsOf limits) (wordsOfBytes (now t)) desk location ⌝ }
+    ensures { λ r. ⌜ Stepped (limitsOf limits) (desk sends Drop screen) (now (t .entry)) r (now (t .exit)) ⌝ }
 {
     let c = location.screens;
     let l = location.positions;
@@ -303,31 +357,40 @@ fn drop_at(t: &mut [u8], desk: u16, location: Location, screen: u16) -> Reply
 }
 
 // Drop: the screen becomes 0; the reply is what it showed.
-pub fn drop(t: &mut [u8], desk: u16, screen: u16) -> Reply
-    ensures { λ r. ⌜ Stepped (desk sends Drop screen) (now (t .entry)) r (now (t .exit)) ⌝ }
+pub fn drop(t: &mut [u8], limits: Limits, desk: u16, screen: u16) -> Reply
+    ensures { λ r. ⌜ Stepped (limitsOf limits) (desk sends Drop screen) (now (t .entry)) r (now (t .exit)) ⌝ }
 {
-    let header = read_header(t);
+    let header = read_header(t, limits);
     match header {
         Header::Broken => Reply::Unsound,
         Header::Of(hall) => {
-            let admission = admit(t, hall, desk);
+            let admission = admit(t, limits, hall, desk);
             match admission {
                 Admission::Unsound => Reply::Unsound,
                 Admission::NoDesk => Reply::NoDesk,
-                Admission::At(location) => drop_at(t, desk, location, screen),
+                Admission::At(location) => drop_at(t, limits, desk, location, screen),
             }
         }
     }
 }
 
 // Swap, of an admitted desk.
-fn swap_at(t: &mut [u8], desk: u16, location: Location, position: u16, session: u16) -> Reply
-    requires { ⌜ Admits (wordsOfBytes (now t)) desk location ⌝ }
-    ensures { λ r. ⌜ Stepped (desk sends Swap position session) (now (t .entry)) r (now (t .exit)) ⌝ }
+fn swap_at(
+    t: &mut [u8],
+    limits: Limits,
+    desk: u16,
+    location: Location,
+    position: u16,
+    session: u16,
+) -> Reply
+    requires { ⌜ Admits (limitsOf limits) (wordsOfBytes (now t)) desk location ⌝ }
+    ensures { λ r. ⌜ Stepped (limitsOf limits) (desk sends Swap position session) (now (t .entry)) r (now (t .exit)) ⌝ }
 {
-    let l = location.positions;
-    if !in_range(position, l) {
+    if !in_range(position, location.positions) {
         return Reply::NoPosition;
+    }
+    if session > limits.sessions {
+        return Reply::OverLimits;
     }
     let owed = location.start + OWED;
     if word(t, owed) != 0 {
@@ -347,27 +410,27 @@ fn swap_at(t: &mut [u8], desk: u16, location: Location, position: u16, session: 
 
 // Swap: the position holds the new session or 0; the reply is the old one, and the desk owes it if it is not 0. A repeat, a swap to what
 // the position holds already, writes nothing.
-pub fn swap(t: &mut [u8], desk: u16, position: u16, session: u16) -> Reply
-    ensures { λ r. ⌜ Stepped (desk sends Swap position session) (now (t .entry)) r (now (t .exit)) ⌝ }
+pub fn swap(t: &mut [u8], limits: Limits, desk: u16, position: u16, session: u16) -> Reply
+    ensures { λ r. ⌜ Stepped (limitsOf limits) (desk sends Swap position session) (now (t .entry)) r (now (t .exit)) ⌝ }
 {
-    let header = read_header(t);
+    let header = read_header(t, limits);
     match header {
         Header::Broken => Reply::Unsound,
         Header::Of(hall) => {
-            let admission = admit(t, hall, desk);
+            let admission = admit(t, limits, hall, desk);
             match admission {
                 Admission::Unsound => Reply::Unsound,
                 Admission::NoDesk => Reply::NoDesk,
-                Admission::At(location) => swap_at(t, desk, location, position, session),
+                Admission::At(location) => swap_at(t, limits, desk, location, position, session),
             }
         }
     }
 }
 
 // Retire, of an admitted desk: on its record.
-fn retire_at(t: &mut [u8], desk: u16, location: Location) -> Reply
-    requires { ⌜ Admits (wordsOfBytes (now t)) desk location ⌝ }
-    ensures { λ r. ⌜ Stepped (desk sends Retire) (now (t .entry)) r (now (t .exit)) ⌝ }
+fn retire_at(t: &mut [u8], limits: Limits, desk: u16, location: Location) -> Reply
+    requires { ⌜ Admits (limitsOf limits) (wordsOfBytes (now t)) desk location ⌝ }
+    ensures { λ r. ⌜ Stepped (limitsOf limits) (desk sends Retire) (now (t .entry)) r (now (t .exit)) ⌝ }
 {
     let a = location.start;
     let e = location.end;
@@ -375,27 +438,27 @@ fn retire_at(t: &mut [u8], desk: u16, location: Location) -> Reply
 }
 
 // Retire: the owed session goes to the end of the list as waiting; nothing is owed; the reply is that session.
-pub fn retire(t: &mut [u8], desk: u16) -> Reply
-    ensures { λ r. ⌜ Stepped (desk sends Retire) (now (t .entry)) r (now (t .exit)) ⌝ }
+pub fn retire(t: &mut [u8], limits: Limits, desk: u16) -> Reply
+    ensures { λ r. ⌜ Stepped (limitsOf limits) (desk sends Retire) (now (t .entry)) r (now (t .exit)) ⌝ }
 {
-    let header = read_header(t);
+    let header = read_header(t, limits);
     match header {
         Header::Broken => Reply::Unsound,
         Header::Of(hall) => {
-            let admission = admit(t, hall, desk);
+            let admission = admit(t, limits, hall, desk);
             match admission {
                 Admission::Unsound => Reply::Unsound,
                 Admission::NoDesk => Reply::NoDesk,
-                Admission::At(location) => retire_at(t, desk, location),
+                Admission::At(location) => retire_at(t, limits, desk, location),
             }
         }
     }
 }
 
 // Collect, of an admitted desk: on its record, with the next two screens of the hall or the last one alone.
-fn collect_at(t: &mut [u8], desk: u16, location: Location) -> Reply
-    requires { ⌜ Admits (wordsOfBytes (now t)) desk location ⌝ }
-    ensures { λ r. ⌜ Stepped (desk sends Collect) (now (t .entry)) r (now (t .exit)) ⌝ }
+fn collect_at(t: &mut [u8], limits: Limits, desk: u16, location: Location) -> Reply
+    requires { ⌜ Admits (limitsOf limits) (wordsOfBytes (now t)) desk location ⌝ }
+    ensures { λ r. ⌜ Stepped (limitsOf limits) (desk sends Collect) (now (t .entry)) r (now (t .exit)) ⌝ }
 {
     let s = location.all;
     let a = location.start;
@@ -412,18 +475,18 @@ fn collect_at(t: &mut [u8], desk: u16, location: Location) -> Reply
 }
 
 // Collect: (a) to (d); the reply is the session that is handed back, or 0.
-pub fn collect(t: &mut [u8], desk: u16) -> Reply
-    ensures { λ r. ⌜ Stepped (desk sends Collect) (now (t .entry)) r (now (t .exit)) ⌝ }
+pub fn collect(t: &mut [u8], limits: Limits, desk: u16) -> Reply
+    ensures { λ r. ⌜ Stepped (limitsOf limits) (desk sends Collect) (now (t .entry)) r (now (t .exit)) ⌝ }
 {
-    let header = read_header(t);
+    let header = read_header(t, limits);
     match header {
         Header::Broken => Reply::Unsound,
         Header::Of(hall) => {
-            let admission = admit(t, hall, desk);
+            let admission = admit(t, limits, hall, desk);
             match admission {
                 Admission::Unsound => Reply::Unsound,
                 Admission::NoDesk => Reply::NoDesk,
-                Admission::At(location) => collect_at(t, desk, location),
+                Admission::At(location) => collect_at(t, limits, desk, location),
             }
         }
     }

@@ -7,11 +7,12 @@ use mathlib.Core.Path.{_≡_, ap, ap₂, _∙_}
 use lib.ListN.{length}
 use borrow.Author.Needs.{needs}
 use Rattle.rules.specs.Bytes.{wordsOfBytes}
-use Rattle.rules.specs.Hall.{hallLimits, maxAllScreens, maxDesks, maxPositions}
+use Rattle.rules.specs.Hall.{Limits, maxAllScreens, maxDesks, maxPositions}
 use Rattle.rules.specs.Steps.{inRange}
 use Rattle.rules.specs.Table.{hallIn, startFor}
 use Rattle.rules.specs.laws.history.StepEffects.{in-range}
 use Rattle.rules.specs.laws.table.EncodedStep.{limits-fit}
+use Rattle.limits.specs.Room.{limitsOf}
 use Rattle.words.proofs.Laws.{length-words}
 use Rattle.board.specs.Admission.{admissionOf, headerOf}
 use Rattle.board.specs.declared.Admission.the-variants.{At}
@@ -29,10 +30,10 @@ record Within (bytes : List ℕ) (hall : Hall) : Type 0 where
   pub all : hall .all ≤ maxAllScreens
   pub there : 2 * startFor (hall .positions) (hall .all) (hall .desks) ≤ length bytes
 
-within : (bytes : List ℕ) (hall : Hall) → Of hall ≡ headerOf (wordsOfBytes bytes) → Within bytes hall
-within bytes hall q =
+within : (limits : Limits) (bytes : List ℕ) (hall : Hall) → Of hall ≡ headerOf limits (wordsOfBytes bytes) → Within bytes hall
+within limits bytes hall q =
     let n = named q in
-    let fits = limits-fit hallLimits (hallIn (wordsOfBytes bytes)) (n .inside) in
+    let fits = limits-fit limits (hallIn (wordsOfBytes bytes)) (n .inside) in
     let desks = ap (λ (h : Hall). h .desks) (n .is) in
     let positions = ap (λ (h : Hall). h .positions) (n .is) in
     let all = ap (λ (h : Hall). h .all) (n .is) in
@@ -45,7 +46,7 @@ within bytes hall q =
     }
 
 sound-records-requires : tie.Need-sound-records-requires
-sound-records-requires c κs = let w = within (c .before .args .t .now) (c .before .args .hall) (c .before .pre) in (w .desks, w .positions, w .all, w .there)
+sound-records-requires c κs = let w = within (limitsOf (c .before .args .limits)) (c .before .args .t .now) (c .before .args .hall) (c .before .pre) in (w .desks, w .positions, w .all, w .there)
 
 returns : tie.Need-returns
 unfolding admissionOf
@@ -70,13 +71,13 @@ sub-record-start c =
 record-start-requires : tie.Need-record-start-requires
 record-start-requires c κs =
     let after-sound-records = c .before .before .before in let start = after-sound-records .before .before in
-    let w = within (start .args .t .now) (start .args .hall) (start .pre) in
+    let w = within (limitsOf (start .args .limits)) (start .args .t .now) (start .args .hall) (start .pre) in
     omega (arith, w .positions, w .all, w .desks, in-range (start .args .desk) (start .args .hall .desks) (said-yes (c .before .in-range .ensures) (c .if2 .left)))
 
 record-start-requires-2 : tie.Need-record-start-requires-2
 record-start-requires-2 c κs =
     let else1 = c .before .before .before in let start = else1 .before .before .before in
-    let w = within (start .args .t .now) (start .args .hall) (start .pre) in
+    let w = within (limitsOf (start .args .limits)) (start .args .t .now) (start .args .hall) (start .pre) in
     omega (arith, w .positions, w .all, w .desks, in-range (start .args .desk) (start .args .hall .desks) (said-yes (c .before .before .in-range .ensures) (c .before .if2 .left)))
 
 returns-3 : tie.Need-returns-3

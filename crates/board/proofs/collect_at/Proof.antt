@@ -6,10 +6,10 @@ use mathlib.Core.Path.{_≡_, ap, subst, sym, _∙_}
 use borrow.Author.Needs.{needs}
 use borrow.Rule.Slice.PartMut.{midOf}
 use Rattle.rules.specs.Bytes.{wordsOfBytes}
-use Rattle.rules.specs.Hall.{hallLimits}
 use Rattle.rules.specs.Steps.{Collect, _sends_, collectSeeing, nextScreens}
 use Rattle.rules.specs.Table.{decode, decodeDesk, encodeDesk, hallIn, stepTable}
 use Rattle.rules.specs.laws.bytes.Bytes.{words-are-16}
+use Rattle.limits.specs.Room.{limitsOf}
 use Rattle.words.proofs.Laws.{length-words}
 use Rattle.reply.specs.Answer.{tableResult}
 use Rattle.reply.specs.declared.Reply.the-variants.{Accepted}
@@ -25,7 +25,7 @@ use Rattle.board.proofs.collect_at.Tie as tie
 abbrev start : tie.After-count → tie.Start
 start c = (c .before .before .before)
 
-here : (c : tie.After-count) → let o = start c .args in Admitted (wordsOfBytes (o .t .now)) (o .desk) (o .location)
+here : (c : tie.After-count) → let o = start c .args in Admitted (limitsOf (o .limits)) (wordsOfBytes (o .t .now)) (o .desk) (o .location)
 here c = admitted (start c .pre)
 
 record-lent : (c : tie.After-count) → let o = start c .args in Lent (wordsOfBytes (o .t .now)) (o .desk) (o .location)
@@ -48,7 +48,7 @@ collected : (c : tie.After-count) (shown : List ℕ) → let o = start c .args i
     let words = wordsOfBytes (midOf (2 * o .location .start) (2 * o .location .end - 2 * o .location .start) (o .t .now)) in
     shown ≡ nextScreens (decode (hallIn (wordsOfBytes (o .t .now))) (wordsOfBytes (o .t .now)) .shown) (decodeDesk s (lentRecord (wordsOfBytes (o .t .now)) (o .location)))
     → (x : ℕ) (part : List ℕ) → x ≡ collectSeeing s shown (decodeDesk s words) .session → wordsOfBytes part ≡ encodeDesk s (collectSeeing s shown (decodeDesk s words) .after)
-    → tableResult (Accepted x) (withRecord (wordsOfBytes (o .t .now)) (o .location) (wordsOfBytes part)) ≡ stepTable hallLimits (wordsOfBytes (o .t .now)) (o .desk sends Collect)
+    → tableResult (Accepted x) (withRecord (wordsOfBytes (o .t .now)) (o .location) (wordsOfBytes part)) ≡ stepTable (limitsOf (o .limits)) (wordsOfBytes (o .t .now)) (o .desk sends Collect)
 collected c shown seen x part session after =
     let s = start c .args .location .all in
     let words = lent-words (start c .args .t .now) (here c) in

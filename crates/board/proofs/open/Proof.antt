@@ -7,8 +7,9 @@ use lib.ListN.{length, set}
 use borrow.Author.Needs.{needs}
 use borrow.Rule.Slice.PartMut.{same-len-mid}
 use Rattle.rules.specs.Bytes.{wordsOfBytes}
-use Rattle.rules.specs.Hall.{Hall, hallOf}
+use Rattle.rules.specs.Hall.{Hall, Limits, hallOf}
 use Rattle.rules.specs.Table.{need}
+use Rattle.limits.specs.Room.{limitsOf}
 use Rattle.words.proofs.Laws.{length-words, written-then}
 use Rattle.board.proofs.OpenLaws.{cleared, is-opened, need-there, not-opened, opened-bytes}
 use Rattle.board.proofs.ResultLaws.{matches-unchanged}
@@ -17,7 +18,10 @@ use Rattle.reply.specs.declared.Reply.the-variants.{Accepted}
 use Rattle.board.proofs.open.Statement.{statement}
 use Rattle.board.proofs.open.Tie as tie
 
--- the call, and its hall
+-- the call's limits, and its hall
+abbrev limits : tie.Start → Limits
+limits o = limitsOf (o .args .limits)
+
 abbrev hall : tie.Start → Hall
 hall o = hallOf (o .args .desks) (o .args .screens) (o .args .positions)
 
@@ -29,7 +33,7 @@ there c =
     let after-slice-known = c .before .before .before in let start = after-slice-known .before in
     let words = wordsOfBytes (start .args .t .now) in
     let many = length-words (start .args .t .now) in
-    omega (arith, many, need-there (hall start) words (c .before .before .opening .result) (c .before .before .opening .ensures words many) (omega (arith, c .before .number .ensures, c .if1 .left)))
+    omega (arith, many, need-there (limits start) (hall start) words (c .before .before .opening .result) (c .before .before .opening .ensures words many) (omega (arith, c .before .number .ensures, c .if1 .left)))
 
 opening-requires : tie.Need-opening-requires
 opening-requires c κs = search needs
@@ -41,7 +45,7 @@ returns : tie.Need-returns
 returns c =
     let after-slice-known = c .before .before .before in let start = after-slice-known .before in
     let words = wordsOfBytes (start .args .t .now) in
-    matches-unchanged (not-opened (hall start) words (c .before .before .opening .result) (c .before .before .opening .ensures words (length-words (start .args .t .now))) (λ z. c .if1 .taken (c .before .number .ensures ∙ z)))
+    matches-unchanged (not-opened (limits start) (hall start) words (c .before .before .opening .result) (c .before .before .opening .ensures words (length-words (start .args .t .now))) (λ z. c .if1 .taken (c .before .number .ensures ∙ z)))
 
 need-requires : tie.Need-need-requires
 need-requires c κs = search needs
@@ -98,7 +102,7 @@ returns-2 c =
     let words = wordsOfBytes bytes in
     let n = after-need .need .result in
     let part = after-clear .clear .last .0 in
-    let asked = is-opened (hall start) words (after-opening .opening .result) (after-opening .opening .ensures words (length-words bytes)) (omega (arith, after-number .number .ensures, else1 .if1 .left)) in
+    let asked = is-opened (limits start) (hall start) words (after-opening .opening .result) (after-opening .opening .ensures words (length-words bytes)) (omega (arith, after-number .number .ensures, else1 .if1 .left)) in
     let long : 2 * n ≤ length bytes = omega (arith, after-need .need .ensures, there else1) in
     let same = same-len-mid {X = ℕ} 0 (2 * n - 0) bytes part (after-clear .clear .kept .0) in
     let zeros = cleared (hall start) bytes part n (after-need .need .ensures) long (after-clear .clear .ensures) in
@@ -107,7 +111,7 @@ returns-2 c =
     let three = written-then two (after-put-word2 .put-word2 .kept .0 ∙ after-put-word .put-word .kept .0 ∙ same) (c .before .before .put-word3 .ensures) in
     let stored = c .before .before .put-word3 .ensures .holds ∙ ap (λ (x : List ℕ). set x 2 (start .args .positions)) (after-put-word2 .put-word2 .ensures .holds ∙ ap (λ (x : List ℕ). set x 1 (start .args .screens)) (after-put-word .put-word .ensures .holds)) in
     record {
-      words = (λ i. tableResult (Accepted 0) (stored i)) ∙ opened-bytes (hall start) bytes part n (after-need .need .ensures) long (after-clear .clear .ensures) asked;
+      words = (λ i. tableResult (Accepted 0) (stored i)) ∙ opened-bytes (hall start) bytes part n (after-need .need .ensures) long (after-clear .clear .ensures) (limits start) asked;
       last = three .last;
     }
 

@@ -3,6 +3,7 @@ use mathlib.Core.Path.{sym, _∙_}
 use borrow.Author.Needs.{needs}
 use Rattle.rules.specs.Bytes.{wordsOfBytes}
 use Rattle.rules.specs.Steps.{Swap, _sends_}
+use Rattle.limits.specs.Room.{limitsOf}
 use Rattle.board.proofs.AdmissionLaws.{admits, refused-desk, refused-header, refused-table}
 use Rattle.board.proofs.ResultLaws.{matches-unchanged}
 use Rattle.board.proofs.swap.Statement.{statement}
@@ -42,7 +43,7 @@ same-length c = search needs
 returns : tie.Need-returns
 returns c =
     let after-read-header-arg = c .before .before .before in let start = after-read-header-arg .before .before in
-    matches-unchanged (refused-header (wordsOfBytes (start .args .t .now)) (start .args .desk sends Swap (start .args .position) (start .args .session)) (sym (c .enum-told .given .1) ∙ c .before .before .read-header .ensures))
+    matches-unchanged (refused-header (limitsOf (start .args .limits)) (wordsOfBytes (start .args .t .now)) (start .args .desk sends Swap (start .args .position) (start .args .session)) (sym (c .enum-told .given .1) ∙ c .before .before .read-header .ensures))
 
 same-length-2 : tie.Need-same-length-2
 same-length-2 c = search needs
@@ -51,7 +52,7 @@ returns-2 : tie.Need-returns-2
 returns-2 c =
     let after-admit-arg = c .before .before .before in let at-match-keys2 = after-admit-arg .before .before .before in
     let after-slice-known = at-match-keys2 .before .before .before in let start = after-slice-known .before in
-    matches-unchanged (refused-table (wordsOfBytes (start .args .t .now)) (start .args .desk sends Swap (start .args .position) (start .args .session)) (sym (c .enum-told2 .given .1) ∙ c .before .before .admit .ensures))
+    matches-unchanged (refused-table (limitsOf (start .args .limits)) (wordsOfBytes (start .args .t .now)) (start .args .desk sends Swap (start .args .position) (start .args .session)) (sym (c .enum-told2 .given .1) ∙ c .before .before .admit .ensures))
 
 same-length-3 : tie.Need-same-length-3
 same-length-3 c = search needs
@@ -60,7 +61,7 @@ returns-3 : tie.Need-returns-3
 returns-3 c =
     let after-admit-arg = c .before .before .before in let at-match-keys2 = after-admit-arg .before .before .before in
     let after-slice-known = at-match-keys2 .before .before .before in let start = after-slice-known .before in
-    matches-unchanged (refused-desk (wordsOfBytes (start .args .t .now)) (start .args .desk sends Swap (start .args .position) (start .args .session)) (sym (c .enum-told3 .given .1) ∙ c .before .before .admit .ensures))
+    matches-unchanged (refused-desk (limitsOf (start .args .limits)) (wordsOfBytes (start .args .t .now)) (start .args .desk sends Swap (start .args .position) (start .args .session)) (sym (c .enum-told3 .given .1) ∙ c .before .before .admit .ensures))
 
 same-length-4 : tie.Need-same-length-4
 same-length-4 c = search needs
