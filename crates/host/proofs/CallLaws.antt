@@ -4,7 +4,7 @@ use mathlib.Core.List.{List}
 use mathlib.Core.Path.{_≡_, refl, ap, _∙_}
 use lib.ListN.{length}
 use Rattle.rules.specs.Bytes.{IsBytes, onBytes, openBytes, stepBytes, unpack}
-use Rattle.rules.specs.Hall.{Hall, hallLimits}
+use Rattle.rules.specs.Hall.{Hall, Limits}
 use Rattle.rules.specs.Steps.{Call, Result}
 use Rattle.reply.specs.Answer.{answerOf}
 use Rattle.reply.specs.declared.Reply.{Reply}
@@ -18,10 +18,10 @@ module _ {before after : List ℕ} {r : Reply} (number : ℕ) (are : IsBytes aft
       let written = written-overwrites are same (record { holds = refl; last = m .last }) in
       (λ i. record { answer = is i; after = written i }) ∙ ap (λ (d : Result (List ℕ)). onBytes d before) (m .words)
 
-  pub opened-on-bytes : (hall : Hall) → Opened hall before r after → bytesResult number after ≡ openBytes hallLimits hall before
+  pub opened-on-bytes : (limits : Limits) (hall : Hall) → Opened limits hall before r after → bytesResult number after ≡ openBytes limits hall before
   unfolding openBytes
-  opened-on-bytes hall m = result-on-bytes m
+  opened-on-bytes limits hall m = result-on-bytes m
 
-  pub stepped-on-bytes : (call : Call) → Stepped call before r after → bytesResult number after ≡ stepBytes hallLimits before call
+  pub stepped-on-bytes : (limits : Limits) (call : Call) → Stepped limits call before r after → bytesResult number after ≡ stepBytes limits before call
   unfolding stepBytes
-  stepped-on-bytes call m = result-on-bytes m
+  stepped-on-bytes limits call m = result-on-bytes m

@@ -1,0 +1,24 @@
+-- `host::call_open` meets its contract.
+use borrow.Author.Needs.{needs}
+use Rattle.rules.specs.Hall.{hallOf}
+use Rattle.limits.specs.Room.{limitsOf}
+use Rattle.host.proofs.CallLaws.{opened-on-bytes}
+use Rattle.host.proofs.call_open.Statement.{statement}
+use Rattle.host.proofs.call_open.Tie as tie
+
+open-requires : tie.Need-open-requires
+open-requires c κs = search needs
+
+answer-requires : tie.Need-answer-requires
+answer-requires c κs = search needs
+
+same-length : tie.Need-same-length
+same-length c = search needs
+
+returns : tie.Need-returns
+returns c =
+    let after-open = c .before .before .before in let start = after-open .before .before .before in
+    opened-on-bytes (c .answer .result) (λ i. c .before .slice-known2 .given i .fits) (after-open .«open» .kept .0) (c .answer .ensures) (limitsOf (start .args .limits)) (hallOf (start .args .desks) (start .args .screens) (start .args .positions)) (after-open .«open» .ensures)
+
+pub call-open-spec : {M : Type 1} → statement M
+call-open-spec = tie.close (tie.spec open-requires answer-requires same-length returns)
