@@ -1,6 +1,7 @@
 // The sheet program: reads a day sheet of edition 1 from standard input and prints its lines.
 use arguments::Request;
 use arguments::request_for;
+use board::hall_limits;
 use libc::STDERR_FILENO;
 use libc::STDOUT_FILENO;
 use printing::print_input;
@@ -38,7 +39,7 @@ fn main() {
     match request_for(os::arg_count(), &first[..n]) {
         Request::Run => {
             print_input(
-                edition_1(),
+                edition_1(hall_limits()),
                 b"day_sheet: cannot read standard input",
                 b"day_sheet: cannot write standard output",
             );

@@ -1,10 +1,11 @@
 -- For each result of the readers, the result of the rules' readers: the value and the next offset, or what ends the reading.
 use Prim.Native.Nat.{ℕ}
 use Rattle.rules.specs.Hall.{Hall, hallOf}
-use Rattle.rules.specs.Numbers.{Padding, Parsed, Refusal, allowed, barred, decodeNumber, parsed, refusalOf, refused}
-use Rattle.sheet_rules.specs.Edition1.{Format}
+use Rattle.rules.specs.Numbers.{Padding, Parsed, Refusal, allowed, barred, parsed, refusalOf, refused}
+use Rattle.sheet_rules.specs.Edition1.{Format, formatFor}
 use Rattle.sheet_rules.specs.Edition2.{Version, editionFor, version1, version2}
 use Rattle.sheet_rules.specs.Sheet.{Carried, Edition, Record, lastDesk, noDesk, recordFor}
+use Rattle.limits.specs.Room.{limitsOf}
 use Rattle.reader.specs.declared.Padding.{Padding as ReaderPadding}
 use Rattle.reader.specs.declared.Padding.the-variants.{Allowed, Barred}
 use Rattle.reader.specs.declared.Refusal.{Refusal as ReaderRefusal}
@@ -36,7 +37,7 @@ paddingOf Allowed = allowed
 paddingOf Barred = barred
 
 abbrev pub formatOf : ReaderFormat → Format
-formatOf format = record { readNumber = decodeNumber (paddingOf (format .padding)); maxSession = format .«max_session» }
+formatOf format = formatFor (paddingOf (format .padding)) (limitsOf (format .limits))
 
 -- The rules' edition for a reader's edition.
 abbrev pub versionOf : ReaderVersion → Version

@@ -3,13 +3,15 @@ use fields::POSITION;
 use fields::SCREEN;
 use fields::SESSION;
 use fields::follows;
+use limits::Limits;
 ghost use mathlib.Core.Path.{_≡_};
 ghost use Prim.Native.Nat.{_≤_, _<_};
-ghost use Rattle.rules.specs.Numbers.{allows as allowsPadded, bind, judge as judged, refusal, refusalOf};
-ghost use Rattle.sheet_rules.specs.Edition1.{archiveEdition, decodeField, decodeFields, decodeHeader, decodeRecord, decodeRest, hallEdition, withCode};
-ghost use Rattle.sheet_rules.specs.Edition2.{checkDesk, decodeCoded, decodeHeader2, decodeRecord2, deskBefore, expectNumber, hallEdition2, repeats as repeatsDesk};
+ghost use Rattle.rules.specs.Numbers.{allowed, allows as allowsPadded, barred, bind, judge as judged, refusal, refusalOf};
+ghost use Rattle.sheet_rules.specs.Edition1.{decodeField, decodeFields, decodeHeader, decodeRecord, decodeRest, edition1, formatFor, withCode};
+ghost use Rattle.sheet_rules.specs.Edition2.{checkDesk, decodeCoded, decodeHeader2, decodeRecord2, deskBefore, edition2, editionFor, expectNumber, repeats as repeatsDesk};
 ghost use Rattle.sheet_rules.specs.Sheet.{beginSheet, follows as followsCode};
-ghost use Rattle.reader.specs.Results.{carriedOf, editionOf, formatOf, headerResult, numberResult, paddingOf, reasonOf, recordResult};
+ghost use Rattle.limits.specs.Room.{limitsOf};
+ghost use Rattle.reader.specs.Results.{carriedOf, editionOf, formatOf, headerResult, numberResult, paddingOf, reasonOf, recordResult, versionOf};
 
 // The most bytes of a sheet.
 pub const MAX_BYTES: usize = 65536;
@@ -26,25 +28,10 @@ pub enum Padding {
     Barred,
 }
 
-// How numbers are read.
+// How numbers are read, and the limits of the room: a session is read against the room's largest.
 pub struct Format {
     pub padding: Padding,
-    // The largest session.
-    pub max_session: u16,
-}
-
-impl Format {
-    // The hall's format.
-    pub const HALL: Format = Format {
-        padding: Padding::Barred,
-        max_session: MAX_NUMBER,
-    };
-
-    // The format of the sheets in the archive.
-    pub const ARCHIVE: Format = Format {
-        padding: Padding::Allowed,
-        max_session: MAX_NUMBER,
-    };
+    pub limits: Limits,
 }
 
 // The layout of a header and of a record.
@@ -61,45 +48,38 @@ pub struct Edition {
     pub format: Format,
 }
 
-impl Edition {
-    // The hall's sheets of edition 1.
-    pub const HALL: Edition = Edition {
-        version: Version::One,
-        format: Format::HALL,
-    };
-
-    // The sheets in the archive.
-    pub const ARCHIVE: Edition = Edition {
-        version: Version::One,
-        format: Format::ARCHIVE,
-    };
-
-    // The hall's sheets of edition 2.
-    pub const HALL_2: Edition = Edition {
-        version: Version::Two,
-        format: Format::HALL,
-    };
+// The edition of a version, in a room with these limits.
+fn edition_for(version: Version, padding: Padding, limits: Limits) -> Edition
+    ensures { λ r. ⌜ editionOf r ≡ editionFor (versionOf version) (formatFor (paddingOf padding) (limitsOf limits)) ⌝ }
+{
+    Edition {
+        version: version,
+        format: Format {
+            padding: padding,
+            limits: limits,
+        },
+    }
 }
 
-// The hall's edition 1.
-pub fn edition_1() -> Edition
-    ensures { λ r. ⌜ editionOf r ≡ hallEdition ⌝ }
+// Edition 1.
+pub fn edition_1(limits: Limits) -> Edition
+    ensures { λ r. ⌜ editionOf r ≡ edition1 (formatFor barred (limitsOf limits)) ⌝ }
 {
-    Edition::HALL
+    edition_for(Version::One, Padding::Barred, limits)
 }
 
-// The hall's edition 2.
-pub fn edition_2() -> Edition
-    ensures { λ r. ⌜ editionOf r ≡ hallEdition2 ⌝ }
+// Edition 2.
+pub fn edition_2(limits: Limits) -> Edition
+    ensures { λ r. ⌜ editionOf r ≡ edition2 (formatFor barred (limitsOf limits)) ⌝ }
 {
-    Edition::HALL_2
+    edition_for(Version::Two, Padding::Barred, limits)
 }
 
 // The edition of the sheets in the archive.
-pub fn archive_edition() -> Edition
-    ensures { λ r. ⌜ editionOf r ≡ archiveEdition ⌝ }
+pub fn archive_edition(limits: Limits) -> Edition
+    ensures { λ r. ⌜ editionOf r ≡ edition1 (formatFor allowed (limitsOf limits)) ⌝ }
 {
-    Edition::ARCHIVE
+    edition_for(Version::One, Padding::Allowed, limits)
 }
 
 // What ends a reading: the code that its line shows (0 if no code was read), the reply number, and the offset of the first byte of the number
@@ -131,7 +111,7 @@ const WRONG_DESK: u16 = 20;
 // 21: not a sheet of edition 2.
 const WRONG_EDITION: u16 = 21;
 
-// The refusal with a reply number that shows no offset: 1 to 3, 17, 18 and 20. No code was read; `refuse_record` puts one in.
+// The refusal with a reply number that shows no offset: 1 to 3, 17, 18, 20 and 22. No code was read; `refuse_record` puts one in.
 pub fn refuse_with(number: u16) -> Refusal
     ensures { λ r. ⌜ reasonOf r ≡ refusalOf 0 number 0 ⌝ }
 {
@@ -313,7 +293,7 @@ fn read_rest(sheet: &[u8], at: usize, format: Format, code: u16, desk: u16) -> P
                 format,
                 code,
                 SESSION,
-                format.max_session,
+                format.limits.sessions,
             ) {
                 Number::Refused(reason) => refuse_record(code, reason),
                 Number::Value(session, next) => ParsedRecord::Whole(

@@ -52,7 +52,7 @@ module _ (from to : Edition) (sheet : List ℕ) where
   pub record WasRead (carried : Carried) (at : ℕ) (entry : Record) (next : ℕ) : Type 0 where
     pub read : from .decodeRecord carried sheet at ≡ parsed entry next
 
-module _ {from to : Edition} {maxSession : ℕ} (lawful : Lawful from maxSession) {sheet : List ℕ} where
+module _ {from to : Edition} (lawful : Lawful from) {sheet : List ℕ} where
   module _ {carried : Carried} {at : ℕ} {entry : Record} {next : ℕ} (was : WasRead from to sheet carried at entry next) where
     pub record-code : (1 ≤ entry .code) × (entry .code ≤ 5)
     record-code = in-range (entry .code) 5 (lawful .record-code carried sheet at entry next (was .read))

@@ -9,7 +9,7 @@ use borrow.Author.Tests.{le-leb, lt-leb}
 use Rattle.board.specs.Opening.{OpeningAnswer}
 use Rattle.buffer.specs.Put.{Put}
 use Rattle.buffer.specs.laws.Put.{put-first, put-on}
-use Rattle.rules.specs.Hall.{Hall}
+use Rattle.rules.specs.Hall.{Hall, Limits}
 use Rattle.rules.specs.Numbers.{Refusal, parsed, refusalOf, refused}
 use Rattle.rules.specs.Steps.{Answer}
 use Rattle.sheet_rules.specs.Offsets.{endingIn}
@@ -21,12 +21,13 @@ use Rattle.rewriter.specs.Build.{PutRecords, recordsFrom, writtenFor}
 -- ---- The opening.
 
 -- the board's number for the opening, where the table has as many words as the program's
-pub opening-number : (hall : Hall) {number : ℕ} {answer : Answer} → OpeningAnswer hall 2387 answer → number ≡ answer .number → openingNumber hall ≡ number
+pub opening-number : (limits : Limits) (hall : Hall) {number : ℕ} {answer : Answer} → OpeningAnswer limits hall 2387 answer → number ≡ answer .number
+    → openingNumber limits hall ≡ number
 unfolding lentTable
-opening-number hall said is-number =
-    sym (ap (λ (a : Answer). a .number) (said lentTable (length-replicate {A = ℕ} 2387 0) ∙ opening-answer hall)) ∙ sym is-number
+opening-number limits hall said is-number =
+    sym (ap (λ (a : Answer). a .number) (said lentTable (length-replicate {A = ℕ} 2387 0) ∙ opening-answer limits hall)) ∙ sym is-number
 
-module _ (edition : Edition) (sheet : List ℕ) {hall : Hall} {next number : ℕ} (found : beginSheet edition sheet ≡ parsed hall next) (opening : openingNumber hall ≡ number) where
+module _ (edition : Edition) (sheet : List ℕ) {hall : Hall} {next number : ℕ} (found : beginSheet edition sheet ≡ parsed hall next) (opening : openingNumber (edition .limits) hall ≡ number) where
   pub sheet-opens : number ≡ 0 → parsed hall next ≡ openSheet edition sheet
   sheet-opens accepted = sym (begun edition sheet found (opening ∙ accepted))
 

@@ -51,6 +51,7 @@ fn open_sheet(sheet: &[u8], edition: Edition) -> ParsedHeader
         ParsedHeader::Refused(reason) => ParsedHeader::Refused(reason),
         ParsedHeader::Whole(header, next) => {
             let r = opening(
+                edition.format.limits,
                 header.desks,
                 header.screens,
                 header.positions,

@@ -7,7 +7,6 @@ use mathlib.Core.Bool.{true, false}
 use mathlib.Core.Logic.{_⊎_, inl, inr, ⊎-elim}
 use mathlib.Core.List.{List, [], _∷_, _++_, append-nil}
 use lib.ListN.{length}
-use Rattle.rules.specs.Hall.{hallLimits}
 use Rattle.rules.specs.Numbers.{Parsed, Refusal, parsed, refused}
 use Rattle.rules.specs.Steps.{Result}
 use Rattle.buffer.specs.Put.{Put}
@@ -34,7 +33,7 @@ use Rattle.sheet.specs.declared.State.{State}
 -- what remains, by what the records from the offset on are
 module _ (edition : Edition) (sheet : List ℕ) (was : State) (unfinished : was .finished ≡ false) (records : Records)
     (are : remainingRecords edition sheet was ≡ records) where
-  output-of-records : (table : List ℕ) → remainingOutput edition sheet was table ≡ linesFrom table (was .index) (toTally (was .tally)) records
+  output-of-records : (table : List ℕ) → remainingOutput edition sheet was table ≡ linesFrom (edition .limits) table (was .index) (toTally (was .tally)) records
   output-of-records table = simp (unfinished, are)
 
   calls-of-records : remainingCalls edition sheet was ≡ callsIn records
@@ -48,11 +47,11 @@ afterRecord was next desk total = record { offset = next; index = was .index + 1
 abbrev pub nextRecord : Edition → List ℕ → State → Parsed Record
 nextRecord edition sheet was = edition .decodeRecord (carriedOf (was .carried)) sheet (was .offset)
 
-module _ {edition : Edition} {maxSession : ℕ} (lawful : Lawful edition maxSession) {sheet : List ℕ} {was : State} (unfinished : was .finished ≡ false) where
+module _ {edition : Edition} (lawful : Lawful edition) {sheet : List ℕ} {was : State} (unfinished : was .finished ≡ false) where
   -- A record was run.
   module _ {entry : Record} {next : ℕ} (inside : was .offset < length sheet) (read : nextRecord edition sheet was ≡ parsed entry next) where
     pub record-ran : (reply : Reply) {before after : List ℕ} {number session : ℕ} {total : Tally} {out outAfter : List ℕ} {at end : ℕ}
-        → tableResult reply after ≡ runRecord hallLimits before entry
+        → tableResult reply after ≡ runRecord (edition .limits) before entry
         → number ≡ answerOf reply .number
         → session ≡ answerOf reply .session
         → toTally total ≡ addStep (toTally (was .tally)) (entry .code) (answerWith number session)
@@ -63,7 +62,7 @@ module _ {edition : Edition} {maxSession : ℕ} (lawful : Lawful edition maxSess
       put = put;
       emitted = record {
         output =
-            (λ i. answerLine (was .index) (entry .code) (answers i) ++ linesFrom (leaves i) (add-one (was .index) i) (total-is i) rest)
+            (λ i. answerLine (was .index) (entry .code) (answers i) ++ linesFrom (edition .limits) (leaves i) (add-one (was .index) i) (total-is i) rest)
             ∙ sym (output-of-records edition sheet was unfinished (more entry rest) are before);
         calls = asks .call ∷ [];
         run = sym (calls-of-records edition sheet was unfinished (more entry rest) are ∙ simp (asks .asked));
@@ -81,13 +80,13 @@ module _ {edition : Edition} {maxSession : ℕ} (lawful : Lawful edition maxSess
         asks : Asks entry
         asks = record-asks entry (lawful .record-code (carriedOf (was .carried)) sheet (was .offset) entry next read)
 
-        answers : answerWith number session ≡ runRecord hallLimits before entry .answer
+        answers : answerWith number session ≡ runRecord (edition .limits) before entry .answer
         answers = (λ i. answerWith (is-number i) (is-session i)) ∙ ap (λ (done : Result (List ℕ)). done .answer) result
 
-        leaves : after ≡ runRecord hallLimits before entry .after
+        leaves : after ≡ runRecord (edition .limits) before entry .after
         leaves = ap (λ (done : Result (List ℕ)). done .after) result
 
-        total-is : toTally total ≡ addStep (toTally (was .tally)) (entry .code) (runRecord hallLimits before entry .answer)
+        total-is : toTally total ≡ addStep (toTally (was .tally)) (entry .code) (runRecord (edition .limits) before entry .answer)
         total-is = counts ∙ ap (addStep (toTally (was .tally)) (entry .code)) answers
 
     pub record-progress : {total : Tally} → was .index ≤ was .offset → Progress sheet was (afterRecord was next (entry .desk) total)
@@ -98,7 +97,7 @@ module _ {edition : Edition} {maxSession : ℕ} (lawful : Lawful edition maxSess
   module _ {before out outAfter : List ℕ} {at end : ℕ} {is : State} where
     -- No call remains: these are the last lines.
     last-lines : {bytes : List ℕ} (records : Records) → remainingRecords edition sheet was ≡ records → callsIn records ≡ []
-        → linesFrom before (was .index) (toTally (was .tally)) records ≡ bytes
+        → linesFrom (edition .limits) before (was .index) (toTally (was .tally)) records ≡ bytes
         → Put out outAfter at bytes end → is ≡ finishedAt was
         → PartialBatch edition sheet was before out at is before outAfter end
     last-lines {bytes} records are none lines put same =

@@ -6,6 +6,7 @@ use mathlib.Core.List.{List}
 use mathlib.Core.Option.{some}
 use mathlib.Core.Bool.{false}
 use borrow.Author.Tests.{le-leb, lt-leb}
+use Rattle.rules.specs.Hall.{Limits}
 use Rattle.rules.specs.Steps.{Collect, Drop, Retire, Swap, Take, _sends_}
 use Rattle.reply.specs.declared.Reply.the-variants.{NoCode}
 use Rattle.sheet_rules.specs.Run.{callOf}
@@ -34,5 +35,5 @@ module _ (entry : Record) where
   code-above above = simp (le-leb 1 (entry .code) (omega arith), lt-leb (entry .code) 5 above)
 
   -- 17, and nothing written
-  pub no-code : (bytes : List ℕ) → isCode (entry .code) ≡ false → Ran entry bytes NoCode bytes
-  no-code bytes other = rw (other-code-asks-none entry other) (record { words = refl; last = refl })
+  pub no-code : (limits : Limits) (bytes : List ℕ) → isCode (entry .code) ≡ false → Ran limits entry bytes NoCode bytes
+  no-code limits bytes other = rw (other-code-asks-none entry other) (record { words = refl; last = refl })

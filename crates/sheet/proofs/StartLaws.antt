@@ -5,7 +5,7 @@ use mathlib.Core.Path.{_≡_, refl, sym, ap, _∙_}
 use mathlib.Core.Bool.{false}
 use mathlib.Core.List.{List, _++_, append-nil}
 use lib.ListN.{length-append}
-use Rattle.rules.specs.Hall.{Hall, hallLimits}
+use Rattle.rules.specs.Hall.{Hall, Limits}
 use Rattle.rules.specs.Numbers.{Refusal, parsed, refusalOf}
 use Rattle.rules.specs.Steps.{Answer, Result, decide}
 use Rattle.rules.specs.Table.{openTable, openedTable}
@@ -35,14 +35,14 @@ abbrev atFirst : ℕ → State
 atFirst next = record { offset = next; index = 1; carried = NoDesk; tally = noTally; finished = false }
 
 -- the reading of a sheet whose header was read, by the number that the board replied to the opening
-opening-number : (hall : Hall) (reply : Reply) (after : List ℕ) {number : ℕ} → tableResult reply after ≡ openTable hallLimits hall lentTable
+opening-number : (limits : Limits) (hall : Hall) (reply : Reply) (after : List ℕ) {number : ℕ} → tableResult reply after ≡ openTable limits hall lentTable
     → number ≡ answerOf reply .number
-    → openingNumber hall ≡ number
-opening-number hall reply after tells is-number =
-    sym (ap (λ (answer : Answer). answer .number) (opening-answer hall)) ∙ sym (ap (λ (done : Result (List ℕ)). done .answer .number) tells) ∙ sym is-number
+    → openingNumber limits hall ≡ number
+opening-number limits hall reply after tells is-number =
+    sym (ap (λ (answer : Answer). answer .number) (opening-answer limits hall)) ∙ sym (ap (λ (done : Result (List ℕ)). done .answer .number) tells) ∙ sym is-number
 
 reads-by : (edition : Edition) (sheet : List ℕ) {hall : Hall} {next number : ℕ} → beginSheet edition sheet ≡ parsed hall next
-    → openingNumber hall ≡ number
+    → openingNumber (edition .limits) hall ≡ number
     → reading edition sheet ≡ afterOpening edition sheet (ifOpens number hall next)
 reads-by edition sheet read opening = reading-opens edition sheet (begun edition sheet read opening)
 
@@ -54,17 +54,17 @@ module _ {edition : Edition} {sheet out outAfter : List ℕ} {end : ℕ} where
   unfolding printed
   started-stopped {reason} reads same put finished = rw finished (record {
     within = put-within put;
-    output = append-nil _ ∙ put-first put ∙ sym (ap linesOf reads);
+    output = append-nil _ ∙ put-first put ∙ sym (ap (linesOf (edition .limits)) reads);
     some = omega (arith, put .offset, length-append (refusalLine 0 reason) (endLine zeros), line-some 0 (reason .code) (reason .number) (reason .offset));
     run = sym (ap callsOf reads);
-    table = same ∙ sym (ap startTable reads);
+    table = same ∙ sym (ap (startTable (edition .limits)) reads);
     rest = put-rest put;
     numbered = omega arith;
   })
 
   -- The header was read, and the board replied to the opening.
   module _ (reply : Reply) {hall : Hall} {next : ℕ} {after : List ℕ} {number : ℕ} (read : beginSheet edition sheet ≡ parsed hall next)
-      (tells : tableResult reply after ≡ openTable hallLimits hall lentTable) (is-number : number ≡ answerOf reply .number) where
+      (tells : tableResult reply after ≡ openTable (edition .limits) hall lentTable) (is-number : number ≡ answerOf reply .number) where
     pub started-refused : {is : State} {reason : Refusal} → (number ≡ 0 → ⊥) → reason ≡ refusalOf 0 number 0
         → Put out outAfter 0 (refusalLine 0 reason ++ endLine zeros) end
         → is ≡ finishedAt atHeader
@@ -74,37 +74,37 @@ module _ {edition : Edition} {sheet out outAfter : List ℕ} {end : ℕ} where
         started-stopped (reads-by edition sheet read opening ∙ by-number number some .0 ∙ ap unopened (sym is-reason))
         (ap (λ (done : Result (List ℕ)). done .after) tells ∙ ap (λ (n : ℕ). decide n lentTable 0 (openedTable hall lentTable) .after) opening ∙ by-number number some .1)
       where
-        opening : openingNumber hall ≡ number
-        opening = opening-number hall reply after tells is-number
+        opening : openingNumber (edition .limits) hall ≡ number
+        opening = opening-number (edition .limits) hall reply after tells is-number
 
         by-number : (n : ℕ) → (n ≡ 0 → ⊥)
             → (afterOpening edition sheet (ifOpens n hall next) ≡ unopened (refusalOf 0 n 0)) × (decide n lentTable 0 (openedTable hall lentTable) .after ≡ lentTable)
         by-number zero some = absurd (some refl)
         by-number (suc n) some = (refl, refl)
 
-    pub started-opened : {maxSession : ℕ} → Lawful edition maxSession → number ≡ 0 → Put out outAfter 0 (line 0 0 0 0) end → Started edition sheet out (atFirst next) after outAfter end
+    pub started-opened : Lawful edition → number ≡ 0 → Put out outAfter 0 (line 0 0 0 0) end → Started edition sheet out (atFirst next) after outAfter end
     unfolding printed
     started-opened lawful none put = record {
       within = put-within put;
       output =
-          (λ i. put-first put i ++ linesFrom (leaves i) 1 zeros (remainingRecords edition sheet (atFirst next)))
-          ∙ ap (λ (answer : Answer). answerLine 0 0 answer ++ linesFrom (openTable hallLimits hall lentTable .after) 1 zeros (remainingRecords edition sheet (atFirst next))) (sym answers)
-          ∙ sym (ap linesOf reads);
+          (λ i. put-first put i ++ linesFrom (edition .limits) (leaves i) 1 zeros (remainingRecords edition sheet (atFirst next)))
+          ∙ ap (λ (answer : Answer). answerLine 0 0 answer ++ linesFrom (edition .limits) (openTable (edition .limits) hall lentTable .after) 1 zeros (remainingRecords edition sheet (atFirst next))) (sym answers)
+          ∙ sym (ap (linesOf (edition .limits)) reads);
       some = omega (arith, put .offset, line-some 0 0 0 0);
       run = sym (ap callsOf reads);
-      table = leaves ∙ sym (ap startTable reads);
+      table = leaves ∙ sym (ap (startTable (edition .limits)) reads);
       rest = put-rest put;
       numbered = omega (arith, lawful .header-moves sheet 0 hall next (begun-header edition sheet read) .past);
     }
       where
-        opening : openingNumber hall ≡ 0
-        opening = opening-number hall reply after tells is-number ∙ none
+        opening : openingNumber (edition .limits) hall ≡ 0
+        opening = opening-number (edition .limits) hall reply after tells is-number ∙ none
 
         reads : reading edition sheet ≡ opened hall (remainingRecords edition sheet (atFirst next))
         reads = reads-by edition sheet read opening
 
-        leaves : after ≡ openTable hallLimits hall lentTable .after
+        leaves : after ≡ openTable (edition .limits) hall lentTable .after
         leaves = ap (λ (done : Result (List ℕ)). done .after) tells
 
-        answers : openTable hallLimits hall lentTable .answer ≡ record { number = 0; session = 0 }
-        answers = opening-answer hall ∙ ap (λ (n : ℕ). record { number = n; session = 0 }) opening
+        answers : openTable (edition .limits) hall lentTable .answer ≡ record { number = 0; session = 0 }
+        answers = opening-answer (edition .limits) hall ∙ ap (λ (n : ℕ). record { number = n; session = 0 }) opening

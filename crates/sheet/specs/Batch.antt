@@ -5,7 +5,7 @@ use mathlib.Core.Path.{_≡_}
 use mathlib.Core.Bool.{true, false, cond}
 use mathlib.Core.List.{List, [], _∷_, _++_}
 use lib.ListN.{length, take, drop}
-use Rattle.rules.specs.Hall.{hallLimits}
+use Rattle.rules.specs.Hall.{Limits}
 use Rattle.rules.specs.Steps.{Call, end}
 use Rattle.rules.specs.Table.{openTable, stepTable}
 use Rattle.buffer.specs.Put.{Put}
@@ -30,7 +30,7 @@ remainingRecords edition sheet state = decodeRecords edition (length sheet) (car
 -- The bytes of a sheet's output that remain to be printed: none after the last line, else the lines from the next record on.
 abbrev pub remainingOutput : Edition → List ℕ → State → List ℕ → List ℕ
 remainingOutput edition sheet state table =
-    cond (state .finished) [] (linesFrom table (state .index) (toTally (state .tally)) (remainingRecords edition sheet state))
+    cond (state .finished) [] (linesFrom (edition .limits) table (state .index) (toTally (state .tally)) (remainingRecords edition sheet state))
 
 -- The calls that remain to be run.
 abbrev pub remainingCalls : Edition → List ℕ → State → List Call
@@ -49,7 +49,7 @@ pub record Emitted (edition : Edition) (sheet : List ℕ) (was : State) (before 
   pub output : bytes ++ remainingOutput edition sheet is after ≡ remainingOutput edition sheet was before
   pub calls : List Call
   pub run : calls ++ remainingCalls edition sheet is ≡ remainingCalls edition sheet was
-  pub table : after ≡ end (stepTable hallLimits) before calls
+  pub table : after ≡ end (stepTable (edition .limits)) before calls
 
 -- Fewer batches remain, unless none did. A record's number is at most its offset, so that it does not overflow.
 pub record Progress (sheet : List ℕ) (was is : State) : Type 0 where
@@ -72,9 +72,9 @@ pub record Batch (edition : Edition) (sheet : List ℕ) (was : State) (before ou
 -- ---- The first batch: the header and the opening.
 
 -- the table after the opening, and the calls to run
-abbrev pub startTable : Reading → List ℕ
-startTable (unopened reason) = lentTable
-startTable (opened hall records) = openTable hallLimits hall lentTable .after
+abbrev pub startTable : Limits → Reading → List ℕ
+startTable limits (unopened reason) = lentTable
+startTable limits (opened hall records) = openTable limits hall lentTable .after
 
 abbrev pub callsOf : Reading → List Call
 callsOf (unopened reason) = []
@@ -82,7 +82,7 @@ callsOf (opened hall records) = callsIn records
 
 -- the table after all calls of a sheet
 abbrev pub sheetTable : Edition → List ℕ → List ℕ
-sheetTable edition sheet = end (stepTable hallLimits) (startTable (reading edition sheet)) (callsOf (reading edition sheet))
+sheetTable edition sheet = end (stepTable (edition .limits)) (startTable (edition .limits) (reading edition sheet)) (callsOf (reading edition sheet))
 
 -- The first bytes of the output: the header's line, or all lines where the reading ends before a record.
 pub record Started (edition : Edition) (sheet out : List ℕ) (is : State) (after outAfter : List ℕ) (put : ℕ) : Type 0 where
@@ -90,7 +90,7 @@ pub record Started (edition : Edition) (sheet out : List ℕ) (is : State) (afte
   pub output : take put outAfter ++ remainingOutput edition sheet is after ≡ printed edition sheet
   pub some : 1 ≤ put
   pub run : remainingCalls edition sheet is ≡ callsOf (reading edition sheet)
-  pub table : after ≡ startTable (reading edition sheet)
+  pub table : after ≡ startTable (edition .limits) (reading edition sheet)
   pub rest : drop put outAfter ≡ drop put out
   pub numbered : is .index ≤ is .offset
 

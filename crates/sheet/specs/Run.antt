@@ -2,11 +2,11 @@
 use Prim.Native.Nat.{ℕ}
 use mathlib.Core.List.{List}
 use Rattle.rules.specs.Bytes.{wordsOfBytes}
-use Rattle.rules.specs.Hall.{hallLimits}
+use Rattle.rules.specs.Hall.{Limits}
 use Rattle.board.specs.Results.{Matches}
 use Rattle.reply.specs.declared.Reply.{Reply}
 use Rattle.sheet_rules.specs.Run.{runRecord}
 use Rattle.sheet_rules.specs.Sheet.{Record}
 
-abbrev pub Ran : Record → List ℕ → Reply → List ℕ → Type 0
-Ran entry before = Matches (runRecord hallLimits (wordsOfBytes before) entry) before
+abbrev pub Ran : Limits → Record → List ℕ → Reply → List ℕ → Type 0
+Ran limits entry before = Matches (runRecord limits (wordsOfBytes before) entry) before

@@ -4,6 +4,7 @@ use board::open;
 use board::retire;
 use board::swap;
 use board::take;
+use limits::Limits;
 use lines::put_end;
 use lines::put_line;
 use reader::Carried;
@@ -27,6 +28,7 @@ ghost use Prim.Native.Nat.{_+_, _≤_};
 ghost use lib.ListN.{length};
 ghost use Rattle.rules.specs.Bytes.{wordsOfBytes};
 ghost use Rattle.buffer.specs.Put.{Put};
+ghost use Rattle.limits.specs.Room.{limitsOf};
 ghost use Rattle.reader.specs.Results.{editionOf, reasonOf, recordOf};
 ghost use Rattle.sheet_rules.specs.Lines.{endLine, refusalLine};
 ghost use Rattle.sheet_rules.specs.Sheet.{lentTable};
@@ -53,17 +55,17 @@ pub struct Filled {
     pub put: usize,
 }
 
-// Runs the step that a record requests. A code outside 1 to 5 is answered 17, and nothing is written.
-pub fn run_record(table: &mut [u8], entry: Record) -> Reply
-    ensures { λ r. ⌜ Ran (recordOf entry) (now (table .entry)) r (now (table .exit)) ⌝ }
+// Runs the step that a record requests, in a room with these limits. A code outside 1 to 5 is answered 17, and nothing is written.
+pub fn run_record(table: &mut [u8], limits: Limits, entry: Record) -> Reply
+    ensures { λ r. ⌜ Ran (limitsOf limits) (recordOf entry) (now (table .entry)) r (now (table .exit)) ⌝ }
 {
     let code = entry.code;
     match code {
-        1 => take(table, entry.desk, entry.screen, entry.position),
-        2 => drop(table, entry.desk, entry.screen),
-        3 => swap(table, entry.desk, entry.position, entry.session),
-        4 => retire(table, entry.desk),
-        5 => collect(table, entry.desk),
+        1 => take(table, limits, entry.desk, entry.screen, entry.position),
+        2 => drop(table, limits, entry.desk, entry.screen),
+        3 => swap(table, limits, entry.desk, entry.position, entry.session),
+        4 => retire(table, limits, entry.desk),
+        5 => collect(table, limits, entry.desk),
         0 | 6..=65535 => Reply::NoCode,
     }
 }
@@ -137,7 +139,7 @@ fn put_record(
     match read_record(sheet, offset, edition, carried) {
         ParsedRecord::Refused(reason) => stop(out, at, state, reason),
         ParsedRecord::Whole(entry, next) => {
-            let r = run_record(table, entry);
+            let r = run_record(table, edition.format.limits, entry);
             let reply_number = number(r);
             let reply_session = session(r);
             let end = put_line(
@@ -221,7 +223,13 @@ pub fn start(sheet: &[u8], edition: Edition, table: &mut [u8], out: &mut [u8]) -
     match begin_sheet(sheet, edition) {
         ParsedHeader::Refused(reason) => stop(out, 0, header_state, reason),
         ParsedHeader::Whole(header, next) => {
-            let r = open(table, header.desks, header.screens, header.positions);
+            let r = open(
+                table,
+                edition.format.limits,
+                header.desks,
+                header.screens,
+                header.positions,
+            );
             let reply_number = number(r);
             if reply_number != 0 {
                 return stop(out, 0, header_state, refuse_with(reply_number));

@@ -1,5 +1,6 @@
 // Prints the lines of one sheet after another: the cases of `tests/sheet_cases.txt`. On standard input, each sheet follows its
 // edition, one byte, and its length, three bytes, low byte first.
+use board::hall_limits;
 use libc::STDIN_FILENO;
 use libc::STDOUT_FILENO;
 use printing::print;
@@ -19,9 +20,9 @@ fn length_of(low: u8, middle: u8, high: u8) -> usize {
 // The edition that a byte names: 2, or else 1.
 fn edition_of(byte: u8) -> Edition {
     if byte == 2 {
-        return edition_2();
+        return edition_2(hall_limits());
     }
-    edition_1()
+    edition_1(hall_limits())
 }
 
 // A line with the number of a case.

@@ -1,6 +1,7 @@
 // Reads a sheet of the archive from standard input and writes it in shortest form to standard output, or, if it is refused, one line.
 use arguments::Request;
 use arguments::request_for;
+use board::hall_limits;
 use libc::STDERR_FILENO;
 use libc::STDOUT_FILENO;
 use reader::archive_edition;
@@ -35,8 +36,8 @@ fn main() {
     match request_for(os::arg_count(), &first[..n]) {
         Request::Run => {
             rewrite_input(
-                archive_edition(),
-                edition_1(),
+                archive_edition(hall_limits()),
+                edition_1(hall_limits()),
                 b"shorten_sheet: cannot read standard input",
                 b"shorten_sheet: cannot write standard output",
             );

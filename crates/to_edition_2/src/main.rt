@@ -1,6 +1,7 @@
 // Reads a sheet of edition 1 from standard input and writes it in edition 2 to standard output, or, if it is refused, one line.
 use arguments::Request;
 use arguments::request_for;
+use board::hall_limits;
 use libc::STDERR_FILENO;
 use libc::STDOUT_FILENO;
 use reader::edition_1;
@@ -36,8 +37,8 @@ fn main() {
     match request_for(os::arg_count(), &first[..n]) {
         Request::Run => {
             rewrite_input(
-                edition_1(),
-                edition_2(),
+                edition_1(hall_limits()),
+                edition_2(hall_limits()),
                 b"to_edition_2: cannot read standard input",
                 b"to_edition_2: cannot write standard output",
             );

@@ -1,11 +1,13 @@
 -- `reader::edition_1` meets its contract.
-use mathlib.Core.Path.{refl}
+use borrow.Author.Needs.{needs}
 use Rattle.reader.proofs.edition_1.Statement.{statement}
 use Rattle.reader.proofs.edition_1.Tie as tie
 
+edition-for-requires : tie.Need-edition-for-requires
+edition-for-requires c κs = search needs
+
 returns : tie.Need-returns
-returns c = refl
+returns c = c .edition-for .ensures
 
 pub edition-1-spec : {M : Type 1} → statement M
-edition-1-spec =
-    tie.close (tie.spec returns)
+edition-1-spec = tie.close (tie.spec edition-for-requires returns)

@@ -1,8 +1,11 @@
 -- `rewriter::open_sheet` meets its contract.
 use mathlib.Core.Path.{_≡_, sym, ap, _∙_}
 use borrow.Author.Needs.{needs}
+use Rattle.rules.specs.Hall.{Limits}
 use Rattle.rules.specs.Numbers.{parsed, refused}
+use Rattle.limits.specs.Room.{limitsOf}
 use Rattle.reader.specs.Results.{editionOf, headerOf, headerResult}
+use Rattle.reader.specs.laws.Editions.{edition-limits}
 use Rattle.sheet_rules.specs.Sheet.{beginSheet, openingNumber}
 use Rattle.sheet_rules.specs.laws.Sheet.{not-begun}
 use Rattle.rewriter.proofs.SheetLaws.{opening-number, sheet-opens, sheet-refused}
@@ -16,8 +19,14 @@ header-read : (c : tie.After-known-told2) →
     beginSheet (editionOf (start .args .edition)) (start .args .sheet .now) ≡ parsed (headerOf (header .0)) (header .1 .0)
 header-read c = sym (c .before .before .before .begin-sheet .ensures) ∙ ap headerResult (c .before .header .given .1)
 
-opening-is : (c : tie.After-number) → openingNumber (headerOf (c .before .before .before .header .given .0 .0)) ≡ c .number .result
-opening-is c = opening-number (headerOf (c .before .before .before .header .given .0 .0)) (c .before .opening .ensures) (c .number .ensures)
+opening-is : (c : tie.After-number) →
+    let edition = c .before .before .before .before .before .before .before .args .edition in
+    openingNumber (editionOf edition .limits) (headerOf (c .before .before .before .header .given .0 .0)) ≡ c .number .result
+opening-is c =
+    let edition = c .before .before .before .before .before .before .before .args .edition in
+    let hall = headerOf (c .before .before .before .header .given .0 .0) in
+    ap (λ (limits : Limits). openingNumber limits hall) (edition-limits edition)
+    ∙ opening-number (limitsOf (edition .format .limits)) hall (c .before .opening .ensures) (c .number .ensures)
 
 begin-sheet-requires : tie.Need-begin-sheet-requires
 begin-sheet-requires c κs = search needs

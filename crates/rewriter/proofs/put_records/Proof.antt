@@ -19,7 +19,7 @@ abbrev μ-loop : tie.MeasureT-loop
 μ-loop sheet from first to out₀ start offset₀ carried₀ at₀ out offset carried at = length sheet - offset
 
 -- the edition that is read is lawful
-lawful : (start : tie.Start Inv-loop μ-loop) → Lawful (editionOf (start .args .from)) (start .args .from .format .«max_session»)
+lawful : (start : tie.Start Inv-loop μ-loop) → Lawful (editionOf (start .args .from))
 lawful start = edition-lawful (start .args .from) (omega (arith, start .good .1 .0))
 
 loop-holds : tie.Need-loop-holds Inv-loop μ-loop

@@ -2,17 +2,20 @@
 use native.Mathlib.Omega.{arith}
 use mathlib.Core.Path.{_≡_, sym, ap, _∙_}
 use borrow.Author.Needs.{needs}
+use Rattle.rules.specs.Bytes.{wordsOfBytes}
+use Rattle.rules.specs.Hall.{Limits}
 use Rattle.rules.specs.Numbers.{parsed}
 use Rattle.sheet_rules.specs.laws.Longest.{line-length}
 use Rattle.reader.specs.Results.{editionOf, recordOf, recordResult}
-use Rattle.reader.specs.laws.Editions.{edition-lawful}
+use Rattle.reader.specs.laws.Editions.{edition-lawful, edition-limits}
 use Rattle.sheet_rules.specs.Lawful.{Lawful}
+use Rattle.sheet_rules.specs.Run.{runRecord}
 use Rattle.sheet.proofs.BatchLaws.{finished-progress, nextRecord, reading-stopped, record-progress, record-ran, sheet-ended}
 use Rattle.sheet.proofs.put_record.Statement.{statement}
 use Rattle.sheet.proofs.put_record.Tie as tie
 
 -- the edition is lawful
-lawful : (start : tie.Start) → Lawful (editionOf (start .args .edition)) (start .args .edition .format .«max_session»)
+lawful : (start : tie.Start) → Lawful (editionOf (start .args .edition))
 lawful start = edition-lawful (start .args .edition) (omega (arith, start .good .1 .0))
 
 -- the record that was read
@@ -98,9 +101,11 @@ returns-3 : tie.Need-returns-3
 returns-3 c =
     let start = c .before .before .before .before .before .before .before .before .before .before .before .before .before .before .before .before .before .before .before .before .before .before in
     let inside = c .before .before .before .before .before .before .before .before .before .before .before .before .before .before .before .before .before .before .if1 .left in
-    let read = record-read (c .before .before .before .before .before .before .before .before .before .before .before .before .before .before) in
+    let after-read = c .before .before .before .before .before .before .before .before .before .before .before .before .before .before in
+    let read = record-read after-read in
+    let entry = after-read .before .entry .given .0 .0 in
     let ran-step = c .before .before .before .before .before .before .before .before .before .before .before .before .run-record in
-    (record-ran (lawful start) (start .pre .0) inside read (ran-step .result) (ran-step .ensures .words) (c .before .before .before .before .before .before .before .before .before .number .ensures) (c .before .before .before .before .before .before .before .before .session .ensures) (c .before .add-step-lent .ensures) (c .before .before .before .before .before .put-line .ensures), record-progress (lawful start) (start .pre .0) inside read (start .pre .1))
+    (record-ran (lawful start) (start .pre .0) inside read (ran-step .result) (ran-step .ensures .words ∙ ap (λ (limits : Limits). runRecord limits (wordsOfBytes (start .args .table .now)) (recordOf entry)) (sym (edition-limits (start .args .edition)))) (c .before .before .before .before .before .before .before .before .before .number .ensures) (c .before .before .before .before .before .before .before .before .session .ensures) (c .before .add-step-lent .ensures) (c .before .before .before .before .before .put-line .ensures), record-progress (lawful start) (start .pre .0) inside read (start .pre .1))
 
 pub put-record-spec : {M : Type 1} → statement M
 put-record-spec =

@@ -1,6 +1,7 @@
 -- `sheet::run_record` meets its contract.
 use native.Mathlib.Omega.{arith}
 use borrow.Author.Needs.{needs}
+use Rattle.limits.specs.Room.{limitsOf}
 use Rattle.reader.specs.Results.{recordOf}
 use Rattle.sheet.proofs.CallLaws.{code-above, is-collect, is-drop, is-retire, is-swap, is-take, no-code}
 use Rattle.sheet.proofs.run_record.Statement.{statement}
@@ -52,12 +53,12 @@ returns-5 : tie.Need-returns-5
 returns-5 c = rw (is-collect (recordOf (c .before .before .before .before .before .before .args .entry)) (c .before .before .before .before .match .keys5)) (c .before .before .collect .ensures)
 
 returns-6 : tie.Need-returns-6
-returns-6 c = no-code (recordOf (c .before .before .args .entry)) (c .before .before .args .table .now) (simp (c .match .keys6))
+returns-6 c = no-code (recordOf (c .before .before .args .entry)) (limitsOf (c .before .before .args .limits)) (c .before .before .args .table .now) (simp (c .match .keys6))
 
 returns-7 : tie.Need-returns-7
 returns-7 c =
     let other = c .match .rest in
-    no-code (recordOf (c .before .before .args .entry)) (c .before .before .args .table .now)
+    no-code (recordOf (c .before .before .args .entry)) (limitsOf (c .before .before .args .limits)) (c .before .before .args .table .now)
     (code-above (recordOf (c .before .before .args .entry)) (omega (arith, other .0 .0 .0 .0 .0 .1, other .0 .0 .0 .0 .1, other .0 .0 .0 .1, other .0 .0 .1, other .0 .1, other .1)))
 
 pub run-record-spec : {M : Type 1} → statement M

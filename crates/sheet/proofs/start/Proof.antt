@@ -3,13 +3,13 @@ use native.Mathlib.Omega.{arith}
 use mathlib.Core.Path.{_≡_, sym, ap, _∙_}
 use borrow.Author.Needs.{needs}
 use Rattle.rules.specs.Bytes.{wordsOfBytes}
-use Rattle.rules.specs.Hall.{hallLimits}
+use Rattle.rules.specs.Hall.{Limits}
 use Rattle.rules.specs.Numbers.{parsed}
 use Rattle.rules.specs.Table.{openTable}
 use Rattle.sheet_rules.specs.laws.Longest.{line-length}
 use Rattle.reader.specs.Results.{editionOf, headerOf, headerResult}
 use Rattle.reply.specs.Answer.{tableResult}
-use Rattle.reader.specs.laws.Editions.{edition-lawful}
+use Rattle.reader.specs.laws.Editions.{edition-lawful, edition-limits}
 use Rattle.sheet_rules.specs.Lawful.{Lawful}
 use Rattle.sheet_rules.specs.Sheet.{beginSheet, lentTable}
 use Rattle.sheet_rules.specs.laws.Sheet.{not-begun, reading-opens}
@@ -18,7 +18,7 @@ use Rattle.sheet.proofs.start.Statement.{statement}
 use Rattle.sheet.proofs.start.Tie as tie
 
 -- the edition is lawful
-lawful : (start : tie.Start) → Lawful (editionOf (start .args .edition)) (start .args .edition .format .«max_session»)
+lawful : (start : tie.Start) → Lawful (editionOf (start .args .edition))
 lawful start = edition-lawful (start .args .edition) (omega (arith, start .good .1 .0))
 
 -- the header that was read
@@ -30,8 +30,13 @@ header-read c = sym (c .before .before .before .begin-sheet .ensures) ∙ ap hea
 -- what the board replied to the opening
 opening : (c : tie.After-number) →
     let replied = c .before .before .before .«open» in
-    tableResult (replied .result) (wordsOfBytes (replied .last .0)) ≡ openTable hallLimits (headerOf (c .before .before .before .before .before .before .header .given .0 .0)) lentTable
-opening c = c .before .before .before .«open» .ensures .words ∙ ap (openTable hallLimits _) (c .before .before .before .before .before .before .before .before .before .before .before .before .pre .0)
+    let start = c .before .before .before .before .before .before .before .before .before .before .before .before in
+    tableResult (replied .result) (wordsOfBytes (replied .last .0))
+    ≡ openTable (editionOf (start .args .edition) .limits) (headerOf (c .before .before .before .before .before .before .header .given .0 .0)) lentTable
+opening c =
+    let start = c .before .before .before .before .before .before .before .before .before .before .before .before in
+    c .before .before .before .«open» .ensures .words ∙ ap (openTable _ _) (start .pre .0)
+    ∙ ap (λ (limits : Limits). openTable limits (headerOf (c .before .before .before .before .before .before .header .given .0 .0)) lentTable) (sym (edition-limits (start .args .edition)))
 
 begin-sheet-requires : tie.Need-begin-sheet-requires
 begin-sheet-requires c κs = search needs
