@@ -7,31 +7,36 @@
 #   make proved         lists the theorems
 #   make edits          tries the wrong programs and rules in edits/: each must be refused where it says
 #   make gallery        draws the example sheets again, in docs/gallery/
-#   make selftest       shows that the comparisons catch 42 wrong boards and 174 wrong sheet programs, and that the trace of
-#                       stores catches 9 stray ones (half an hour)
+#   make selftest       shows that the comparisons catch 62 wrong boards and 198 wrong sheet programs, and that the trace of
+#                       stores catches 11 stray ones (half an hour)
 #   make soak           runs the comparisons with new seeds; MINUTES=10 says how long (default: 1)
-#   make fuzz           fuzzes the six calls, then the sheet programs, each for half of MINUTES; installs clang if missing
+#   make fuzz           fuzzes the calls, then the sheet programs, each for half of MINUTES; installs clang if missing
 #   make fuzz-selftest  shows that the fuzzing catches wrong boards, stray accesses and wrong programs (minutes)
-PROGRAMS = $(addprefix target/bin/,day_sheet shorten_sheet day_sheet_2 to_edition_2 to_edition_1)
+PROGRAMS = $(addprefix target/bin/,day_sheet shorten_sheet day_sheet_2 to_edition_2 to_edition_1 training_sheet)
 .PHONY: run host test lib bench proved edits gallery selftest soak fuzz fuzz-selftest help $(PROGRAMS)
 
 CARGO = cargo run --quiet --offline --release --manifest-path
 export CARGO_TARGET_DIR = $(CURDIR)/target/outside
 export SESSION_BOARD_LIB = $(CURDIR)/build
 SHEET = quiet_shift
+# The sheets of examples/training are of the training room.
+ROOM = $(if $(filter training/%,$(SHEET)),training,hall)
+PROGRAM_hall = day_sheet
+PROGRAM_training = training_sheet
 MINUTES = 1
 
-run: build/$(SHEET).sheet target/bin/day_sheet
-	@tools/sheet explain $<
+run: build/$(SHEET).sheet target/bin/$(PROGRAM_$(ROOM))
+	@tools/sheet explain --room $(ROOM) $<
 
 # Renamed when complete, so that two makes can run at once.
 build/%.sheet: examples/%.txt $(wildcard tools/day_sheet_tool/*.py)
-	@mkdir -p build
-	@tools/sheet encode $< > $@.$$$$ && mv $@.$$$$ $@
+	@mkdir -p $(@D)
+	@tools/sheet encode --room $(ROOM) $< > $@.$$$$ && mv $@.$$$$ $@
 
 # An unknown SHEET is reported before anything is proved.
+SHEETS = $(patsubst examples/%.txt,%,$(wildcard examples/*.txt examples/training/*.txt))
 examples/%.txt:
-	@echo "make: no file $@; SHEET= is one of: $(notdir $(basename $(wildcard examples/*.txt)))" >&2; exit 2
+	@echo "make: no file $@; SHEET= is one of: $(SHEETS)" >&2; exit 2
 
 host: lib
 	@gcc -Iinclude examples/host.c build/libsession_board.a -o build/host_example.$$$$ && \

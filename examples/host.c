@@ -1,5 +1,6 @@
 /*
- * A small host: one hall of 2 desks with 1 screen each, and 2 crane positions.
+ * A small host: one hall of 2 desks with 1 screen each, and 2 crane positions;
+ * at the end, a training room.
  *
  *     gcc -Iinclude examples/host.c build/libsession_board.a -o build/host_example
  *
@@ -40,6 +41,7 @@ static const char *reason(uint16_t number)
     case BOARD_OWING: return "the desk must first retire the session it owes";
     case BOARD_OWES_NOTHING: return "the desk owes no session";
     case BOARD_NO_ROOM: return "the desk's list is full; it must collect first";
+    case BOARD_OVER_LIMITS: return "a training room has 4 desks, 1 screen each, sessions to 999";
     default: return "not a number of this board";
     }
 }
@@ -114,6 +116,23 @@ static uint16_t collect(uint16_t desk)
     return session;
 }
 
+/* A training room has the same calls, named training_ instead of board_, and
+ * smaller limits. It gets a table of its own. */
+static int lesson(void)
+{
+    static uint8_t room[BOARD_MAX_BYTES];
+    if (!accepted(training_open(DESKS, SCREENS, POSITIONS, room, sizeof room)))
+        return 0;
+    printf("desk 1 puts session %d at position 1: ", TRAINING_MAX_SESSION + 1);
+    if (accepted(training_swap(1, 1, TRAINING_MAX_SESSION + 1, room, sizeof room)))
+        return 0;
+    printf("desk 1 puts session %d at position 1: ", TRAINING_MAX_SESSION);
+    if (!accepted(training_swap(1, 1, TRAINING_MAX_SESSION, room, sizeof room)))
+        return 0;
+    printf("it was empty\n");
+    return 1;
+}
+
 int main(void)
 {
     printf("A hall of %d desks with %d screen each and %d positions.\n", DESKS, SCREENS, POSITIONS);
@@ -150,5 +169,7 @@ int main(void)
 
     printf("\nThe day goes on with the new sessions.\n");
     take(2, 1, 1);
-    return EXIT_SUCCESS;
+
+    printf("\nIn a training room, sessions are at most %d.\n", TRAINING_MAX_SESSION);
+    return lesson() ? EXIT_SUCCESS : EXIT_FAILURE;
 }

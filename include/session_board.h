@@ -1,5 +1,7 @@
 /*
- * The session board: six calls on a table that the host lends.
+ * The session board: six calls on a table that the host lends, for the hall
+ * (board_open to board_collect) and for a training room (training_open to
+ * training_collect, at the end of this file).
  *
  * The table is bytes, two to a 16-bit word, low byte first; its length is given
  * in bytes. It may be at any address. A call reads the words up to the need of
@@ -9,11 +11,12 @@
  * need and an odd last byte are never accessed. The table must not be used by
  * anyone else during a call. It may be NULL only if its length is 0.
  *
- * Desk, screen and position numbers start at 1. Sessions are 1 to 65535; 0
- * means "none". Every call returns an answer, whatever its numbers and bytes:
- * the reply number times 65536, plus a session. A refusal (reply number not
- * 0) has session 0 and leaves every byte of the table unchanged. Test
- * board_number() to detect a refusal; session 0 is also a valid result.
+ * Desk, screen and position numbers start at 1. Sessions are 1 to 65535, in a
+ * training room 1 to 999; 0 means "none". Every call returns an answer,
+ * whatever its numbers and bytes: the reply number times 65536, plus a session.
+ * A refusal (reply number not 0) has session 0 and leaves every byte of the
+ * table unchanged. Test board_number() to detect a refusal; session 0 is also a
+ * valid result.
  *
  * The life of a session: a swap puts it at a position, and takes show it on
  * screens. A later swap to another session, or to none, replaces it there; the
@@ -47,8 +50,13 @@ extern "C" {
 #define BOARD_MAX_DESKS 16
 #define BOARD_MAX_SCREENS 4 /* of one desk */
 #define BOARD_MAX_POSITIONS 64
+#define BOARD_MAX_SESSION 65535
 #define BOARD_MAX_WORDS 2387 /* the need of the largest hall */
 #define BOARD_MAX_BYTES 4774
+
+#define TRAINING_MAX_DESKS 4
+#define TRAINING_MAX_SCREENS 1 /* of one desk */
+#define TRAINING_MAX_SESSION 999
 
 /* The reply numbers. Each but the first means "no" to the question beside it. A
  * call asks the questions named in its comment below, in that order, and the
@@ -69,8 +77,11 @@ enum board_reply {
     BOARD_SCREEN_EMPTY = 11,   /* does the screen show a session? */
     BOARD_OWING = 12,          /* does the desk owe nothing? */
     BOARD_OWES_NOTHING = 13,   /* does the desk owe a session? */
-    BOARD_NO_ROOM = 14         /* are fewer than 2S places of its list used?
+    BOARD_NO_ROOM = 14,        /* are fewer than 2S places of its list used?
                                   S is the number of the hall's screens. */
+    BOARD_OVER_LIMITS = 22     /* are the desks and the screens, or the session,
+                                  within the limits of the training room? No
+                                  call of the hall is answered 22. */
 };
 
 /* The need of a hall within the limits, in words: lend twice as many bytes. */
@@ -137,6 +148,41 @@ uint32_t board_retire(uint16_t desk, uint8_t *table, size_t bytes);
  * "When a session may be closed" above). Asks 5, 6. Writes the desk's number of
  * screens read, counts, marks and list. */
 uint32_t board_collect(uint16_t desk, uint8_t *table, size_t bytes);
+
+/*
+ * The training room: at most 4 desks with 1 screen each, and sessions up to 999.
+ * Its positions are 1 to 64, as in the hall.
+ *
+ * Its tables have the layout of the hall's. Each call has the parameters of its
+ * counterpart, asks the same questions, replies the same and writes the same
+ * words, except for these:
+ *
+ * training_open asks 1, 2, 3, 22, 4. 1, 2 and 3 are asked as in the hall, and 22
+ * refuses more than 4 desks or more than 1 screen: 5 desks with 5 screens get 2,
+ * and 5 desks with 1 screen get 22, on a table that is too short too.
+ *
+ * training_swap asks 5, 6, 8, 22, 12. 22 refuses a session over 999, in a repeat
+ * too.
+ *
+ * A table with more than 4 desks or more than 1 screen is unsound (5) for these
+ * calls. Sessions over 999 in the table are not: a host that puts some there, or
+ * uses the hall's calls on the same table, gets them in answers.
+ */
+uint32_t training_open(uint16_t desks, uint16_t screens, uint16_t positions,
+                       uint8_t *table, size_t bytes);
+
+uint32_t training_take(uint16_t desk, uint16_t screen, uint16_t position,
+                       uint8_t *table, size_t bytes);
+
+uint32_t training_drop(uint16_t desk, uint16_t screen,
+                       uint8_t *table, size_t bytes);
+
+uint32_t training_swap(uint16_t desk, uint16_t position, uint16_t session,
+                       uint8_t *table, size_t bytes);
+
+uint32_t training_retire(uint16_t desk, uint8_t *table, size_t bytes);
+
+uint32_t training_collect(uint16_t desk, uint8_t *table, size_t bytes);
 
 #ifdef __cplusplus
 }

@@ -2,8 +2,6 @@
 
 from .steps import STEPS
 
-LIMITS = (16, 4, 64)
-
 
 class Desk:
     def __init__(self, screens):
@@ -17,14 +15,6 @@ class Desk:
 
     def used(self):
         return len(self.ready) + len(self.tested) + len(self.waiting)
-
-
-def opening(hall):
-    """The number of the first question whose answer is no, or 0."""
-    for number, (given, most) in enumerate(zip(hall, LIMITS), start=1):
-        if not 1 <= given <= most:
-            return number
-    return 0
 
 
 class Board:

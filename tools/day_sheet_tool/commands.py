@@ -5,7 +5,7 @@ import os
 import re
 import sys
 
-from .editions import EDITIONS
+from .editions import EDITIONS, edition_in
 from .errors import UserError, plural
 from .explain import explained
 from .faults import ending
@@ -15,6 +15,7 @@ from .lines import lines_of
 from .picture import MAX_RECORDS, picture
 from .reading import edition_of, read
 from .replay import replay
+from .rooms import HALL, ROOMS
 from .steps import MAX_BYTES
 from .text import decode, encode, shown
 
@@ -26,7 +27,7 @@ EXPLAIN = """Writes each line of the sheet program with its meaning. Where a num
 which number this is, gives the offset of its first byte, and shows the bytes around it in hex."""
 FIND = """Finds the bytes of a record, or what a byte belongs to, up to the number that ends the reading.
 Bytes are counted from 0. N is decimal, or hex with 0x."""
-FIND_USAGE = "sheet find [-h] SHEET (--record N | --byte N) [--edition N]"
+FIND_USAGE = "sheet find [-h] SHEET (--record N | --byte N) [--edition N] [--room ROOM]"
 
 
 def main(arguments):
@@ -65,7 +66,7 @@ def parser():
 
     one = commands.add_parser("encode", help="text to bytes, to standard output", description=ENCODE, epilog=EPILOG)
     one.add_argument("text", metavar="FILE.txt")
-    add_edition(one, default=EDITIONS[1], help="the edition of the sheet, 1 or 2 (default: 1)")
+    add_edition(one, default=1, help="the edition of the sheet, 1 or 2 (default: 1)")
     one.set_defaults(command=to_bytes)
 
     one = commands.add_parser(
@@ -104,24 +105,50 @@ def add_sheet(command):
 
 
 def add_edition(command, **keywords):
-    command.add_argument("--edition", metavar="N", type=edition_named, **keywords)
+    command.add_argument("--edition", metavar="N", type=edition_number, **keywords)
+    command.add_argument(
+        "--room",
+        metavar="ROOM",
+        type=room_named,
+        default=HALL,
+        help="the room of the sheet, hall or training, which is of edition 1 only (default: hall)",
+    )
 
 
-def edition_named(word):
-    for number, edition in EDITIONS.items():
-        if word == str(number):
-            return edition
+def edition_number(word):
+    for edition in EDITIONS:
+        if word == str(edition.number):
+            return edition.number
     raise UserError(f"--edition '{shown(word)}': the editions are 1 and 2")
+
+
+def room_named(word):
+    if word not in ROOMS:
+        raise UserError(f"--room '{shown(word)}': the rooms are {' and '.join(ROOMS)}")
+    return ROOMS[word]
+
+
+def edition_asked(options):
+    """The edition that the options name, in their room; None if they name none."""
+    if options.edition is None:
+        return None
+    edition = edition_in(options.room, options.edition)
+    if edition is None:
+        raise UserError(f"--edition {options.edition}: a sheet of a {options.room.title} is of edition 1")
+    return edition
 
 
 def add_lines(command):
     source = command.add_mutually_exclusive_group()
-    source.add_argument("--program", metavar="PROG", help="the sheet program (default: the edition's, in target/bin)")
+    source.add_argument(
+        "--program", metavar="PROG", help="the sheet program (default: that of the edition and the room, in target/bin)"
+    )
     source.add_argument("--lines", metavar="FILE", help="lines that it printed before")
 
 
 def to_bytes(options):
-    data = encode(read_text(options.text), options.text, options.edition)
+    edition = edition_asked(options)
+    data = encode(read_text(options.text), options.text, edition)
     if sys.stdout.isatty():
         raise UserError("a sheet is binary: redirect the output to a file with > FILE.sheet")
     sys.stdout.buffer.write(data)
@@ -129,8 +156,9 @@ def to_bytes(options):
 
 def data_and_sheet(options):
     """The bytes of the sheet, and the sheet."""
+    edition = edition_asked(options)
     data = read_sheet(options.sheet)
-    return data, read(data, options.edition or edition_of(data))
+    return data, read(data, edition or edition_of(data, options.room))
 
 
 def to_text(options):

@@ -4,7 +4,8 @@ from .dump import around
 from .errors import plural
 from .faults import where_and_why
 from .references import References
-from .steps import REASONS, STEPS, is_repeat
+from .replies import REASONS
+from .steps import STEPS, is_repeat
 
 
 def explained(data, sheet, lines, end):
@@ -22,10 +23,10 @@ def meaning(sheet, line, references):
     if sheet.fault and line.record == sheet.fault.record:
         return reading_ends(sheet.fault, line)
     if line.record == 0:
-        return opening_in_words(sheet.hall, line.reply)
+        return opening_in_words(sheet, line.reply)
     record = sheet.records[line.record - 1]
     if line.reply != 0:
-        return f"{doing_in_words(record)}: refused, {reason(line.reply)}"
+        return f"{doing_in_words(record)}: refused, {reason(sheet, line.reply)}"
     references.accept(record, line.session)
     return f"{doing_in_words(record)}: {result_in_words(record, line.session, references)}"
 
@@ -40,19 +41,21 @@ def reading_ends(fault, line):
     return ends
 
 
-def reason(reply):
-    return REASONS.get(reply, f"with {reply}, a number that a step of a sheet cannot get")
+def reason(sheet, reply):
+    return REASONS[sheet.edition.room].get(reply, f"with {reply}, a number that a step of a sheet cannot get")
 
 
-def opening_in_words(hall, reply):
+def opening_in_words(sheet, reply):
     if reply != 0:
-        return f"a hall of {hall_in_words(hall)}: refused, {reason(reply)}; nothing more is read"
-    return f"a hall of {hall_in_words(hall)} opens"
+        return f"a {hall_in_words(sheet)}: refused, {reason(sheet, reply)}; nothing more is read"
+    return f"a {hall_in_words(sheet)} opens"
 
 
-def hall_in_words(hall):
-    desks, screens, positions = hall
-    return f"{plural(desks, 'desk')}, {plural(screens, 'screen')} per desk, {plural(positions, 'position')}"
+def hall_in_words(sheet):
+    """'hall of 2 desks, 1 screen per desk, 3 positions'"""
+    desks, screens, positions = sheet.hall
+    size = f"{plural(desks, 'desk')}, {plural(screens, 'screen')} per desk, {plural(positions, 'position')}"
+    return f"{sheet.edition.room.title} of {size}"
 
 
 def doing_in_words(record):

@@ -1,26 +1,28 @@
 """Where and why a reading ends, in words."""
 
 from .dump import in_hex
-from .editions import EDITIONS, LEFT_OUT
+from .editions import EDITION_1, LEFT_OUT
 from .errors import plural
 from .reading import read
-from .steps import HALL_FIELDS, MAX_NUMBER, REASONS, STEPS
+from .replies import REASONS
+from .steps import HALL_FIELDS, STEPS
 from .writing import number_bytes
 
 HALL_LETTERS = dict(zip(HALL_FIELDS, "PcL"))
-OPENING = (1, 2, 3)  # the reply numbers of a hall that is refused
+OPENING = (1, 2, 3, 22)  # the reply numbers of a hall that is refused
 
 
 def ending(data, sheet):
-    """Where and why the reading of a sheet ends; after a padded number of edition 1 also what shorten_sheet does."""
+    """Where and why the reading of a sheet ends; after a padded number of edition 1 in the hall also what shorten_sheet
+    does."""
     faults = filter(None, (sheet.refusal, sheet.fault))
-    words = "; with a valid hall, ".join(map(where_and_why, faults))
-    return f"{words}; {shortened(data)}" if sheet.end.reply == 19 and sheet.edition == EDITIONS[1] else words
+    words = f"; with a valid {sheet.edition.room.title}, ".join(map(where_and_why, faults))
+    return f"{words}; {shortened(data)}" if sheet.end.reply == 19 and sheet.edition == EDITION_1 else words
 
 
 def shortened(data):
     """What shorten_sheet does with a sheet of edition 1 that has a padded number."""
-    end = read(data, EDITIONS[1], archived=True).end
+    end = read(data, EDITION_1, archived=True).end
     if end:
         return f"'shorten_sheet' refuses the sheet too: {where_and_why(end)}"
     return "'shorten_sheet' rewrites the sheet in shortest form"
@@ -28,11 +30,12 @@ def shortened(data):
 
 def where_and_why(fault):
     """'the reading ends at byte 12: the screen of record 3 (take) is longer than three bytes (reply number 16)'"""
+    room = fault.edition.room
     if fault.reply == 18:
-        return f"the reading ends before the header: {REASONS[18]} (reply number 18)"
+        return f"the reading ends before the header: {REASONS[room][18]} (reply number 18)"
     name = number_in_words(fault.record, fault.code, fault.number.field)
     if fault.reply in OPENING:
-        return f"the hall is refused and the program reads no record: {name} is {why(fault)}"
+        return f"the {room.title} is refused and the program reads no record: {name} is {why(fault)}"
     return f"the reading ends at byte {fault.number.start}: {name} is {why(fault)}"
 
 
@@ -55,7 +58,7 @@ def reason(fault):
     """What is wrong with the number, in words that can follow 'it is'."""
     number = fault.number
     if fault.reply in OPENING:
-        return f"{number.value:,}, but {REASONS[fault.reply]}"
+        return f"{number.value:,}, but {REASONS[fault.edition.room][fault.reply]}"
     length = len(number.data)
     if fault.reply == 15:
         return f"cut off after {plural(length, 'byte')}" if length else "missing"
@@ -69,7 +72,7 @@ def reason(fault):
         return f"{number.value:,}, but it must be {fault.edition.lead[number.field]}"
     if number.value is None:
         return "longer than three bytes"
-    return f"{number.value:,}, over {MAX_NUMBER:,}"
+    return f"{number.value:,}, over {fault.edition.largest(number.field):,}"
 
 
 def wrong_desk(fault):

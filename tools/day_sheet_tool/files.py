@@ -5,10 +5,12 @@ import sys
 
 from .errors import UserError
 from .reading import WITH_OFFSET
-from .steps import MAX_BYTES, REASONS
+from .replies import REASONS
+from .rooms import HALL
+from .steps import MAX_BYTES
 
 MAX_TEXT = 16 * 1024 * 1024
-# All that shorten_sheet or a converter writes for a refused sheet.
+# All that shorten_sheet or a converter writes for a refused sheet. Their sheets are the hall's.
 REFUSAL = re.compile(rb"(15|16|19) [0-9]{1,5}\n|([123]|17|18|20|21) 0\n")
 A_SHEET = "is it a sheet already? then 'decode' reads it"
 
@@ -41,7 +43,7 @@ def refusal(line):
     """'15 10 (at its byte 10: the sheet ends before this number is complete)'"""
     number, offset = map(int, line.split())
     where = f"at its byte {offset}: " if number in WITH_OFFSET else ""
-    return f"{number} {offset} ({where}{REASONS[number]})"
+    return f"{number} {offset} ({where}{REASONS[HALL][number]})"
 
 
 def read_text(name):

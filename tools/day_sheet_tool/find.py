@@ -24,7 +24,8 @@ def find_record(data, sheet, record):
 
 def text_line(sheet, record):
     if sheet.fault and record == sheet.fault.record:
-        return f"no text: {'with a valid hall, ' if sheet.refusal else ''}the reading ends here"
+        valid = f"with a valid {sheet.edition.room.title}, " if sheet.refusal else ""
+        return f"no text: {valid}the reading ends here"
     return f"text: {record_text(sheet, record)}"
 
 

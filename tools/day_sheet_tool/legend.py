@@ -4,14 +4,14 @@ from .shapes import COLUMN, HANDED_BACK, LEFT, MARGIN, REFUSED, ROW, SCREEN, box
 from .svg import FAINT, INK
 
 
-def legend(drawing, top):
+def legend(drawing, room, top):
     """Two columns of samples with their meanings."""
     drawing.line(MARGIN, top, LEFT + 11 * COLUMN, top, stroke=FAINT, stroke_width=1)
     drawing.words(MARGIN, top + 18, "legend", "bold")
     x, y = LEFT, top + 7
     for kind, marked, words in [
         ("ready", False, "ready: a later collect hands it back"),
-        ("tested", False, "tested: the screens of the hall are being read"),
+        ("tested", False, f"tested: the screens of the {room.title} are being read"),
         ("tested", True, "tested and marked: a screen that was read shows it"),
         ("waiting", False, "waiting: the next reading tests it"),
     ]:

@@ -6,6 +6,7 @@ from collections import namedtuple
 
 from .editions import EDITIONS
 from .errors import UserError, plural
+from .faults import OPENING
 from .files import read_bytes, reason
 from .reading import read
 
@@ -18,6 +19,7 @@ End = namedtuple("End", "accepted refused handed_back")
 ROOT = os.path.dirname(os.path.dirname(os.path.dirname(os.path.realpath(__file__))))
 MAX_SECONDS = 30
 MAX_LINES = 4 * 1024 * 1024
+ENDS_READING = (*OPENING, *range(15, 22))  # the reply numbers that end a reading
 
 
 def lines_of(data, sheet, program, file):
@@ -27,7 +29,7 @@ def lines_of(data, sheet, program, file):
     else:
         name, printed = run(data, program, sheet.edition.program)
     lines, end = parse(printed, name)
-    check_edition(lines, data, sheet, name)
+    check_program(lines, data, sheet, name)
     check_against_sheet(lines, sheet, name)
     return lines, end
 
@@ -76,21 +78,24 @@ def numbers_of(words, count, name, at):
     return map(int, words)
 
 
-def check_edition(lines, data, sheet, name):
-    """The first line must not be one that only the program of another edition prints."""
-    if not lines or lines[0].reply == header_reply(sheet):
+def check_program(lines, data, sheet, name):
+    """The lines must not end where only the reading of another program ends."""
+    if not lines or ends_like(lines, sheet):
         return
-    for number, edition in EDITIONS.items():
-        if lines[0].reply == header_reply(read(data, edition)):
+    for edition in EDITIONS:
+        if ends_like(lines, read(data, edition)):
+            options = f"--room {edition.room.name} --edition {edition.number}"
             raise UserError(
-                f"{name}: the first line is that of {edition.program}, but the sheet is of edition "
-                f"{sheet.edition.number}; --edition {number} reads it as {edition.program} does"
+                f"{name}: these are lines of {edition.program}, but the sheet is read as {sheet.edition.program} "
+                f"reads it; use {options}"
             )
 
 
-def header_reply(sheet):
-    """The reply number of the header's line."""
-    return sheet.end.reply if sheet.end and sheet.end.record == 0 else 0
+def ends_like(lines, sheet):
+    """Does the last line have the record, the code and the reply number with which the reading of the sheet ends?"""
+    if sheet.end:
+        return lines[-1][:3] == (sheet.end.record, sheet.end.code, sheet.end.reply)
+    return lines[-1].record == len(sheet.records) and lines[-1].reply not in ENDS_READING
 
 
 def check_against_sheet(lines, sheet, name):

@@ -24,10 +24,10 @@ MAX_RECORDS = 160
 
 def picture(name, sheet, moments, end):
     """The SVG of these moments of a sheet."""
-    hall = hall_in_words(sheet.hall)
-    drawing = Drawing(f"Day sheet {name}", f"A hall of {hall}: {end_in_words(end)}")
+    hall = hall_in_words(sheet)
+    drawing = Drawing(f"Day sheet {name}", f"A {hall}: {end_in_words(end)}")
     drawing.words(MARGIN, 28, f"Day sheet {name}", "big")
-    drawing.words(MARGIN, 46, f"A hall of {hall}. {drawn(sheet, moments)} In all: {end_in_words(end)}.")
+    drawing.words(MARGIN, 46, f"A {hall}. {drawn(sheet, moments)} In all: {end_in_words(end)}.")
     drawing.words(
         MARGIN, 61, "A column shows the state after its record. Every reply agrees with the program's line.", "soft"
     )
@@ -38,7 +38,7 @@ def picture(name, sheet, moments, end):
     y = 78
     for some in even_parts(columns):
         y = strip(drawing, some, shown, y) + 14
-    legend(drawing, y)
+    legend(drawing, sheet.edition.room, y)
     return drawing.whole(MARGIN)
 
 

@@ -2,9 +2,8 @@
 
 from collections import namedtuple
 
-from .board import opening
-from .editions import EDITIONS
-from .steps import HALL_FIELDS, MAX_BYTES, MAX_NUMBER, STEPS, Record
+from .editions import edition_in
+from .steps import HALL_FIELDS, MAX_BYTES, STEPS, Record
 
 MAX_GROUPS = 3
 WITH_OFFSET = (15, 16, 19)
@@ -43,11 +42,11 @@ class Sheet(namedtuple("Sheet", "edition hall records numbers fault")):
 
     @property
     def refusal(self):
-        """Why the hall is refused: 1, 2 or 3 and the number of the header. None if it is not."""
-        reply = opening(self.hall) if self.hall else 0
-        if not reply:
+        """Why the opening is refused: 1, 2, 3 or 22 and the number of the header. None if it is not."""
+        if self.hall is None:
             return None
-        return Fault(self.edition, reply, 0, 0, self.numbers[0][len(self.edition.lead) + reply - 1])
+        reply, at = self.edition.room.opening(self.hall)
+        return Fault(self.edition, reply, 0, 0, self.numbers[0][len(self.edition.lead) + at]) if reply else None
 
     @property
     def end(self):
@@ -83,7 +82,7 @@ class Reader:
         self.numbers[-1].append(number)
         if value is None and len(number.data) < MAX_GROUPS:
             raise Refused(15, number)
-        if value is None or value > MAX_NUMBER:
+        if value is None or value > self.edition.largest(field):
             raise Refused(16, number)
         if number.padded and not self.archived:
             raise Refused(19, number)
@@ -135,9 +134,11 @@ def number_at(data, start):
     return None, min(start + MAX_GROUPS, len(data))
 
 
-def edition_of(data):
-    """The edition of a sheet. Edition 2 starts with 0; edition 1 starts with the number of desks, and no hall has 0."""
-    return EDITIONS[2 if number_at(data, 0)[0] == 0 else 1]
+def edition_of(data, room):
+    """The edition of a sheet of this room. Edition 2 starts with 0; edition 1 starts with the number of desks, and no
+    hall has 0."""
+    edition_2 = edition_in(room, 2) if number_at(data, 0)[0] == 0 else None
+    return edition_2 or edition_in(room, 1)
 
 
 def read(data, edition, archived=False):

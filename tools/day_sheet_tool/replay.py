@@ -3,7 +3,7 @@
 import copy
 from collections import namedtuple
 
-from .board import Board, opening
+from .board import Board
 from .errors import UserError
 from .steps import STEPS
 
@@ -14,12 +14,13 @@ Moment = namedtuple("Moment", "number record reply session board")
 def replay(sheet, lines, end, numbers):
     """The moments of the records with these numbers. Every reply, of all records, and the counts at the end are
     checked against the program's lines."""
+    nothing = f"so there is no {sheet.edition.room.title} to draw"
     if sheet.hall is None:
-        raise UserError("the header cannot be read, so there is no hall to draw ('decode' says why)")
-    refused = opening(sheet.hall)
+        raise UserError(f"the header cannot be read, {nothing} ('decode' says why)")
+    refused = sheet.refusal.reply if sheet.refusal else 0
     agree(lines[0], refused, 0)
     if refused:
-        raise UserError(f"the opening is refused with {refused}, so there is no hall to draw ('explain' says why)")
+        raise UserError(f"the opening is refused with {refused}, {nothing} ('explain' says why)")
     board = Board(sheet.hall)
     moments, counts = [], [0, 0, 0]
     for record, line in zip(sheet.records, lines[1:]):

@@ -1,4 +1,4 @@
-"""The five steps: their codes, names and fields, and the meaning of each reply number."""
+"""The five steps: their codes, names and fields. The largest number and the greatest length of a sheet."""
 
 from collections import namedtuple
 
@@ -28,29 +28,6 @@ HALL_FIELDS = ("desks", "screens per desk", "positions")
 
 MAX_NUMBER = 65_535
 MAX_BYTES = 65_536
-
-# Reply numbers. A sheet cannot get 4 and 5: the program lends a table of its own.
-REASONS = {
-    1: "a hall has 1 to 16 desks",
-    2: "a desk has 1 to 4 screens",
-    3: "a hall has 1 to 64 positions",
-    6: "the hall has no such desk",
-    7: "the desk has no such screen",
-    8: "the hall has no such position",
-    9: "the screen shows a session already",
-    10: "the position holds no session",
-    11: "the screen shows nothing",
-    12: "the desk must first retire the session it owes",
-    13: "the desk owes no session",
-    14: "the desk's list is full; it must collect first",
-    15: "the sheet ends before this number is complete",
-    16: "a number must end within three bytes and be at most 65,535",
-    17: "no step has this code",
-    18: "a sheet has at most 65,536 bytes",
-    19: "a number must be in shortest form",
-    20: "a desk is left out exactly if it is the desk of the record before",
-    21: "a sheet of edition 2 starts with 0 and 2",
-}
 
 
 def is_repeat(record, session):

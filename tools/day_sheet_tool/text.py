@@ -1,7 +1,9 @@
 """The text form of a sheet: the hall, then one record a line."""
 
 from .errors import UserError, plural
-from .steps import CODES, HALL_FIELDS, MAX_BYTES, MAX_NUMBER, STEPS, Record
+from .replies import REASONS
+from .rooms import HALL
+from .steps import CODES, HALL_FIELDS, MAX_BYTES, STEPS, Record
 from .writing import Writer
 
 HALL_LINE = "'hall DESKS SCREENS POSITIONS'"
@@ -27,41 +29,47 @@ def encode(text, name, edition):
 def write_line(writer, words):
     """Writes the words of a line: the first line is the hall, the others are records."""
     if writer.data:
-        writer.record(record_of(words))
+        writer.record(record_of(words, writer.edition))
     else:
-        writer.hall(hall_of(words))
+        writer.hall(hall_of(words, writer.edition))
 
 
-def hall_of(words):
+def hall_of(words, edition):
+    """The hall. One that is too large is left to the program; the limits of a smaller room are asked here too."""
     if words[0] != "hall":
         raise UserError(f"the first line must be {HALL_LINE}, not '{shown(words[0])}'")
-    return numbers_of(words, HALL_FIELDS)
+    hall = numbers_of(words, HALL_FIELDS, edition)
+    reply, at = edition.room.opening(hall)
+    if reply and edition.room != HALL:
+        why = f"{REASONS[edition.room][reply]} (reply number {reply})"
+        raise UserError(f"{HALL_FIELDS[at]}: {hall[at]:,}, but {why}")
+    return hall
 
 
-def record_of(words):
+def record_of(words, edition):
     if words[0] == "hall":
         raise UserError("only the first line may be 'hall'")
     if words[0] not in CODES:
         raise UserError(f"no step '{shown(words[0])}'; the steps are {', '.join(CODES)}")
     code = CODES[words[0]]
-    return Record(code, numbers_of(words, STEPS[code].fields))
+    return Record(code, numbers_of(words, STEPS[code].fields, edition))
 
 
-def numbers_of(words, fields):
+def numbers_of(words, fields, edition):
     """The numbers after the first word of a line."""
     word, *given = words
     if len(given) != len(fields):
         raise UserError(f"'{word}' has {plural(len(fields), 'number')} ({', '.join(fields)}), here it has {len(given)}")
-    return tuple(number(field, digits) for field, digits in zip(fields, given))
+    return tuple(number(digits, field, edition.largest(field)) for field, digits in zip(fields, given))
 
 
-def number(field, word):
-    """Plain decimal digits, 0 to 65,535. The board decides whether the hall has such a desk."""
+def number(word, field, largest):
+    """Plain decimal digits, 0 to the largest. The board decides whether the hall has such a desk."""
     if not (word.isascii() and word.isdigit()):
         raise UserError(f"{field}: '{shown(word)}' is not a number")
     digits = word.lstrip("0") or "0"
-    if len(digits) > 5 or int(digits) > MAX_NUMBER:
-        raise UserError(f"{field}: {shown(word)} is over 65,535 (reply number 16)")
+    if len(digits) > 5 or int(digits) > largest:
+        raise UserError(f"{field}: {shown(word)} is over {largest:,} (reply number 16)")
     return int(digits)
 
 
@@ -82,9 +90,12 @@ def decode(sheet):
 
 
 def comment(sheet, record):
-    """'record 3, byte 12'; the header's also has the edition."""
+    """'record 3, byte 12'; the header's also has the edition, and the room unless it is the hall."""
     where = f"{record_name(record)}, byte {sheet.numbers[record][0].start}"
-    return where if record else f"{where}, edition {sheet.edition.number}"
+    if record:
+        return where
+    room = "" if sheet.edition.room == HALL else f", {sheet.edition.room.title}"
+    return f"{where}, edition {sheet.edition.number}{room}"
 
 
 def record_name(record):
