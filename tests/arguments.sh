@@ -7,7 +7,7 @@ usage() {
 }
 
 # The sheet programs, by name.
-sheet_programs="day_sheet shorten_sheet day_sheet_2 to_edition_2 to_edition_1"
+sheet_programs="day_sheet shorten_sheet day_sheet_2 to_edition_2 to_edition_1 training_sheet"
 
 # archive_at LIBDIR: sets SESSION_BOARD_LIB to its absolute path
 archive_at() {

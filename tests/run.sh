@@ -75,6 +75,7 @@ step "sheet_vectors with the old reader" 0 old_reader "$root/tests/vectors/job-0
 for program in day_sheet day_sheet_2; do
     step "sheets" 1 "$rust/sheets" $program "$programs"
 done
+step "sheets" 1 "$rust/sheets" training_sheet "$programs" --count 10000
 for program in shorten_sheet to_edition_2 to_edition_1; do
     step "converted" 1 "$rust/converted" $program "$programs"
 done

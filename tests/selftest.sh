@@ -7,6 +7,7 @@
 #     KIND       what must catch them     the wrong ones
 #     boards     compare, and vectors     wrong/boards: patches of the reference, which replaces the archive
 #                if wrong about repeats
+#                or the training room
 #     programs   sheets or converted,     wrong/programs: patches of the reference, which replaces the programs that the
 #                and sheet_vectors        name says (`replaced`)
 #     stores     stores and host_test     wrong/stores.c: right answers, but a store outside the call's footprint
@@ -87,9 +88,10 @@ vectors() {
 # No published call is an accepted swap between sessions that share only their low byte.
 unseen_by_vectors=repeat-of-one-byte
 
-# caught_by_vectors NAME: the published calls must catch a board that is wrong about repeats.
+# caught_by_vectors NAME: the published calls must catch a board that is wrong about repeats or the training room.
 caught_by_vectors() {
-    grep -q '^Case: repeats ' "$tests/wrong/boards/$1.patch" && [ "$1" != "$unseen_by_vectors" ] || return 0
+    grep -q -e '^Case: repeats ' -e '^Case: training_room ' "$tests/wrong/boards/$1.patch" &&
+        [ "$1" != "$unseen_by_vectors" ] || return 0
     if vectors; then fail "$1: not caught by vectors"; fi
 }
 
@@ -135,6 +137,7 @@ replaced() {
     to-2-*) echo to_edition_2 ;;
     to-1-*) echo to_edition_1 ;;
     convert-*) echo to_edition_2 to_edition_1 ;;
+    training-*) echo training_sheet ;;
     reads-*) echo $sheet_programs ;;
     *) echo day_sheet ;;
     esac
@@ -158,7 +161,7 @@ compare_program() {
     tested=$1
     shift
     case $tested in
-    day_sheet | day_sheet_2) comparison=sheets ;;
+    day_sheet | day_sheet_2 | training_sheet) comparison=sheets ;;
     *) comparison=converted ;;
     esac
     timeout 300 "$work/sheets/release/$comparison" "$tested" "$work/programs" "$@"
@@ -261,23 +264,31 @@ stores_right() {
     echo "right board: $(tail -n 1 "$work/out")"
 }
 
+# call_of NAME: the wrong call, by the first word of the name, or by the first two of a call of the training room
+call_of() {
+    case $1 in
+    TRAINING_*) echo "$1" | sed 's/^\([A-Z]*_[A-Z]*\)_.*/\1/' ;;
+    *) echo "BOARD_${1%%_*}" ;;
+    esac | tr A-Z a-z
+}
+
 # caught_by_pages NAME CALL
 caught_by_pages() {
-    gcc -O2 -I"$root/include" -I"$tests/c" -D"$1" "-Wl,--wrap=board_$2" "$tests/wrong/stores.c" \
+    gcc -O2 -I"$root/include" -I"$tests/c" -D"$1" "-Wl,--wrap=$2" "$tests/wrong/stores.c" \
         "$tests/host/host_test.c" "$tests"/c/*.c "$right" -o "$work/host_test" 2>"$work/err" ||
         fail "$1: $(cat "$work/err")"
     if "$work/host_test" >"$work/out"; then
         [ "$1" = "$unseen_by_pages" ] || fail "$1: not caught by host_test"
     else
-        grep -q "^FAILED in .*: $2 .* a store to byte" "$work/out" || [ "$2" = open ] ||
+        grep -q "^FAILED in .*: $2 .* a store to byte" "$work/out" || [ "$2" = board_open ] ||
             fail "$1: caught by host_test, but not as a store"
     fi
 }
 
-# The first word of the name is the call. The trace runs on the smallest hall.
+# The trace runs on the smallest hall of each room.
 stores_wrong() {
-    call=$(echo "$1" | sed 's/_.*//' | tr A-Z a-z)
-    build_driver "$right" "$work/driver" -D"$1" -Wno-unused-function "-Wl,--wrap=board_$call" "$tests/wrong/stores.c"
+    call=$(call_of "$1")
+    build_driver "$right" "$work/driver" -D"$1" -Wno-unused-function "-Wl,--wrap=$call" "$tests/wrong/stores.c"
     if "$tests/stores/check.py" "$work/driver" small >"$work/out"; then fail "$1: not caught"; fi
     found=$(sed -n 's/^stores: \(.* outside its footprint\)$/\1/p' "$work/out")
     case $found in
@@ -293,12 +304,14 @@ stores_wrong() {
 
 # Wrong boards that only the reference can tell.
 fuzz_boards="keeps-every-copy joins-in-mid-reading room-one-early position-before-screen newest-first"
+fuzz_boards="$fuzz_boards training-size-after-length training-sound-as-the-hall"
 # Wrong boards that the header's promises rule out: the reference is patched too.
 fuzz_boards_and_reference="opening-clears-all opening-clears-odd-byte refused-swap-writes repeat-owes"
 fuzz_programs="reads-once two-groups stops-at-refusal counts-exchanged offset-of-the-failing-byte"
 fuzz_programs="$fuzz_programs padded-zero-only shorten-keeps-padded-fields shorten-offset-without-zero-groups"
 fuzz_programs="$fuzz_programs edition-2-desk-of-an-accepted-record edition-2-edition-asked-after-both"
 fuzz_programs="$fuzz_programs edition-2-unchanged-is-allowed to-2-desks-of-the-hall-only to-1-first-desk-stays"
+fuzz_programs="$fuzz_programs training-session-is-22 training-opening-goes-on"
 
 fuzz_all() {
     echo $fuzz_boards $fuzz_boards_and_reference

@@ -150,6 +150,12 @@ helps "its edition" 'edition 2'
 { printf '\0\2\1\1\1\5\1'; repeated 65529 '\x0d'; } >long
 lines_of_day_sheet
 
+errors training_sheet '\1\1\1\3\1\1\350\7' '0 0 0 0\n1 3 16 6\nend 0 0 0\n' '0 0 15 0\nend 0 0 0\n'
+helps "its room" 'training room'
+helps offsets 'With 15, 16 and 19'
+{ printf '\4\1\100'; repeated 30000 '\x05\x04'; } >long
+lines_of_day_sheet
+
 errors shorten_sheet '\201\0\1\1\4\1' '\1\1\1\4\1' '15 0\n'
 helps "what it writes" 'shortest form'
 helps_about_refusals

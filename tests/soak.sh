@@ -61,7 +61,7 @@ while [ "$(date +%s)" -lt "$end" ]; do
     echo "seed $seed"
     round "$built/compare" --seed "$seed" --calls "$calls"
     all_calls=$((all_calls + $(compared)))
-    for program in day_sheet day_sheet_2; do sheets_round sheets $sheets $program; done
+    for program in day_sheet day_sheet_2 training_sheet; do sheets_round sheets $sheets $program; done
     for program in shorten_sheet to_edition_2 to_edition_1; do sheets_round converted $converted $program; done
     seed=$((seed + 1))
 done

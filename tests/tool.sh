@@ -3,7 +3,7 @@
 #
 #     tests/tool.sh PROGRAMS
 #
-# PROGRAMS is a folder with the programs day_sheet, shorten_sheet, day_sheet_2, to_edition_2 and to_edition_1.
+# PROGRAMS is a folder with the programs day_sheet, shorten_sheet, day_sheet_2, to_edition_2, to_edition_1 and training_sheet.
 set -eu
 
 usage() {
@@ -13,7 +13,7 @@ usage() {
 }
 
 [ $# -eq 1 ] || usage "one folder is needed"
-for name in day_sheet shorten_sheet day_sheet_2 to_edition_2 to_edition_1; do
+for name in day_sheet shorten_sheet day_sheet_2 to_edition_2 to_edition_1 training_sheet; do
     [ -f "$1/$name" ] && [ -x "$1/$name" ] || usage "$1/$name is not a program"
 done
 programs=$(cd "$1" && pwd)
@@ -438,15 +438,16 @@ printf '\021\001\001\005\200' >desks.sheet
 printf '\001\005\001\005\001\011\001' >screens.sheet
 printf '\001\001\200\001\005\001' >positions.sheet
 
-# decoded MESSAGE SHEET: 'decode' writes the lines of standard input and this message; its status is 2.
+# decoded MESSAGE SHEET [OPTION...]: 'decode' writes the lines of standard input and this message; its status is 2.
 decoded() {
     cat >expected
-    status=0
-    sheet decode "$2" >out 2>err || status=$?
-    [ "$status" -eq 2 ] || fail "decode $2: status $status"
-    same "decode $2" expected out
-    echo "sheet: $2: $1" >expected
-    same "decode $2: its message" expected err
+    status=0 message=$1
+    shift
+    sheet decode "$@" >out 2>err || status=$?
+    [ "$status" -eq 2 ] || fail "decode $*: status $status"
+    same "decode $*" expected out
+    echo "sheet: $1: $message" >expected
+    same "decode $*: its message" expected err
 }
 cut_off="with a valid hall, the reading ends at byte 4: the desk of record 1 (collect) is cut off after 1 byte (reply number 15)"
 decoded "$bad_desks; $cut_off" desks.sheet <<'END'
@@ -611,7 +612,8 @@ for command in encode decode explain find picture; do
     sheet --help | grep -q "^ *$command  " || fail "--help does not name $command"
     passed
 done
-sheet find --help | grep -qx 'usage: sheet find \[-h\] SHEET (--record N | --byte N) \[--edition N\]' || fail "find --help: not its usage"
+sheet find --help | grep -qx 'usage: sheet find \[-h\] SHEET (--record N | --byte N) \[--edition N\] \[--room ROOM\]' ||
+    fail "find --help: not its usage"
 passed
 
 # Files and programs that do not exist, or are of the wrong kind.
@@ -641,11 +643,13 @@ refused 2 "end: the program printed 7 1 2, but by documents 01 and 02 it is 7 1 
     picture d.sheet wrong.svg --lines wrong.lines
 [ ! -e wrong.svg ] || fail "a picture of wrong lines was written"
 
-# corrected LINE SHEET LINES: with these lines, a printf format, 'explain' prints this line, which says what is wrong.
+# corrected LINE SHEET LINES [OPTION...]: with these lines, a printf format, 'explain' prints this line, which says what is wrong.
 corrected() {
+    line=$1 of=$2
     printf "$3" >wrong.lines
-    sheet explain "$2" --lines wrong.lines >out
-    grep -qxF "$1" out || { cat out; fail "explain: not '$1'"; }
+    shift 3
+    sheet explain "$of" --lines wrong.lines "$@" >out
+    grep -qxF "$line" out || { cat out; fail "explain: not '$line'"; }
     passed
 }
 ends_at="the reading ends at byte 3: the code of record 1 is 9, but the codes are 1 to 5 (reply number 17)"
@@ -867,12 +871,18 @@ for edition in 3 0 x ''; do
     refused 2 "--edition '$edition': the editions are 1 and 2" encode d.txt --edition "$edition"
     refused 2 "--edition '$edition': the editions are 1 and 2" decode d.sheet --edition "$edition"
 done
-first_line="the first line is that of"
-refused 2 "target/bin/day_sheet: $first_line day_sheet, but the sheet is of edition 2; --edition 1 reads it as day_sheet does" \
-    explain d2.sheet --program target/bin/day_sheet
+# lines_of PROGRAM OTHER: the message if lines are of PROGRAM, and the sheet is read as OTHER reads it
+lines_of() {
+    case $1 in
+    day_sheet) options="--room hall --edition 1" ;;
+    day_sheet_2) options="--room hall --edition 2" ;;
+    training_sheet) options="--room training --edition 1" ;;
+    esac
+    echo "these are lines of $1, but the sheet is read as $2 reads it; use $options"
+}
+refused 2 "target/bin/day_sheet: $(lines_of day_sheet day_sheet_2)" explain d2.sheet --program target/bin/day_sheet
 target/bin/day_sheet_2 <d.sheet >wrong.lines
-refused 2 "wrong.lines: $first_line day_sheet_2, but the sheet is of edition 1; --edition 2 reads it as day_sheet_2 does" \
-    picture d.sheet wrong.svg --lines wrong.lines
+refused 2 "wrong.lines: $(lines_of day_sheet_2 day_sheet)" picture d.sheet wrong.svg --lines wrong.lines
 cat >expected <<'END'
 0 0 1 0     a hall of 0 desks, 2 screens per desk, 1 position: refused, a hall has 1 to 16 desks; nothing more is read
 end 0 0 0   0 steps accepted, 0 refused by the board, 0 sessions handed back
@@ -904,12 +914,176 @@ refused 2 "$no_sheet: 1 0 (a hall has 1 to 16 desks)" find line.sheet --byte 0
 target/bin/to_edition_1 <most.sheet >line.sheet
 refused 2 "$no_sheet: 18 0 (a sheet has at most 65,536 bytes)" decode line.sheet
 
+# The training room. Within its limits a text has the same bytes and a sheet the same lines as in the hall.
+for text in "$root"/examples/training/*.txt d.txt; do
+    name=$(basename "$text" .txt)
+    sheet encode "$text" >expected
+    sheet encode --room training "$text" >room.sheet
+    same "$name: encode in both rooms" expected room.sheet
+    target/bin/day_sheet <room.sheet >expected
+    target/bin/training_sheet <room.sheet >out
+    same "$name: the lines in both rooms" expected out
+    sheet explain room.sheet | sed '1s/a hall of/a training room of/' >expected
+    sheet explain --room training room.sheet >out
+    same "$name: explain in both rooms" expected out
+    sheet decode room.sheet | sed '1s/$/, training room/' >expected
+    sheet decode --room training room.sheet >room.txt
+    same "$name: decode in both rooms" expected room.txt
+    sheet encode --room training room.txt >out
+    same "$name: encode, decode, encode" room.sheet out
+    sheet picture room.sheet room.svg
+    sed 's/A hall of/A training room of/; s/screens of the hall/screens of the training room/' room.svg >expected
+    sheet picture --room training room.sheet room.svg
+    same "$name: picture in both rooms" expected room.svg
+done
+grep -q "A training room of 1 desk" room.svg || fail "the picture of case D does not name the training room"
+passed
+sheet explain d2.sheet --room hall >out
+same "explain: --room hall, edition 2" d.meaning out
+
+# over MESSAGE TEXT: the text, a printf format, can be encoded for the hall, but not for the training room.
+over() {
+    printf "$2" >over.txt
+    sheet encode over.txt >over.sheet
+    refused 2 "over.txt$1" encode --room training over.txt
+}
+most="a training room has at most 4 desks with 1 screen each (reply number 22)"
+over ":1: desks: 5, but $most" 'hall 5 1 1\n'
+over ":1: desks: 16, but $most" 'hall 16 4 64\n'
+over ":1: screens per desk: 2, but $most" 'hall 4 2 1\n'
+over ":1: desks: 17, but a training room has 1 to 4 desks (reply number 1)" 'hall 17 2 1\n'
+over ":1: screens per desk: 5, but a desk has 1 screen (reply number 2)" 'hall 5 5 1\n'
+over ":1: positions: 65, but a training room has 1 to 64 positions (reply number 3)" 'hall 5 1 65\n'
+over ":1: desks: 0, but a training room has 1 to 4 desks (reply number 1)" 'hall 0 1 1\n'
+over ":2: session: 1000 is over 999 (reply number 16)" 'hall 4 1 64\nswap 1 1 1000\n'
+over ":3: session: 65535 is over 999 (reply number 16)" 'hall 1 1 1\nswap 9 9 999\nswap 9 9 65535\n'
+# Only sessions are limited: a desk, screen or position that the room does not have is the board's to refuse.
+printf 'hall 4 1 64\ntake 1000 1 1\nswap 1 1000 999\ndrop 1 65535\nswap 4 64 0\n' >room.txt
+sheet encode --room training room.txt >room.sheet
+cat >expected <<'END'
+0 0 0 0     a training room of 4 desks, 1 screen per desk, 64 positions opens
+1 1 6 0     desk 1000 takes position 1 onto screen 1: refused, the training room has no such desk
+2 3 8 0     desk 1 swaps position 1000 to session 999: refused, the training room has no such position
+3 2 7 0     desk 1 drops screen 65535: refused, the desk has no such screen
+4 3 0 0     desk 4 swaps position 64 to nothing: it is already empty, nothing changes
+end 1 3 0   1 step accepted, 3 refused by the board, 0 sessions handed back
+END
+sheet explain --room training room.sheet >out
+same "explain: the training room" expected out
+
+# not_opened NUMBER SIZE REASON BYTES: for the bytes, a printf format, 'explain' says that the training room is refused.
+not_opened() {
+    printf "$4" >bad.sheet
+    cat >expected <<END
+0 0 $1 0 a training room of $2: refused, $3; nothing more is read
+end 0 0 0 0 steps accepted, 0 refused by the board, 0 sessions handed back
+END
+    sheet explain --room training bad.sheet | tr -s ' ' >out
+    same "explain: not $1 for a training room of $2" expected out
+}
+too_large="a training room has at most 4 desks with 1 screen each"
+not_opened 22 "5 desks, 1 screen per desk, 1 position" "$too_large" '\005\001\001\005\001'
+not_opened 22 "4 desks, 2 screens per desk, 1 position" "$too_large" '\004\002\001\005\001'
+not_opened 22 "16 desks, 4 screens per desk, 64 positions" "$too_large" '\020\004\100'
+# 1, 2 and 3 are asked before 22; a sheet of edition 2 has 0 desks.
+not_opened 1 "17 desks, 2 screens per desk, 1 position" "a training room has 1 to 4 desks" '\021\002\001'
+not_opened 2 "5 desks, 5 screens per desk, 1 position" "a desk has 1 screen" '\005\005\001'
+not_opened 3 "5 desks, 1 screen per desk, 65 positions" "a training room has 1 to 64 positions" '\005\001\101'
+not_opened 1 "0 desks, 2 screens per desk, 1 position" "a training room has 1 to 4 desks" '\000\002\001\001\001'
+ends "0 0 15 2 the reading ends at byte 2: number L of the header (positions) is missing (reply number 15)" \
+    "from byte 0: 05 02 [end] offset 2 (0x2)" '\005\002' --room training
+
+# A session over the limit is 16, also if it is padded; a padded one within it is 19. Other numbers are up to 65,535.
+ends "1 3 16 6 the reading ends at byte 6: the session of record 1 (swap) is 1,000, over 999 (reply number 16)" \
+    "from byte 0: 01 01 01 03 01 01 [e8 07] 05 01 offset 6 (0x6)" '\001\001\001\003\001\001\350\007\005\001' --room training
+ends "1 3 16 6 the reading ends at byte 6: the session of record 1 (swap) is 1,000, over 999 (reply number 16)" \
+    "from byte 0: 01 01 01 03 01 01 [e8 87 00] offset 6 (0x6)" '\001\001\001\003\001\001\350\207\000' --room training
+ends "1 3 16 6 the reading ends at byte 6: the session of record 1 (swap) is 65,536, over 999 (reply number 16)" \
+    "from byte 0: 01 01 01 03 01 01 [80 80 04] offset 6 (0x6)" '\001\001\001\003\001\001\200\200\004' --room training
+ends "1 3 16 6 the reading ends at byte 6: the session of record 1 (swap) is longer than three bytes (reply number 16)" \
+    "from byte 0: 01 01 01 03 01 01 [80 80 80] offset 6 (0x6)" '\001\001\001\003\001\001\200\200\200' --room training
+ends "1 3 16 5 the reading ends at byte 5: the position of record 1 (swap) is 65,536, over 65,535 (reply number 16)" \
+    "from byte 0: 01 01 01 03 01 [80 80 04] e8 07 offset 5 (0x5)" '\001\001\001\003\001\200\200\004\350\007' --room training
+padded_session="the session of record 1 (swap) is 999, padded: e7 87 00 instead of e7 07 (reply number 19)"
+ends "1 3 19 6 the reading ends at byte 6: $padded_session" \
+    "from byte 0: 01 01 01 03 01 01 [e7 87 00] offset 6 (0x6)" '\001\001\001\003\001\001\347\207\000' --room training
+
+# What 'decode', 'find' and 'picture' say of them. shorten_sheet is not for the training room.
+refused_room="the training room is refused and the program reads no record: number c of the header (screens per desk) is 2, but $most"
+cut_off="the reading ends at byte 6: the desk of record 2 (collect) is cut off after 1 byte (reply number 15)"
+printf '\004\002\001\005\001\005\200' >screens.sheet
+decoded "$refused_room; with a valid training room, $cut_off" screens.sheet --room training <<'END'
+hall 4 2 1   # header, byte 0, edition 1, training room
+collect 1    # record 1, byte 3
+END
+found --record 0 screens.sheet --room training <<END
+header: byte 0 (0x0), 3 bytes: 04 02 01
+text: hall 4 2 1
+byte 0: 04   P (desks): 4
+byte 1: 02   c (screens per desk): 2, but $most
+byte 2: 01   L (positions): 1
+END
+found --byte 6 screens.sheet --room training <<END
+byte 6: the desk of record 2 (collect)
+record 2: byte 5 (0x5), 2 bytes: 05 80
+$refused_room
+no text: with a valid training room, the reading ends here
+byte 5: 05   code: 5 (collect)
+byte 6: 80   desk: cut off after 1 byte (reply number 15)
+END
+refused 2 "the opening is refused with 22, so there is no training room to draw ('explain' says why)" \
+    picture screens.sheet wrong.svg --room training
+printf '\001\001\001\003\001\001\347\207\000' >padded.sheet
+decoded "the reading ends at byte 6: $padded_session" padded.sheet --room training <<'END'
+hall 1 1 1   # header, byte 0, edition 1, training room
+END
+printf '\001\001\001\005\001\003\001\001\350\007\005\001' >over.sheet
+over_limit="the reading ends at byte 8: the session of record 2 (swap) is 1,000, over 999 (reply number 16)"
+decoded "$over_limit" over.sheet --room training <<'END'
+hall 1 1 1   # header, byte 0, edition 1, training room
+collect 1    # record 1, byte 3
+END
+found --byte 9 over.sheet --room training <<'END'
+byte 9: the second of the 2 bytes of the session of record 2 (swap)
+record 2: byte 5 (0x5), 5 bytes: 03 01 01 e8 07
+no text: the reading ends here
+byte 5: 03      code: 3 (swap)
+byte 6: 01      desk: 1
+byte 7: 01      position: 1
+byte 8: e8 07   session: 1,000, over 999 (reply number 16)
+END
+refused 2 "over.sheet: record 3 is not read; $over_limit" find over.sheet --record 3 --room training
+sheet picture over.sheet over.svg --room training
+grep -q ">number 16<" over.svg && grep -q ">byte 8<" over.svg || fail "the picture of a session over the limit does not show the end"
+passed
+corrected "2 3 22 0    the reply number is 22, but it should be 16; $over_limit" \
+    over.sheet '0 0 0 0\n1 5 0 0\n2 3 22 0\nend 1 0 0\n' --room training
+
+# The wrong room: one that does not exist, edition 2, and the program of the other.
+for room in Hall train ''; do
+    refused 2 "--room '$room': the rooms are hall and training" encode d.txt --room "$room"
+    refused 2 "--room '$room': the rooms are hall and training" decode d.sheet --room "$room"
+done
+for command in "encode d.txt" "decode d2.sheet" "explain d2.sheet" "find d2.sheet --byte 0" "picture d2.sheet wrong.svg"; do
+    refused 2 "--edition 2: a sheet of a training room is of edition 1" $command --room training --edition 2
+done
+head -c 10 over.sheet >last_over.sheet   # its last record has the session
+head -c 3 screens.sheet >no_record.sheet # it has no record
+for name in over last_over screens no_record; do
+    refused 2 "target/bin/training_sheet: $(lines_of training_sheet day_sheet)" \
+        explain "$name.sheet" --program target/bin/training_sheet
+    target/bin/day_sheet <"$name.sheet" >wrong.lines
+    refused 2 "wrong.lines: $(lines_of day_sheet training_sheet)" explain "$name.sheet" --lines wrong.lines --room training
+done
+target/bin/day_sheet_2 <d2.sheet >wrong.lines
+refused 2 "wrong.lines: $(lines_of day_sheet_2 training_sheet)" picture d2.sheet wrong.svg --lines wrong.lines --room training
+
 # The tool names the program that it does not find.
 mv target/bin target/away
-for edition in d.sheet:day_sheet d2.sheet:day_sheet_2; do
+for edition in "d.sheet:day_sheet" "d2.sheet:day_sheet_2" "d.sheet --room training:training_sheet"; do
     name=${edition#*:}
     refused 2 "no file $here/target/bin/$name: 'make -C $here target/bin/$name' builds it; or use --program or --lines" \
-        explain "${edition%:*}"
+        explain ${edition%:*}
 done
 mv target/away target/bin
 
@@ -926,6 +1100,7 @@ worked() {
 }
 worked "The two editions" 9
 worked "From one edition to the other" 5
+worked "The training room" 5
 worked "A worked repair" 10
 worked "Repairs in edition 2" 6
 worked "Padded numbers" 6
@@ -968,7 +1143,8 @@ for at in 1 2 3; do
     head -c "$((at * 700))" target/bin/day_sheet | tail -c 300 >junk
     { printf '\000\002\001\001\001' && cat junk; } >junk_2
     for command in "encode junk" "decode junk" "decode junk_2" "explain junk" "explain junk_2" "explain d.sheet --lines junk" \
-        "find junk --record $at" "find junk_2 --record $at" "find junk --byte $at" "picture junk junk.svg" "picture junk_2 junk.svg"; do
+        "find junk --record $at" "find junk_2 --record $at" "find junk --byte $at" "picture junk junk.svg" "picture junk_2 junk.svg" \
+        "decode junk --room training" "explain junk --room training" "explain junk_2 --room training"; do
         sheet $command >out 2>err || true
         if grep -q Traceback err; then cat err; fail "$command: a traceback"; fi
     done

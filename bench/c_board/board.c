@@ -4,7 +4,10 @@
  * the lent bytes in place, with SSE2, which every x86-64 has; words are low byte
  * first there, as in the table.
  *
- * CALL(name) is the name that a call gets: board_open and so on, if not said.
+ * CALL(name) is the name that a call gets, and ROOM_DESKS, ROOM_SCREENS and
+ * ROOM_SESSIONS are the limits of its room: board_open and so on, and those of the
+ * hall, if not said.
+ *
  * Compile with -fno-builtin-memset: what gcc puts in memset's place is a 'rep
  * stos', which starts slowly.
  */
@@ -16,6 +19,12 @@
 
 #ifndef CALL
 #define CALL(name) board_##name
+#endif
+
+#ifndef ROOM_DESKS
+#define ROOM_DESKS BOARD_MAX_DESKS
+#define ROOM_SCREENS BOARD_MAX_SCREENS
+#define ROOM_SESSIONS BOARD_MAX_SESSION
 #endif
 
 /* The words of a desk's record. K are the screens read so far. */
@@ -177,7 +186,7 @@ static inline bool sound(const uint8_t *table, size_t bytes, struct hall *hall)
     if (bytes < 2 * HEADER)
         return false;
     unsigned desks = get(table, 0), screens = get(table, 1), positions = get(table, 2);
-    if (desks - 1 >= BOARD_MAX_DESKS || screens - 1 >= BOARD_MAX_SCREENS || positions - 1 >= BOARD_MAX_POSITIONS)
+    if (desks - 1 >= ROOM_DESKS || screens - 1 >= ROOM_SCREENS || positions - 1 >= BOARD_MAX_POSITIONS)
         return false;
     *hall = hall_of(desks, screens, positions);
     if (bytes / 2 < hall->need)
@@ -214,6 +223,8 @@ uint32_t CALL(open)(uint16_t desks, uint16_t screens, uint16_t positions, uint8_
         return refused(BOARD_BAD_SCREENS);
     if (positions - 1u >= BOARD_MAX_POSITIONS)
         return refused(BOARD_BAD_POSITIONS);
+    if (desks > ROOM_DESKS || screens > ROOM_SCREENS)
+        return refused(BOARD_OVER_LIMITS);
     size_t need = hall_of(desks, screens, positions).need;
     if (bytes / 2 < need)
         return refused(BOARD_TABLE_SHORT);
@@ -265,19 +276,22 @@ uint32_t CALL(drop)(uint16_t desk, uint16_t screen, uint8_t *table, size_t bytes
 uint32_t CALL(swap)(uint16_t desk, uint16_t position, uint16_t session, uint8_t *table, size_t bytes)
 {
     struct hall hall;
+    unsigned put = session;
     if (!sound(table, bytes, &hall))
         return refused(BOARD_UNSOUND);
     if (desk - 1u >= hall.desks)
         return refused(BOARD_NO_DESK);
     if (position - 1u >= hall.positions)
         return refused(BOARD_NO_POSITION);
+    if (put > ROOM_SESSIONS)
+        return refused(BOARD_OVER_LIMITS);
     uint8_t *record = record_of(table, &hall, desk);
     if (get(record, OWED) != 0)
         return refused(BOARD_OWING);
     unsigned old = get(table, HEADER + position - 1u);
-    if (old == session) /* a repeat */
+    if (old == put) /* a repeat */
         return old;
-    set(table, HEADER + position - 1u, session);
+    set(table, HEADER + position - 1u, put);
     if (old != 0)
         set(record, OWED, old);
     return old;

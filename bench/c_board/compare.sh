@@ -9,10 +9,17 @@ here=$(cd "$(dirname "$0")" && pwd)
 root=$(dirname "$(dirname "$here")")
 out=$root/target/c_board
 mkdir -p "$out"
-gcc -std=c11 -Wall -Wextra -Wpedantic -Werror -O2 -msse2 -fno-builtin-memset -I"$root/include" \
-    -c "$here/board.c" -o "$out/board.o"
+# board OBJECT [OPTION...]: the board of a room
+board() {
+    object=$1
+    shift
+    gcc -std=c11 -Wall -Wextra -Wpedantic -Werror -O2 -msse2 -fno-builtin-memset -I"$root/include" "$@" \
+        -c "$here/board.c" -o "$object"
+}
+board "$out/hall.o"
+board "$out/training.o" '-DCALL(name)=training_##name' -DROOM_DESKS=4 -DROOM_SCREENS=1 -DROOM_SESSIONS=999
 rm -f "$out/libsession_board.a"
-ar crs "$out/libsession_board.a" "$out/board.o"
+ar crs "$out/libsession_board.a" "$out/hall.o" "$out/training.o"
 # A folder of its own: cargo builds the comparison anew for each archive.
 SESSION_BOARD_LIB=$out CARGO_TARGET_DIR=$out cargo run --quiet --offline --release \
     --manifest-path "$root/tests/compare/Cargo.toml" -- --calls "${1:-500000}" >"$out/compare.log" ||

@@ -18,19 +18,21 @@ pub const BOARDS: [Board; 3] = [to_archive, to_reference, to_c];
 #[inline(never)]
 fn to_archive(call: Call, table: &mut [u8]) -> u32 {
     match call {
-        Call::Open(desks, screens, positions) => archive::open(desks, screens, positions, table),
-        Call::Take(desk, screen, position) => archive::take(desk, screen, position, table),
-        Call::Drop(desk, screen) => archive::drop(desk, screen, table),
-        Call::Swap(desk, position, session) => archive::swap(desk, position, session, table),
-        Call::Retire(desk) => archive::retire(desk, table),
-        Call::Collect(desk) => archive::collect(desk, table),
+        Call::Open(desks, screens, positions) => {
+            archive::HALL.open(desks, screens, positions, table)
+        }
+        Call::Take(desk, screen, position) => archive::HALL.take(desk, screen, position, table),
+        Call::Drop(desk, screen) => archive::HALL.drop(desk, screen, table),
+        Call::Swap(desk, position, session) => archive::HALL.swap(desk, position, session, table),
+        Call::Retire(desk) => archive::HALL.retire(desk, table),
+        Call::Collect(desk) => archive::HALL.collect(desk, table),
     }
 }
 
 /// The board in Rust behind C functions that are not inlined, as the other two are: so that the
 /// three differ by their code and not by how they are called.
 mod rust {
-    use reference::answer;
+    use reference::{answer, Limits};
     use std::slice::from_raw_parts_mut;
 
     macro_rules! calls {
@@ -40,7 +42,8 @@ mod rust {
                 /// The table points to as many bytes as are said.
                 #[inline(never)]
                 pub unsafe extern "C" fn $name($($number: u16,)* table: *mut u8, bytes: usize) -> u32 {
-                    answer(reference::$name($($number,)* from_raw_parts_mut(table, bytes)))
+                    let table = from_raw_parts_mut(table, bytes);
+                    answer(reference::$name(Limits::HALL, $($number,)* table))
                 }
             )*
         };

@@ -8,7 +8,7 @@ mod timing;
 
 use boards::BOARDS;
 use halls::{tasks, Task, HALLS};
-use reference::Hall;
+use reference::{Hall, Limits};
 use std::array::from_fn;
 use std::env;
 use std::process::Command;
@@ -131,7 +131,7 @@ fn of_boards(places: &[Times]) -> Vec<String> {
 }
 
 fn halls() -> impl Iterator<Item = Hall> {
-    let hall = |(desks, screens, positions)| Hall::new(desks, screens, positions);
+    let hall = |(desks, screens, positions)| Hall::new(Limits::HALL, desks, screens, positions);
     HALLS.into_iter().map(move |numbers| hall(numbers).expect("a hall within the limits"))
 }
 

@@ -2,31 +2,38 @@
 
 #include <stdio.h>
 
+const struct board boards[ROOMS] = {
+    [HALL] = {board_open, board_take, board_drop, board_swap, board_retire, board_collect},
+    [TRAINING] = {training_open, training_take, training_drop, training_swap, training_retire, training_collect},
+};
+const struct limits limits_of[ROOMS] = {[HALL] = {16, 4, 64, 65535}, [TRAINING] = {4, 1, 64, 999}};
+const char *const room_names[ROOMS] = {"board", "training"};
 const char *const function_names[FUNCTIONS] = {"open", "take", "drop", "swap", "retire", "collect"};
 static const int numbers_of[FUNCTIONS] = {3, 3, 2, 3, 1, 1};
 
 uint32_t send_call(const struct call *call, uint8_t *table, size_t bytes)
 {
+    const struct board *board = &boards[call->room];
     uint16_t a = call->numbers[0], b = call->numbers[1], c = call->numbers[2];
     switch (call->function) {
     case OPEN:
-        return board_open(a, b, c, table, bytes);
+        return board->open(a, b, c, table, bytes);
     case TAKE:
-        return board_take(a, b, c, table, bytes);
+        return board->take(a, b, c, table, bytes);
     case DROP:
-        return board_drop(a, b, table, bytes);
+        return board->drop(a, b, table, bytes);
     case SWAP:
-        return board_swap(a, b, c, table, bytes);
+        return board->swap(a, b, c, table, bytes);
     case RETIRE:
-        return board_retire(a, table, bytes);
+        return board->retire(a, table, bytes);
     default:
-        return board_collect(a, table, bytes);
+        return board->collect(a, table, bytes);
     }
 }
 
 void print_call(const struct call *call)
 {
-    printf("%s", function_names[call->function]);
+    printf("%s_%s", room_names[call->room], function_names[call->function]);
     for (int i = 0; i < numbers_of[call->function]; i++)
         printf(" %u", call->numbers[i]);
 }

@@ -1,14 +1,15 @@
 /*
- * Fuzzes the six calls. An input is a table and the calls made on it, one
- * after the other:
+ * Fuzzes the calls of both rooms. An input is a table and the calls made on it,
+ * one after the other:
  *
  *     place        1 byte    where in guarded memory the table is placed
  *     length       2 bytes   of the table, low byte first
  *     given        2 bytes   how many bytes of the table follow
  *     fill         1 byte    the value of the rest of it
  *     the bytes given
- *     calls to the end: 1 byte for the function, then three numbers, of one
- *     byte each, or of two if the function's byte has its top bit set
+ *     calls to the end: 1 byte for the function, those of the training room after
+ *     the hall's, then three numbers, of one byte each, or of two if the function's
+ *     byte has its top bit set
  *
  * Lengths wrap, so that every input is valid. After each call the harness checks
  * what the header promises, first from the header alone, then against the
@@ -49,7 +50,8 @@ static uint16_t two_bytes(void)
 static struct call next_call(void)
 {
     uint8_t first = byte();
-    struct call call = {.function = (first & 0x7F) % FUNCTIONS};
+    unsigned which = (first & 0x7F) % (ROOMS * FUNCTIONS);
+    struct call call = {.room = which / FUNCTIONS, .function = which % FUNCTIONS};
     for (int i = 0; i < 3; i++)
         call.numbers[i] = first & 0x80 ? two_bytes() : byte();
     return call;
@@ -133,7 +135,7 @@ static void require(bool good, const char *what)
 static void keeps_the_headers_promises(const struct call *call, uint32_t answer)
 {
     size_t touched = reach(call, before, lent.bytes);
-    require(can_answer(call->function, board_number(answer)), "a reply number of this call");
+    require(can_answer(call, board_number(answer)), "a reply number of this call");
     require(guards_intact(&lent, lent.bytes), "nothing outside the table is written");
     require(memcmp(before + touched, lent.table + touched, lent.bytes - touched) == 0,
             "nothing past the need, and no odd last byte, is written");
@@ -142,7 +144,7 @@ static void keeps_the_headers_promises(const struct call *call, uint32_t answer)
         require(memcmp(before, lent.table, lent.bytes) == 0, "a refusal leaves every byte");
     } else {
         /* No hall has a desk 0, so a sound table gives 6. */
-        require(board_number(board_collect(0, passed, lent.bytes)) == BOARD_NO_DESK,
+        require(board_number(boards[call->room].collect(0, passed, lent.bytes)) == BOARD_NO_DESK,
                 "an accepted call leaves a sound table");
     }
     if (is_repeat(call, answer))
@@ -164,7 +166,8 @@ static void reaches_no_further(const struct call *call, uint32_t answer)
 
 static void agrees_with_the_reference(const struct call *call, uint32_t answer)
 {
-    uint32_t expected = reference_call((uint8_t)call->function, call->numbers, of_reference, lent.bytes);
+    uint32_t expected = reference_call((uint8_t)call->room, (uint8_t)call->function, call->numbers,
+                                       of_reference, lent.bytes);
     require(answer == expected, "the answer of the reference");
     require(memcmp(of_reference, lent.table, lent.bytes) == 0, "the bytes of the reference");
 }
@@ -173,7 +176,7 @@ static void agrees_with_the_reference(const struct call *call, uint32_t answer)
 
 /* The fuzzer keeps an input that raises one of these. */
 __attribute__((section("__libfuzzer_extra_counters")))
-static uint8_t this_input[FUNCTIONS][BOARD_NO_ROOM + 1];
+static uint8_t this_input[ROOMS][FUNCTIONS][NUMBERS];
 __attribute__((section("__libfuzzer_extra_counters")))
 static uint8_t repeats_of_0, repeats_of_a_session;
 
@@ -209,7 +212,7 @@ int LLVMFuzzerTestOneInput(const uint8_t *bytes, size_t length)
         keeps_the_headers_promises(call, answer);
         reaches_no_further(call, answer);
         agrees_with_the_reference(call, answer);
-        count_up(&this_input[call->function][board_number(answer)]);
+        count_up(&this_input[call->room][call->function][board_number(answer)]);
         if (is_repeat(call, answer))
             count_up(board_session(answer) == 0 ? &repeats_of_0 : &repeats_of_a_session);
         count_answer(call, answer);

@@ -26,7 +26,7 @@ enum {
     MAX_MILLISECONDS = 10000, /* far more than any sheet needs */
     MAX_WRITTEN = 4 << 20,    /* three times the lines of the longest sheet */
     PIPE_BYTES = 1 << 20,
-    NUMBERS = 22
+    NUMBERS = 23
 };
 
 static void require(bool good, const char *what)
@@ -155,6 +155,7 @@ static struct program {
 } programs[] = {
     {"day_sheet", true, "the lines of the reference", NULL},
     {"day_sheet_2", true, "the lines of the reference in edition 2", NULL},
+    {"training_sheet", true, "the lines of the reference in the training room", NULL},
     {"shorten_sheet", false, "the shortest form of the reference", NULL},
     {"to_edition_2", false, "the edition 2 of the reference", NULL},
     {"to_edition_1", false, "the edition 1 of the reference", NULL},
@@ -205,14 +206,14 @@ static void count_sheet(unsigned program, const uint8_t *text, size_t length)
 
 static void print_count(unsigned long count)
 {
-    count ? printf("%14lu", count) : printf("%14s", "-");
+    count ? printf("%15lu", count) : printf("%15s", "-");
 }
 
 static void print_tally(void)
 {
     printf("%-8s", "reply");
     for (int program = 0; program < PROGRAMS; program++)
-        printf("%14s", programs[program].name);
+        printf("%15s", programs[program].name);
     for (int number = 0; number < NUMBERS; number++) {
         printf("\n%-8d", number);
         for (int program = 0; program < PROGRAMS; program++)

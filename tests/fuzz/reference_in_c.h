@@ -5,12 +5,13 @@
 #include <stddef.h>
 #include <stdint.h>
 
-/* Functions 0 to 5: open, take, drop, swap, retire, collect. */
-uint32_t reference_call(uint8_t function, const uint16_t numbers[3],
+/* Rooms 0 and 1: the hall and the training room. Functions 0 to 5: open, take, drop,
+ * swap, retire, collect. */
+uint32_t reference_call(uint8_t room, uint8_t function, const uint16_t numbers[3],
                         uint8_t *table, size_t bytes);
 
-/* What a sheet program writes, valid until the next call. Programs 0 to 4: day_sheet,
- * day_sheet_2, shorten_sheet, to_edition_2, to_edition_1. */
+/* What a sheet program writes, valid until the next call. Programs 0 to 5: day_sheet,
+ * day_sheet_2, training_sheet, shorten_sheet, to_edition_2, to_edition_1. */
 const uint8_t *reference_output(uint8_t program, const uint8_t *sheet, size_t bytes, size_t *length);
 
 #endif

@@ -11,10 +11,15 @@ static const unsigned answers[FUNCTIONS] = {
     [RETIRE] = 1 << 0 | 1 << 5 | 1 << 6 | 1 << 13 | 1 << 14,
     [COLLECT] = 1 << 0 | 1 << 5 | 1 << 6,
 };
+/* Those that only the training room gives. */
+static const unsigned training_answers[FUNCTIONS] = {[OPEN] = 1 << 22, [SWAP] = 1 << 22};
 
-bool can_answer(enum function function, uint16_t number)
+bool can_answer(const struct call *call, uint16_t number)
 {
-    return number <= BOARD_NO_ROOM && (answers[function] >> number & 1);
+    unsigned of_call = answers[call->function];
+    if (call->room == TRAINING)
+        of_call |= training_answers[call->function];
+    return number < NUMBERS && (of_call >> number & 1);
 }
 
 bool is_repeat(const struct call *call, uint32_t answer)
@@ -23,38 +28,52 @@ bool is_repeat(const struct call *call, uint32_t answer)
            board_session(answer) == call->numbers[2];
 }
 
-static unsigned long tally[FUNCTIONS][BOARD_NO_ROOM + 1], with_session[FUNCTIONS], repeats[FUNCTIONS];
+static unsigned long tally[ROOMS][NUMBERS][FUNCTIONS], with_session[ROOMS][FUNCTIONS], repeats[ROOMS][FUNCTIONS];
 
 void count_answer(const struct call *call, uint32_t answer)
 {
-    tally[call->function][board_number(answer)]++;
-    with_session[call->function] += board_session(answer) != 0;
-    repeats[call->function] += is_repeat(call, answer);
+    tally[call->room][board_number(answer)][call->function]++;
+    with_session[call->room][call->function] += board_session(answer) != 0;
+    repeats[call->room][call->function] += is_repeat(call, answer);
 }
 
-static void print_row(const char *name, int number, const unsigned long of[FUNCTIONS])
+static void print_row(const char *name, const unsigned long of[FUNCTIONS])
 {
-    number < 0 ? printf("%-12s", name) : printf("%-12d", number);
+    printf("%-16s", name);
     for (int function = 0; function < FUNCTIONS; function++)
         of[function] ? printf("%12lu", of[function]) : printf("%12s", "-");
     printf("\n");
 }
 
-void print_tally(void)
+/* How many calls of a room were counted. */
+static unsigned long print_room(int room)
 {
     unsigned long calls = 0;
-    printf("%-12s", "reply");
+    printf("%-16s", room_names[room]);
     for (int function = 0; function < FUNCTIONS; function++)
         printf("%12s", function_names[function]);
     printf("\n");
-    for (int number = 0; number <= BOARD_NO_ROOM; number++) {
-        unsigned long row[FUNCTIONS];
+    for (int number = 0; number < NUMBERS; number++) {
+        char name[12];
+        if (number > BOARD_NO_ROOM && number < BOARD_OVER_LIMITS)
+            continue; /* replies to sheets */
+        snprintf(name, sizeof name, "%d", number);
+        print_row(name, tally[room][number]);
         for (int function = 0; function < FUNCTIONS; function++)
-            calls += row[function] = tally[function][number];
-        print_row("", number, row);
+            calls += tally[room][number][function];
     }
-    print_row("with session", -1, with_session);
-    print_row("repeats", -1, repeats);
+    print_row("with session", with_session[room]);
+    print_row("repeats", repeats[room]);
+    printf("\n");
+    return calls;
+}
+
+void print_tally(void)
+{
+    unsigned long calls = 0;
+    printf("reply numbers:\n");
+    for (int room = 0; room < ROOMS; room++)
+        calls += print_room(room);
     printf("fuzz_calls: %lu calls\n", calls);
     fflush(stdout);
 }

@@ -7,8 +7,10 @@
 
 #include <stdbool.h>
 
+enum { NUMBERS = BOARD_OVER_LIMITS + 1 };
+
 /* By the questions that the header gives for each call. */
-bool can_answer(enum function function, uint16_t number);
+bool can_answer(const struct call *call, uint16_t number);
 
 /* An accepted swap that replies what it was sent: the position held it already. */
 bool is_repeat(const struct call *call, uint32_t answer);

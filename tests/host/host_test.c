@@ -9,6 +9,8 @@
  * are read-only, except those with a word of the call's footprint: this catches
  * a store to any other page, even one that changes nothing. A refusal and a
  * repeat have no footprint, so that every page is read-only.
+ *
+ * All of it is done in the hall and in the training room.
  */
 #define _DEFAULT_SOURCE
 #include "guarded_memory.h"
@@ -47,6 +49,18 @@ static void begin(const char *name)
 static void end(void)
 {
     printf("%s: %lu checks\n", group, checks - checks_before);
+}
+
+/* ---- the room -------------------------------------------------------- */
+
+/* That of the calls, and its limits. */
+static enum room room;
+static const struct limits *limits;
+
+static void enter(enum room which)
+{
+    room = which;
+    limits = &limits_of[which];
 }
 
 /* ---- signals --------------------------------------------------------- */
@@ -97,12 +111,12 @@ static void lend(int place, size_t bytes)
 /* ---- read-only pages ------------------------------------------------- */
 
 /* Enough for a table on either side of the boundary in the middle. */
-enum { STRIP_PAGES = 4, MAX_REPORTS = 2 /* of each function */ };
+enum { STRIP_PAGES = 4, MAX_REPORTS = 2 /* of each call */ };
 
 static size_t page;
 static uint8_t *strip, *strip_guards;
 static bool read_only; /* is each call made again on read-only pages? */
-static unsigned long stray_stores[FUNCTIONS];
+static unsigned long stray_stores[ROOMS][FUNCTIONS];
 
 static void make_strip(void)
 {
@@ -136,7 +150,7 @@ static void report_stray(const struct call *call, size_t table, long edge)
 {
     checks++;
     failed++;
-    if (stray_stores[call->function]++ >= MAX_REPORTS)
+    if (stray_stores[call->room][call->function]++ >= MAX_REPORTS)
         return;
     printf("FAILED in %s: ", group);
     print_call(call);
@@ -202,7 +216,9 @@ static uint32_t perform(struct call call)
     struct footprint footprint = {0};
     memcpy(before, lent.table, lent.bytes);
     uint32_t answer = send_call(&call, lent.table, bytes_passed);
-    check(board_number(answer) <= BOARD_NO_ROOM, "a reply number from 0 to 14");
+    check(board_number(answer) <= BOARD_NO_ROOM ||
+              (board_number(answer) == BOARD_OVER_LIMITS && call.room == TRAINING),
+          "a reply number from 0 to 14, or 22 in the training room");
     check(guards_intact(&lent, writable), "nothing written outside the table's need");
     if (board_number(answer) != BOARD_ACCEPTED) {
         check(board_session(answer) == 0, "a refusal has session 0");
@@ -218,32 +234,32 @@ static uint32_t perform(struct call call)
 
 static uint32_t open_hall(uint16_t desks, uint16_t screens, uint16_t positions)
 {
-    return perform((struct call){OPEN, {desks, screens, positions}});
+    return perform((struct call){room, OPEN, {desks, screens, positions}});
 }
 
 static uint32_t take(uint16_t desk, uint16_t screen, uint16_t position)
 {
-    return perform((struct call){TAKE, {desk, screen, position}});
+    return perform((struct call){room, TAKE, {desk, screen, position}});
 }
 
 static uint32_t drop(uint16_t desk, uint16_t screen)
 {
-    return perform((struct call){DROP, {desk, screen, 0}});
+    return perform((struct call){room, DROP, {desk, screen, 0}});
 }
 
 static uint32_t swap(uint16_t desk, uint16_t position, uint16_t session)
 {
-    return perform((struct call){SWAP, {desk, position, session}});
+    return perform((struct call){room, SWAP, {desk, position, session}});
 }
 
 static uint32_t retire(uint16_t desk)
 {
-    return perform((struct call){RETIRE, {desk, 0, 0}});
+    return perform((struct call){room, RETIRE, {desk, 0, 0}});
 }
 
 static uint32_t collect(uint16_t desk)
 {
-    return perform((struct call){COLLECT, {desk, 0, 0}});
+    return perform((struct call){room, COLLECT, {desk, 0, 0}});
 }
 
 static void accepts(uint32_t answer, uint16_t session, const char *what)
@@ -319,7 +335,7 @@ static void case_b(void)
 {
     check(board_need(16, 4, 64) == BOARD_MAX_WORDS, "B: need 2387");
     check(2 * BOARD_MAX_WORDS == BOARD_MAX_BYTES, "B: 4774 bytes");
-    hall(16, 4, 64);
+    hall(limits->desks, limits->screens, limits->positions);
     refuses(open_hall(17, 4, 64), BOARD_BAD_DESKS, "B: 17 desks give 1");
 }
 
@@ -442,30 +458,34 @@ static void hall_book(int place, size_t spare)
     case_m();
 }
 
-/* The last desk, screen, position and list place of the largest hall. */
+/* The last desk, screen, position and list place of the largest hall, and the
+ * largest session. */
 static void far_corner(int place)
 {
+    uint16_t desk = limits->desks, screen = limits->screens, position = limits->positions;
+    uint16_t places = (uint16_t)(2 * desk * screen), reads = places / 4; /* collects, of two screens each */
+    uint16_t largest = limits->sessions, first = (uint16_t)(largest - places);
     book_place = place;
     book_spare = 0;
-    hall(16, 4, 64);
-    for (uint16_t i = 0; i < 128; i++)
-        wait_on_list(16, (uint16_t)(60000 + i));
-    accepts(swap(16, 64, 65535), 0, "the last position");
-    accepts(take(16, 4, 64), 65535, "the last screen");
-    check(word(record(16) + 13 + 127) == 60127, "the last list place");
-    accepts(swap(16, 64, 1), 65535, "one more owed");
-    refuses(retire(16), BOARD_NO_ROOM, "no room for it");
-    for (int i = 0; i < 31; i++)
-        accepts(collect(16), 0, "reading the hall");
-    for (uint16_t i = 0; i < 128; i++)
-        accepts(collect(16), (uint16_t)(60000 + i), "oldest first");
-    accepts(retire(16), 65535, "now there is room");
-    for (int i = 0; i < 32; i++)
-        accepts(collect(16), 0, "kept while it is shown");
-    accepts(drop(16, 4), 65535, "dropped");
-    for (int i = 0; i < 31; i++)
-        accepts(collect(16), 0, "reading the hall again");
-    accepts(collect(16), 65535, "and back");
+    hall(desk, screen, position);
+    for (uint16_t i = 0; i < places; i++)
+        wait_on_list(desk, (uint16_t)(first + i));
+    accepts(swap(desk, position, largest), 0, "the last position");
+    accepts(take(desk, screen, position), largest, "the last screen");
+    check(word(record(desk) + LIST + places - 1u) == largest - 1, "the last list place");
+    accepts(swap(desk, position, 1), largest, "one more owed");
+    refuses(retire(desk), BOARD_NO_ROOM, "no room for it");
+    for (uint16_t i = 1; i < reads; i++)
+        accepts(collect(desk), 0, "reading the hall");
+    for (uint16_t i = 0; i < places; i++)
+        accepts(collect(desk), (uint16_t)(first + i), "oldest first");
+    accepts(retire(desk), largest, "now there is room");
+    for (uint16_t i = 0; i < reads; i++)
+        accepts(collect(desk), 0, "kept while it is shown");
+    accepts(drop(desk, screen), largest, "dropped");
+    for (uint16_t i = 1; i < reads; i++)
+        accepts(collect(desk), 0, "reading the hall again");
+    accepts(collect(desk), largest, "and back");
 }
 
 /* ---- any table ------------------------------------------------------- */
@@ -512,15 +532,16 @@ static void every_length(int place)
 
 static void no_table(void)
 {
-    refuses(board_open(0, 0, 0, NULL, 0), BOARD_BAD_DESKS, "open gives 1");
-    refuses(board_open(1, 5, 0, NULL, 0), BOARD_BAD_SCREENS, "open gives 2");
-    refuses(board_open(1, 1, 65, NULL, 0), BOARD_BAD_POSITIONS, "open gives 3");
-    refuses(board_open(1, 1, 1, NULL, 0), BOARD_TABLE_SHORT, "open gives 4");
-    refuses(board_take(1, 1, 1, NULL, 0), BOARD_UNSOUND, "take gives 5");
-    refuses(board_drop(1, 1, NULL, 0), BOARD_UNSOUND, "drop gives 5");
-    refuses(board_swap(1, 1, 1, NULL, 0), BOARD_UNSOUND, "swap gives 5");
-    refuses(board_retire(1, NULL, 0), BOARD_UNSOUND, "retire gives 5");
-    refuses(board_collect(1, NULL, 0), BOARD_UNSOUND, "collect gives 5");
+    const struct board *board = &boards[room];
+    refuses(board->open(0, 0, 0, NULL, 0), BOARD_BAD_DESKS, "open gives 1");
+    refuses(board->open(1, 5, 0, NULL, 0), BOARD_BAD_SCREENS, "open gives 2");
+    refuses(board->open(1, 1, 65, NULL, 0), BOARD_BAD_POSITIONS, "open gives 3");
+    refuses(board->open(1, 1, 1, NULL, 0), BOARD_TABLE_SHORT, "open gives 4");
+    refuses(board->take(1, 1, 1, NULL, 0), BOARD_UNSOUND, "take gives 5");
+    refuses(board->drop(1, 1, NULL, 0), BOARD_UNSOUND, "drop gives 5");
+    refuses(board->swap(1, 1, 1, NULL, 0), BOARD_UNSOUND, "swap gives 5");
+    refuses(board->retire(1, NULL, 0), BOARD_UNSOUND, "retire gives 5");
+    refuses(board->collect(1, NULL, 0), BOARD_UNSOUND, "collect gives 5");
 }
 
 static uint32_t random_state = 1;
@@ -677,11 +698,11 @@ static void sent_again(uint16_t desks, uint16_t positions, uint16_t desk, uint16
  * screen shows one, with a full list, and in mid-reading. */
 static void repeats(uint16_t desks, uint16_t screens, uint16_t positions)
 {
-    uint16_t all = (uint16_t)(desks * screens), session = 2000;
+    uint16_t all = (uint16_t)(desks * screens), session = 500;
     hall(desks, screens, positions);
     every_desk_repeats(desks, positions);
     for (uint16_t position = 1; position <= positions; position++)
-        accepts(swap(desks, position, position == positions ? 65535 : (uint16_t)(1 + position / 2)), 0,
+        accepts(swap(desks, position, position == positions ? limits->sessions : (uint16_t)(1 + position / 2)), 0,
                 "a position's first session");
     every_desk_repeats(desks, positions);
     accepts(take(desks, screens, 1), held_at(1), "a screen shows it");
@@ -700,6 +721,53 @@ static void repeats(uint16_t desks, uint16_t screens, uint16_t positions)
     repeat(1, 1);
 }
 
+/* ---- over the limits of the training room ---------------------------- */
+
+/* The hall opens a table that is too large for the training room, which then
+ * refuses the same opening and every step. */
+static void too_large(uint16_t desks, uint16_t screens, uint16_t positions)
+{
+    enter(HALL);
+    hall(desks, screens, positions);
+    enter(TRAINING);
+    refuses(open_hall(desks, screens, positions), BOARD_OVER_LIMITS, "open gives 22");
+    refuses(open_hall(17, screens, positions), BOARD_BAD_DESKS, "1 is asked before 22");
+    refuses(open_hall(desks, 5, positions), BOARD_BAD_SCREENS, "2 is asked before 22");
+    refuses(open_hall(desks, screens, 65), BOARD_BAD_POSITIONS, "3 is asked before 22");
+    steps_refuse_with_5();
+    lend(book_place, 2 * board_need(desks, screens, positions) - 1);
+    refuses(open_hall(desks, screens, positions), BOARD_OVER_LIMITS, "22 is asked before 4");
+    lend(book_place, 0);
+    refuses(open_hall(desks, screens, positions), BOARD_OVER_LIMITS, "22 is asked before 4");
+}
+
+/* A session over the limit: a swap refuses it, and the rest of the board does not
+ * ask. The host puts it into the table, once by a call of the hall. */
+static void over_the_limit(uint16_t session)
+{
+    enter(TRAINING);
+    hall(4, 1, 2);
+    refuses(swap(5, 1, session), BOARD_NO_DESK, "6 is asked before 22");
+    refuses(swap(1, 3, session), BOARD_NO_POSITION, "8 is asked before 22");
+    refuses(swap(1, 1, session), BOARD_OVER_LIMITS, "swap gives 22");
+    set_word(position_index(1), session);
+    refuses(swap(1, 1, session), BOARD_OVER_LIMITS, "22 also for a repeat");
+    accepts(take(2, 1, 1), session, "a take replies it");
+    accepts(swap(2, 1, 0), session, "a swap replies it");
+    refuses(swap(2, 1, session), BOARD_OVER_LIMITS, "22 is asked before 12");
+    refuses(swap(2, 1, 999), BOARD_OWING, "12 for a session within the limit");
+    accepts(retire(2), session, "a retire replies it");
+    accepts(drop(2, 1), session, "a drop replies it");
+    accepts(collect(2), 0, "reading the hall");
+    accepts(collect(2), session, "a collect replies it");
+    enter(HALL);
+    accepts(swap(4, 2, session), 0, "the hall allows it");
+    accepts(swap(4, 2, session), session, "also as a repeat");
+    enter(TRAINING);
+    refuses(swap(4, 2, session), BOARD_OVER_LIMITS, "22 also for that repeat");
+    accepts(swap(4, 2, 999), session, "a swap replies it");
+}
+
 /* ---- the stack ------------------------------------------------------- */
 
 /* What the header says that a call takes at most. */
@@ -711,19 +779,20 @@ static uint16_t busy_desks, busy_screens, busy_positions;
 static void busy_hall(void)
 {
     static uint8_t table[BOARD_MAX_BYTES];
+    const struct board *board = &boards[room];
     size_t bytes = sizeof table;
-    board_open(busy_desks, busy_screens, busy_positions, table, bytes);
+    board->open(busy_desks, busy_screens, busy_positions, table, bytes);
     for (uint16_t session = 1; session <= 130; session++) {
-        board_swap(1, 1, session, table, bytes);
-        board_swap(1, 1, session, table, bytes); /* a repeat */
-        board_take(1, 1, 1, table, bytes);
-        board_swap(1, 1, 0, table, bytes);
-        board_retire(1, table, bytes);
+        board->swap(1, 1, session, table, bytes);
+        board->swap(1, 1, session, table, bytes); /* a repeat */
+        board->take(1, 1, 1, table, bytes);
+        board->swap(1, 1, 0, table, bytes);
+        board->retire(1, table, bytes);
         if (session % 3 == 0)
-            board_drop(1, 1, table, bytes);
+            board->drop(1, 1, table, bytes);
     }
     for (int collects = 0; collects < 400; collects++)
-        board_collect(1, table, bytes);
+        board->collect(1, table, bytes);
 }
 
 static void no_calls(void)
@@ -756,12 +825,8 @@ static void stack_use(uint16_t desks, uint16_t screens, uint16_t positions)
 
 /* ---- all of it ------------------------------------------------------- */
 
-int main(void)
+static void hall_books(void)
 {
-    lent = make_guarded_memory(BOARD_MAX_BYTES);
-    make_strip();
-    catch_signals();
-
     begin("hall book between guard bytes");
     hall_book(ALIGNED_0, 0);
     end();
@@ -795,22 +860,33 @@ int main(void)
         hall_book(ALIGNED_0 + align, 0);
     far_corner(ALIGNED_0 + 3);
     end();
+}
 
+static void every_answer_on_read_only_pages(void)
+{
     begin("every answer, with all pages outside the footprint read-only");
     read_only = true;
     hall_book(ALIGNED_0, SPARE);
     far_corner(ALIGNED_0);
     every_answer(1, 1, 1, 1);
     every_answer(2, 1, 3, 2);
-    for (uint16_t desk = 1; desk <= 6; desk++)
-        every_answer(6, 1, 12, desk);
-    every_answer(3, 3, 1, 2);
-    every_answer(16, 4, 64, 1);
-    every_answer(16, 4, 64, 8);
-    every_answer(16, 4, 64, 16);
+    if (room == HALL) {
+        for (uint16_t desk = 1; desk <= 6; desk++)
+            every_answer(6, 1, 12, desk);
+        every_answer(3, 3, 1, 2);
+        every_answer(16, 4, 64, 1);
+        every_answer(16, 4, 64, 8);
+        every_answer(16, 4, 64, 16);
+    } else {
+        for (uint16_t desk = 1; desk <= 4; desk++)
+            every_answer(4, 1, 64, desk);
+    }
     read_only = false;
     end();
+}
 
+static void repeats_on_read_only_pages(void)
+{
     begin("repeats, with all pages read-only");
     read_only = true;
     for (int place = AT_START; place < PLACES; place++) {
@@ -818,18 +894,47 @@ int main(void)
         repeats(1, 1, 1);
         repeats(2, 1, 3);
     }
-    repeats(6, 1, 12);
-    repeats(3, 3, 1);
-    repeats(16, 4, 64);
+    if (room == HALL) {
+        repeats(6, 1, 12);
+        repeats(3, 3, 1);
+    }
+    repeats(limits->desks, limits->screens, limits->positions);
     read_only = false;
     end();
+}
 
+static void over_the_limits(void)
+{
+    static const uint16_t sessions[] = {1000, 1001, 1023, 1024, 65535};
+    begin("over the limits of the training room, with all pages outside the footprint read-only");
+    check(TRAINING_MAX_DESKS == 4 && TRAINING_MAX_SCREENS == 1 && TRAINING_MAX_SESSION == 999, "the header's limits");
+    read_only = true;
+    for (int place = AT_START; place < PLACES; place++) {
+        book_place = place;
+        too_large(5, 1, 1);
+        too_large(4, 2, 1);
+        for (size_t i = 0; i < sizeof sessions / sizeof *sessions; i++)
+            over_the_limit(sessions[i]);
+    }
+    too_large(1, 2, 64);
+    too_large(5, 1, 64);
+    too_large(16, 4, 64);
+    read_only = false;
+    end();
+}
+
+static void stack(void)
+{
     begin("stack");
     stack_use(1, 1, 1);
-    stack_use(6, 1, 12);
-    stack_use(16, 4, 64);
+    if (room == HALL)
+        stack_use(6, 1, 12);
+    stack_use(limits->desks, limits->screens, limits->positions);
     end();
+}
 
+static void any_table(void)
+{
     begin("lengths from 0 to 50 bytes");
     for (int place = AT_START; place < PLACES; place++)
         every_length(place);
@@ -844,7 +949,23 @@ int main(void)
         for (int with = ZEROS; with <= RANDOM_WITH_HEADER; with++)
             unopened(place, (enum filling)with);
     end();
+}
 
+int main(void)
+{
+    lent = make_guarded_memory(BOARD_MAX_BYTES);
+    make_strip();
+    catch_signals();
+    for (int which = HALL; which < ROOMS; which++) {
+        enter((enum room)which);
+        printf("%s_\n", room_names[which]);
+        hall_books();
+        every_answer_on_read_only_pages();
+        repeats_on_read_only_pages();
+        stack();
+        any_table();
+    }
+    over_the_limits();
     printf("host_test: %lu checks, %lu failed\n", checks, failed);
     return failed != 0;
 }

@@ -1,5 +1,5 @@
 #!/usr/bin/env python3
-"""Compares every store of the six calls with the footprint of the call.
+"""Compares every store of the calls of both rooms with the footprint of the call.
 
 usage: tests/stores/check.py DRIVER [ARGUMENT ..]
 
@@ -26,7 +26,8 @@ class Call:
         self.table = int(table)
         self.first, self.past = map(int, memory.split())
         self.footprint = [tuple(map(int, part.split('-'))) for part in footprint.split()]
-        self.function = self.name.split()[0]
+        self.call = self.name.split()[0]            # board_take
+        self.function = self.call.split('_')[1]     # take
         self.stores = 0
 
     def stray_byte(self, address, size):
@@ -91,7 +92,7 @@ def main():
         call.stores += 1
         byte = call.stray_byte(address, size)
         if byte is not None:
-            stray.setdefault(call.function, []).append((call, byte, size))
+            stray.setdefault(call.call, []).append((call, byte, size))
     for call, byte, size in (found[0] for found in stray.values()):
         print(f'stores: {call.name} in a hall of {call.hall}: a store of {size} bytes to byte {byte} of the table (word '
               f'{byte // 2}), outside its footprint')

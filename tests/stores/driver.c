@@ -25,6 +25,7 @@ static volatile unsigned marker;
 /* The table between calls. Each call gets a copy, at another address. */
 static uint8_t kept[BOARD_MAX_BYTES + SPARE];
 static size_t lent_bytes;
+static enum room room;
 static uint16_t hall_desks, hall_screens, hall_positions;
 static size_t calls;
 
@@ -68,7 +69,7 @@ static void print_line(const struct call *call, const uint8_t *table, bool accep
 /* Makes the call, which must get this reply number; returns its session. */
 static uint16_t call(enum function function, uint16_t a, uint16_t b, uint16_t c, enum board_reply number)
 {
-    const struct call made = {function, {a, b, c}};
+    const struct call made = {room, function, {a, b, c}};
     uint8_t *table = memory + MARGIN + calls % PLACES;
     memcpy(table, kept, lent_bytes);
     print_line(&made, table, number == BOARD_ACCEPTED);
@@ -104,6 +105,10 @@ static void openings(void)
     call(OPEN, 17, screens, positions, BOARD_BAD_DESKS);
     call(OPEN, desks, 5, positions, BOARD_BAD_SCREENS);
     call(OPEN, desks, screens, 65, BOARD_BAD_POSITIONS);
+    if (room == TRAINING) {
+        call(OPEN, 5, screens, positions, BOARD_OVER_LIMITS);
+        call(OPEN, desks, 2, positions, BOARD_OVER_LIMITS);
+    }
     lent_bytes = need - 1;
     call(OPEN, desks, screens, positions, BOARD_TABLE_SHORT);
     lent_bytes = need;
@@ -140,8 +145,11 @@ static void refusals(uint16_t desk)
     call(DROP, desk, (uint16_t)(hall_screens + 1), 0, BOARD_NO_SCREEN);
     call(TAKE, desk, 1, 0, BOARD_NO_POSITION);
     call(SWAP, desk, (uint16_t)(hall_positions + 1), 1, BOARD_NO_POSITION);
+    if (room == TRAINING)
+        call(SWAP, desk, 1, 1000, BOARD_OVER_LIMITS);
     size_t last = record(hall_desks);
-    unsound(desk, 0, 17);
+    unsound(desk, 0, limits_of[room].desks + 1u);
+    unsound(desk, 1, limits_of[room].screens + 1u);
     unsound(desk, last + LIST + 2 * all_screens(kept) - 1, word(last + LIST + 2 * all_screens(kept) - 1) == 0);
     unsound(desk, last + SCANNED, word(last + TESTED) == 0 ? 2 : 3);
     unsound(desk, last + MARKS + 7, 0x8000);
@@ -172,6 +180,8 @@ static void screens_and_positions(uint16_t desk)
     call(SWAP, desk, position, 301, BOARD_ACCEPTED);
     call(SWAP, desk, 1, 7, BOARD_OWING);
     call(SWAP, desk, position, 301, BOARD_OWING); /* also for a repeat */
+    if (room == TRAINING)
+        call(SWAP, desk, position, 1000, BOARD_OVER_LIMITS);
     call(RETIRE, desk, 0, 0, BOARD_ACCEPTED);
     expect(call(SWAP, desk, position, 301, BOARD_ACCEPTED) == 301, "a repeat after the retire");
     call(SWAP, desk, position, 0, BOARD_ACCEPTED);
@@ -180,7 +190,8 @@ static void screens_and_positions(uint16_t desk)
     call(DROP, desk, 1, 0, BOARD_ACCEPTED);
 }
 
-/* A desk's list, all waiting, and nothing owed. Every third is the session 9. */
+/* A desk's list, all waiting, and nothing owed. Every third is the session 9; the
+ * others are over the limit of the training room, which asks only swaps for it. */
 static void set_list(uint16_t desk, size_t used)
 {
     size_t at = record(desk);
@@ -217,7 +228,7 @@ static void readings(uint16_t desk, bool steps)
     expect(word(at + WAITING) != 0 && word(at + TESTED) == 0, "the marked ones wait again");
     call(RETIRE, desk, 0, 0, BOARD_ACCEPTED);
     set_screens(0);
-    for (int collects = 0; collects < 2; collects++)
+    for (int collects = 0; collects < (all > 4 ? 2 : 1); collects++)
         call(COLLECT, desk, 0, 0, BOARD_ACCEPTED);
     if (all > 2) {
         expect(word(at + TESTED) != 0, "in mid-reading again");
@@ -236,8 +247,9 @@ static void readings(uint16_t desk, bool steps)
     expect(back == 2 && word(at + READY) == 0, "handed back to the last");
 }
 
-static void hall(uint16_t desks, uint16_t screens, uint16_t positions)
+static void hall(enum room of, uint16_t desks, uint16_t screens, uint16_t positions)
 {
+    room = of;
     hall_desks = desks, hall_screens = screens, hall_positions = positions;
     openings();
     screens_and_positions(desks);
@@ -249,16 +261,18 @@ static void hall(uint16_t desks, uint16_t screens, uint16_t positions)
     }
 }
 
-/* With the argument 'small', the smallest hall alone. */
+/* With the argument 'small', the smallest hall of each room alone. */
 int main(int count, char **arguments)
 {
     static char buffer[1 << 16];
     setvbuf(stdout, buffer, _IOFBF, sizeof buffer);
     printf("marker %zu\n", (size_t)&marker);
-    hall(1, 1, 1);
+    hall(HALL, 1, 1, 1);
+    hall(TRAINING, 1, 1, 1);
     if (count < 2 || strcmp(arguments[1], "small") != 0) {
-        hall(6, 1, 12);
-        hall(16, 4, 64);
+        hall(HALL, 6, 1, 12);
+        hall(HALL, 16, 4, 64);
+        hall(TRAINING, 4, 1, 12);
     }
     printf("done\n");
     return 0;

@@ -1,5 +1,5 @@
 #!/bin/sh
-# Traces the stores of an archive's six calls, and compares them with the calls'
+# Traces the stores of an archive's calls, and compares them with the calls'
 # footprints:
 #
 #     tests/stores/run.sh LIBDIR

@@ -1,7 +1,7 @@
 /*
  * Wrong boards for the self-test: the right board, with a store outside the
  * footprint in one call. All but one store the old value, so that answers and
- * words stay right. Link with --wrap=board_CALL.
+ * words stay right. Link with --wrap and the name of the call.
  */
 #include "session_board.h"
 
@@ -96,6 +96,26 @@ uint32_t __wrap_board_open(uint16_t desks, uint16_t screens, uint16_t positions,
     uint32_t answer = __real_board_open(desks, screens, positions, table, bytes);
     if (board_number(answer) == BOARD_ACCEPTED)
         table[2 * board_need(desks, screens, positions)] = 0;
+    return answer;
+}
+#elif defined TRAINING_OPEN_TOO_LARGE_REWRITES_THE_FIRST_WORD
+uint32_t __real_training_open(uint16_t desks, uint16_t screens, uint16_t positions, uint8_t *table, size_t bytes);
+
+uint32_t __wrap_training_open(uint16_t desks, uint16_t screens, uint16_t positions, uint8_t *table, size_t bytes)
+{
+    uint32_t answer = __real_training_open(desks, screens, positions, table, bytes);
+    if (board_number(answer) == BOARD_OVER_LIMITS && bytes >= 2)
+        rewrite(table, 0);
+    return answer;
+}
+#elif defined TRAINING_SWAP_OVER_THE_LIMIT_REWRITES_THE_POSITION
+uint32_t __real_training_swap(uint16_t desk, uint16_t position, uint16_t session, uint8_t *table, size_t bytes);
+
+uint32_t __wrap_training_swap(uint16_t desk, uint16_t position, uint16_t session, uint8_t *table, size_t bytes)
+{
+    uint32_t answer = __real_training_swap(desk, position, session, table, bytes);
+    if (board_number(answer) == BOARD_OVER_LIMITS)
+        rewrite(table, 2 * (3 + position - 1u));
     return answer;
 }
 #endif

@@ -1,8 +1,48 @@
-//! One call of the board, made to the archive or to the reference.
+//! One call of a room's board, made to the archive or to the reference.
 
-use reference::{answer, word, Hall};
+use reference::{answer, is_sound, word, Hall, Limits};
 use std::fmt;
 use std::str::FromStr;
+
+/// Each room has all six functions, under C names of its own.
+#[derive(Clone, Copy, Debug, PartialEq, Eq)]
+pub enum Room {
+    Hall,
+    Training,
+}
+
+pub const ROOMS: [Room; 2] = [Room::Hall, Room::Training];
+
+impl Room {
+    /// What the C names of its calls begin with.
+    pub fn prefix(self) -> &'static str {
+        match self {
+            Room::Hall => "board",
+            Room::Training => "training",
+        }
+    }
+
+    pub fn limits(self) -> Limits {
+        match self {
+            Room::Hall => Limits::HALL,
+            Room::Training => Limits::TRAINING,
+        }
+    }
+
+    pub fn other(self) -> Room {
+        match self {
+            Room::Hall => Room::Training,
+            Room::Training => Room::Hall,
+        }
+    }
+
+    fn archive(self) -> &'static archive::Calls {
+        match self {
+            Room::Hall => &archive::HALL,
+            Room::Training => &archive::TRAINING,
+        }
+    }
+}
 
 #[derive(Clone, Copy, Debug, PartialEq, Eq)]
 pub enum Function {
@@ -39,29 +79,32 @@ impl Function {
         }
     }
 
-    /// The reply numbers that documents 01 and 02 give this function.
-    pub fn replies(self) -> &'static [usize] {
-        match self {
-            Open => &[0, 1, 2, 3, 4],
-            Take => &[0, 5, 6, 7, 8, 9, 10],
-            Drop => &[0, 5, 6, 7, 11],
-            Swap => &[0, 5, 6, 8, 12],
-            Retire => &[0, 5, 6, 13, 14],
-            Collect => &[0, 5, 6],
+    /// The reply numbers that documents 01 and 02 give this function in a room.
+    pub fn replies(self, room: Room) -> &'static [usize] {
+        match (self, room) {
+            (Open, Room::Hall) => &[0, 1, 2, 3, 4],
+            (Open, Room::Training) => &[0, 1, 2, 3, 22, 4],
+            (Take, _) => &[0, 5, 6, 7, 8, 9, 10],
+            (Drop, _) => &[0, 5, 6, 7, 11],
+            (Swap, Room::Hall) => &[0, 5, 6, 8, 12],
+            (Swap, Room::Training) => &[0, 5, 6, 8, 22, 12],
+            (Retire, _) => &[0, 5, 6, 13, 14],
+            (Collect, _) => &[0, 5, 6],
         }
     }
 }
 
-/// A function and its numbers; those it does not have are 0.
+/// A function of a room and its numbers; those it does not have are 0.
 #[derive(Clone, Copy, Debug, PartialEq, Eq)]
 pub struct Call {
+    pub room: Room,
     pub function: Function,
     pub numbers: [u16; 3],
 }
 
 impl Call {
-    pub fn new(function: Function, numbers: &[u16]) -> Call {
-        let mut call = Call { function, numbers: [0; 3] };
+    pub fn new(room: Room, function: Function, numbers: &[u16]) -> Call {
+        let mut call = Call { room, function, numbers: [0; 3] };
         let fields = function.fields();
         call.numbers[..fields].copy_from_slice(&numbers[..fields]);
         call
@@ -73,44 +116,59 @@ impl Call {
         self.function == Swap && held(table, position) == Some(session)
     }
 
+    /// Is it a step on a table that is sound in the hall, but too large for the room?
+    pub fn finds_too_large(self, table: &[u8]) -> bool {
+        let is_too_large = |hall: Hall| !self.room.limits().allow(&hall);
+        self.function != Open
+            && hall_of(table).is_some_and(is_too_large)
+            && is_sound(Limits::HALL, table)
+    }
+
     pub fn to_reference(self, table: &mut [u8]) -> u32 {
+        let limits = self.room.limits();
         let [a, b, c] = self.numbers;
         answer(match self.function {
-            Open => reference::open(a, b, c, table),
-            Take => reference::take(a, b, c, table),
-            Drop => reference::drop(a, b, table),
-            Swap => reference::swap(a, b, c, table),
-            Retire => reference::retire(a, table),
-            Collect => reference::collect(a, table),
+            Open => reference::open(limits, a, b, c, table),
+            Take => reference::take(limits, a, b, c, table),
+            Drop => reference::drop(limits, a, b, table),
+            Swap => reference::swap(limits, a, b, c, table),
+            Retire => reference::retire(limits, a, table),
+            Collect => reference::collect(limits, a, table),
         })
     }
 
     pub fn to_archive(self, table: &mut [u8]) -> u32 {
+        let calls = self.room.archive();
         let [a, b, c] = self.numbers;
         match self.function {
-            Open => archive::open(a, b, c, table),
-            Take => archive::take(a, b, c, table),
-            Drop => archive::drop(a, b, table),
-            Swap => archive::swap(a, b, c, table),
-            Retire => archive::retire(a, table),
-            Collect => archive::collect(a, table),
+            Open => calls.open(a, b, c, table),
+            Take => calls.take(a, b, c, table),
+            Drop => calls.drop(a, b, table),
+            Swap => calls.swap(a, b, c, table),
+            Retire => calls.retire(a, table),
+            Collect => calls.collect(a, table),
         }
     }
 }
 
-/// What stands at a position, if the table has it. The table may be unsound.
-pub fn held(table: &[u8], position: u16) -> Option<u16> {
+/// The hall that a table's first words give. The table may be unsound.
+fn hall_of(table: &[u8]) -> Option<Hall> {
     let words = table.len() / 2;
     let header = |at| if at < words { word(table, at) } else { 0 };
-    let hall = Hall::new(header(0), header(1), header(2)).ok()?;
-    let at = hall.position(position);
-    ((1..=hall.positions).contains(&position) && at < words).then(|| word(table, at))
+    Hall::new(Limits::HALL, header(0), header(1), header(2)).ok()
 }
 
-/// `take 1 2 3`
+/// What stands at a position, if the table has it. The table may be unsound.
+pub fn held(table: &[u8], position: u16) -> Option<u16> {
+    let hall = hall_of(table)?;
+    let at = hall.position(position);
+    ((1..=hall.positions).contains(&position) && at < table.len() / 2).then(|| word(table, at))
+}
+
+/// `board_take 1 2 3`
 impl fmt::Display for Call {
     fn fmt(&self, out: &mut fmt::Formatter) -> fmt::Result {
-        write!(out, "{}", self.function.name())?;
+        write!(out, "{}_{}", self.room.prefix(), self.function.name())?;
         for number in &self.numbers[..self.function.fields()] {
             write!(out, " {number}")?;
         }
@@ -124,13 +182,17 @@ impl FromStr for Call {
     fn from_str(text: &str) -> Result<Call, String> {
         let mut parts = text.split_whitespace();
         let name = parts.next().ok_or("an empty call")?;
-        let function = FUNCTIONS.into_iter().find(|function| function.name() == name);
-        let function = function.ok_or(format!("no function {name}"))?;
+        let (prefix, function) = name.split_once('_').ok_or(format!("no call {name}"))?;
+        let room = ROOMS.into_iter().find(|room| room.prefix() == prefix);
+        let function = FUNCTIONS.into_iter().find(|of_all| of_all.name() == function);
+        let (Some(room), Some(function)) = (room, function) else {
+            return Err(format!("no call {name}"));
+        };
         let numbers: Result<Vec<u16>, _> = parts.map(str::parse).collect();
         let numbers = numbers.map_err(|error| format!("{text}: {error}"))?;
         if numbers.len() != function.fields() {
             return Err(format!("{text}: {name} has {} numbers", function.fields()));
         }
-        Ok(Call::new(function, &numbers))
+        Ok(Call::new(room, function, &numbers))
     }
 }

@@ -15,6 +15,17 @@ pub struct Case {
     pub calls: Vec<Call>,
 }
 
+/// A call that was compared.
+pub struct Compared {
+    pub call: Call,
+    /// It is a swap to what stood at its position.
+    pub repeats: bool,
+    /// It is a step, and its table was sound in the hall but too large for its room.
+    pub found_too_large: bool,
+    /// That of the reference.
+    pub answer: u32,
+}
+
 /// Where the two boards differ first.
 #[derive(Debug)]
 pub struct Difference {
@@ -29,16 +40,16 @@ pub struct Difference {
 
 impl Case {
     /// Makes every call on both boards until they differ in the answer or in
-    /// any byte of the table or its guards. `seen` gets each answer compared,
-    /// and whether the call is a repeat.
-    pub fn run(&self, mut seen: impl FnMut(Call, bool, u32)) -> Option<Difference> {
+    /// any byte of the table or its guards. `seen` gets each call compared.
+    pub fn run(&self, mut seen: impl FnMut(Compared)) -> Option<Difference> {
         let mut of_reference = Guarded::new(&self.table, self.align);
         let mut of_archive = Guarded::new(&self.table, self.align);
         for (index, call) in self.calls.iter().enumerate() {
             let repeats = call.repeats(of_reference.table());
+            let found_too_large = call.finds_too_large(of_reference.table());
             let reference = call.to_reference(of_reference.table());
             let archive = call.to_archive(of_archive.table());
-            seen(*call, repeats, reference);
+            seen(Compared { call: *call, repeats, found_too_large, answer: reference });
             if reference != archive || of_reference.bytes() != of_archive.bytes() {
                 let byte = of_reference.first_difference(&of_archive);
                 return Some(Difference { call: index, reference, archive, byte });
@@ -48,7 +59,7 @@ impl Case {
     }
 
     pub fn differs(&self) -> bool {
-        self.run(|_, _, _| ()).is_some()
+        self.run(|_| ()).is_some()
     }
 }
 
@@ -89,7 +100,7 @@ impl Guarded {
     }
 }
 
-/// `0 | 01 00 01 00 01 00 00*34 | swap 1 1 5; collect 1`: the alignment, the
+/// `0 | 01 00 01 00 01 00 00*34 | board_swap 1 1 5; training_collect 1`: the alignment, the
 /// table in hex with runs counted, the calls.
 impl fmt::Display for Case {
     fn fmt(&self, out: &mut fmt::Formatter) -> fmt::Result {

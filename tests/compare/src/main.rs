@@ -47,7 +47,7 @@ fn main() -> ExitCode {
 
 fn options(mut arguments: impl Iterator<Item = String>) -> Result<Options, String> {
     let mut options =
-        Options { seed: 1, calls: 2_000_000, seconds: u64::MAX, case: None, replay: None };
+        Options { seed: 1, calls: 4_000_000, seconds: u64::MAX, case: None, replay: None };
     while let Some(name) = arguments.next() {
         let value = arguments.next().ok_or(format!("{name}: a value is missing"))?;
         let number = || value.parse::<u64>().map_err(|error| format!("{name} {value}: {error}"));
@@ -75,14 +75,14 @@ fn compare_many(options: &Options) -> ExitCode {
     while tally.calls < options.calls && begun.elapsed() < Duration::from_secs(options.seconds) {
         crash::now_at(number);
         let case = make::case(options.seed, number);
-        if case.run(|call, repeats, answer| tally.count(call, repeats, answer)).is_some() {
+        if case.run(|compared| tally.count(&compared)).is_some() {
             explain_case(options.seed, number, case);
             println!("compare: {} calls, 1 difference", tally.calls);
             return ExitCode::FAILURE;
         }
         number += 1;
     }
-    println!("{tally}");
+    print!("{tally}");
     println!("seed {}, {number} cases, {:.1} s", options.seed, begun.elapsed().as_secs_f64());
     judge(&tally)
 }
@@ -90,15 +90,13 @@ fn compare_many(options: &Options) -> ExitCode {
 /// No case differed; but a reply that never occurred was never compared.
 fn judge(tally: &Tally) -> ExitCode {
     let missing = tally.missing();
-    for (name, reply) in &missing {
-        println!("{name} never answered {reply}");
-    }
+    missing.iter().for_each(|missing| println!("{missing}"));
     let calls = tally.calls;
     if missing.is_empty() {
         println!("compare: {calls} calls, 0 differences");
         ExitCode::SUCCESS
     } else {
-        println!("compare: {calls} calls, 0 differences, {} replies missing", missing.len());
+        println!("compare: {calls} calls, 0 differences, {} never occurred", missing.len());
         ExitCode::FAILURE
     }
 }
@@ -115,7 +113,7 @@ fn explain_case(seed: u64, number: u64, case: Case) {
 
 fn compare_one(case: &Case) -> ExitCode {
     let mut tally = Tally::default();
-    let differs = case.run(|call, repeats, answer| tally.count(call, repeats, answer)).is_some();
+    let differs = case.run(|compared| tally.count(&compared)).is_some();
     if differs {
         explain(&shrink(case.clone()));
         println!("compare: {} calls, 1 difference", tally.calls);
@@ -156,7 +154,7 @@ fn explain(case: &Case) {
     );
     println!("table:{}", hex(&case.table));
     let mut answers = Vec::new();
-    let difference = case.run(|_, _, answer| answers.push(answer));
+    let difference = case.run(|compared| answers.push(compared.answer));
     for (call, &answer) in case.calls.iter().zip(&answers) {
         println!("  {call}: {}", reply(answer));
     }

@@ -1,24 +1,50 @@
 //! Cases: openings, histories, and tables that are sound, damaged, truncated or
-//! too long.
+//! too long. A case has a room, and most of its calls are of that room.
 
-use crate::call::{held, Call, Function, Function::*};
+use crate::call::{held, Call, Function, Function::*, Room};
 use crate::case::Case;
 use crate::damage::damage;
 use crate::rng::Rng;
 use crate::tables::{any_bytes, any_hall, any_words, sound_table, Sessions};
-use reference::{Hall, MAX_DESKS, MAX_POSITIONS, MAX_SCREENS};
+use reference::{Hall, Limits};
 
 /// The case of this number under this seed.
 pub fn case(seed: u64, number: u64) -> Case {
     let mut rng = Rng::of_case(seed, number);
     let rng = &mut rng;
+    let room = rng.pick(&[Room::Hall, Room::Training]);
     match rng.below(32) {
-        0..=3 => openings(rng),
-        4..=6 => history(rng),
-        7..=15 => from_sound_table(rng),
-        16..=26 => from_damaged_table(rng),
-        27..=30 => from_cut_or_long_table(rng),
-        _ => from_any_bytes(rng),
+        0..=3 => openings(rng, room),
+        4..=6 => history(rng, room),
+        7..=15 => from_sound_table(rng, room),
+        16..=26 => from_damaged_table(rng, room),
+        27..=30 => from_cut_or_long_table(rng, room),
+        _ => from_any_bytes(rng, room),
+    }
+}
+
+/// The room of one call of a case.
+fn mostly(rng: &mut Rng, room: Room) -> Room {
+    if rng.one_in(16) {
+        room.other()
+    } else {
+        room
+    }
+}
+
+/// The limits of a table: mostly those of the room, else one desk and one screen
+/// more, or those of the hall.
+fn any_limits(rng: &mut Rng, room: Room) -> Limits {
+    let limits = room.limits();
+    let more = |number: u16, most: u16| most.min(number + 1);
+    match rng.below(12) {
+        0 => Limits::HALL,
+        1 => Limits {
+            desks: more(limits.desks, Limits::HALL.desks),
+            screens: more(limits.screens, Limits::HALL.screens),
+            ..limits
+        },
+        _ => limits,
     }
 }
 
@@ -27,13 +53,16 @@ fn case_of(rng: &mut Rng, table: Vec<u8>, calls: Vec<Call>) -> Case {
 }
 
 /// Openings of all kinds, on tables with any content.
-fn openings(rng: &mut Rng) -> Case {
-    let numbers = |rng: &mut Rng| {
-        [limited(rng, MAX_DESKS), limited(rng, MAX_SCREENS), limited(rng, MAX_POSITIONS)]
+fn openings(rng: &mut Rng, room: Room) -> Case {
+    let opening = |rng: &mut Rng| {
+        let limits = rng.pick(&[room.limits(), Limits::HALL]);
+        let most = [limits.desks, limits.screens, limits.positions];
+        let numbers = most.map(|most| limited(rng, most));
+        Call::new(mostly(rng, room), Open, &numbers)
     };
-    let calls: Vec<Call> = (0..rng.within(1, 3)).map(|_| Call::new(Open, &numbers(rng))).collect();
+    let calls: Vec<Call> = (0..rng.within(1, 3)).map(|_| opening(rng)).collect();
     let [desks, screens, positions] = calls[0].numbers;
-    let need = Hall::new(desks, screens, positions).map_or(20, |hall| hall.need());
+    let need = Hall::new(Limits::HALL, desks, screens, positions).map_or(20, |hall| hall.need());
     let length = around(rng, 2 * need);
     let table = any_bytes(rng, length);
     case_of(rng, table, calls)
@@ -60,8 +89,8 @@ fn around(rng: &mut Rng, need: usize) -> usize {
 
 /// A history from an opening that fills the lists to their bound: a few desks
 /// retire and collect, all of them take and drop, and there are few sessions.
-fn history(rng: &mut Rng) -> Case {
-    let hall = any_hall(rng);
+fn history(rng: &mut Rng, room: Room) -> Case {
+    let hall = any_hall(rng, room.limits());
     let desks: Vec<u16> = (0..rng.within(1, 3)).map(|_| one_of(rng, hall.desks)).collect();
     let takes = rng.pick(&[1, 4, 10]);
     let drops = rng.pick(&[0, 1, 4]);
@@ -73,22 +102,23 @@ fn history(rng: &mut Rng) -> Case {
     let length = 2 * hall.need() + rng.below(4);
     let table = any_bytes(rng, length);
 
-    let mut calls = Calls::new(hall, Sessions::any(rng), table.clone());
-    calls.push(Open, &[hall.desks, hall.screens, hall.positions]);
+    let sessions = Sessions::any(rng, room.limits());
+    let mut calls = Calls::new(room, hall, sessions, table.clone());
+    calls.push_in(room, Open, &[hall.desks, hall.screens, hall.positions]);
     while calls.made.len() < steps {
         let desk = rng.pick(&desks);
         match turn(rng, &[takes, drops, retires, collects, repeats, 1]) {
             0 => calls.step(rng, Take),
             1 => calls.step(rng, Drop),
             2 => calls.replace_and_retire(rng, desk),
-            3 => calls.push(Collect, &[desk]),
+            3 => calls.push(rng, Collect, &[desk]),
             4 => {
                 let position = one_of(rng, hall.positions);
                 calls.repeat(rng, desk, position);
             }
             _ if rng.one_in(8) => {
                 let burst = rng.within(1, hall.all_screens() + 2);
-                (0..burst).for_each(|_| calls.push(Collect, &[desk]));
+                (0..burst).for_each(|_| calls.push(rng, Collect, &[desk]));
             }
             _ => calls.any_step(rng),
         }
@@ -109,27 +139,22 @@ fn turn(rng: &mut Rng, shares: &[usize]) -> usize {
 }
 
 /// Steps on a sound table, which need not be reachable from an opening.
-fn from_sound_table(rng: &mut Rng) -> Case {
-    let hall = any_hall(rng);
-    let sessions = Sessions::any(rng);
-    let table = sound_table(rng, &hall, &sessions);
-    steps(rng, hall, sessions, table, 24)
+fn from_sound_table(rng: &mut Rng, room: Room) -> Case {
+    let calls = on_sound_table(rng, room);
+    steps(rng, calls, 24)
 }
 
 /// Steps on a sound table with something broken in it.
-fn from_damaged_table(rng: &mut Rng) -> Case {
-    let hall = any_hall(rng);
-    let sessions = Sessions::any(rng);
-    let mut table = sound_table(rng, &hall, &sessions);
-    damage(rng, &hall, &mut table);
-    steps(rng, hall, sessions, table, 6)
+fn from_damaged_table(rng: &mut Rng, room: Room) -> Case {
+    let mut calls = on_sound_table(rng, room);
+    damage(rng, &calls.hall, &mut calls.table);
+    steps(rng, calls, 6)
 }
 
 /// Steps on a sound table that is truncated, or followed by garbage.
-fn from_cut_or_long_table(rng: &mut Rng) -> Case {
-    let hall = any_hall(rng);
-    let sessions = Sessions::any(rng);
-    let mut table = sound_table(rng, &hall, &sessions);
+fn from_cut_or_long_table(rng: &mut Rng, room: Room) -> Case {
+    let mut calls = on_sound_table(rng, room);
+    let table = &mut calls.table;
     if rng.one_in(2) {
         let most = rng.pick(&[1, 2, 3, 40]);
         let length = rng.within(1, most);
@@ -142,11 +167,12 @@ fn from_cut_or_long_table(rng: &mut Rng) -> Case {
         };
         table.truncate(table.len() - cut);
     }
-    steps(rng, hall, sessions, table, 6)
+    steps(rng, calls, 6)
 }
 
-fn from_any_bytes(rng: &mut Rng) -> Case {
-    let hall = any_hall(rng);
+fn from_any_bytes(rng: &mut Rng, room: Room) -> Case {
+    let limits = any_limits(rng, room);
+    let hall = any_hall(rng, limits);
     let length = around(rng, 2 * hall.need());
     let mut table = any_bytes(rng, length);
     if rng.one_in(2) {
@@ -156,13 +182,22 @@ fn from_any_bytes(rng: &mut Rng) -> Case {
             *byte = with;
         }
     }
-    let sessions = Sessions::any(rng);
-    steps(rng, hall, sessions, table, 6)
+    let sessions = Sessions::any(rng, room.limits());
+    steps(rng, Calls::new(room, hall, sessions, table), 6)
 }
 
-/// One to `most` steps on a table.
-fn steps(rng: &mut Rng, hall: Hall, sessions: Sessions, table: Vec<u8>, most: usize) -> Case {
-    let mut calls = Calls::new(hall, sessions, table.clone());
+/// No calls yet, on a sound table of exactly the need.
+fn on_sound_table(rng: &mut Rng, room: Room) -> Calls {
+    let limits = any_limits(rng, room);
+    let hall = any_hall(rng, limits);
+    let sessions = Sessions::any(rng, room.limits());
+    let table = sound_table(rng, &hall, &sessions);
+    Calls::new(room, hall, sessions, table)
+}
+
+/// One to `most` steps.
+fn steps(rng: &mut Rng, mut calls: Calls, most: usize) -> Case {
+    let table = calls.table.clone();
     (0..rng.within(1, most)).for_each(|_| calls.any_step(rng));
     case_of(rng, table, calls.made)
 }
@@ -170,6 +205,7 @@ fn steps(rng: &mut Rng, hall: Hall, sessions: Sessions, table: Vec<u8>, most: us
 /// The calls of a case so far, and the table as the reference leaves it after
 /// them: what stands at a position can be swapped for itself, or for another.
 struct Calls {
+    room: Room,
     hall: Hall,
     sessions: Sessions,
     table: Vec<u8>,
@@ -177,14 +213,20 @@ struct Calls {
 }
 
 impl Calls {
-    fn new(hall: Hall, sessions: Sessions, table: Vec<u8>) -> Calls {
-        Calls { hall, sessions, table, made: Vec::new() }
+    fn new(room: Room, hall: Hall, sessions: Sessions, table: Vec<u8>) -> Calls {
+        Calls { room, hall, sessions, table, made: Vec::new() }
     }
 
-    fn push(&mut self, function: Function, numbers: &[u16]) {
-        let call = Call::new(function, numbers);
+    fn push_in(&mut self, room: Room, function: Function, numbers: &[u16]) {
+        let call = Call::new(room, function, numbers);
         call.to_reference(&mut self.table);
         self.made.push(call);
+    }
+
+    /// Mostly in the room of the case, sometimes in the other.
+    fn push(&mut self, rng: &mut Rng, function: Function, numbers: &[u16]) {
+        let room = mostly(rng, self.room);
+        self.push_in(room, function, numbers);
     }
 
     /// What stands at a position; 0 if the table does not have it.
@@ -201,19 +243,23 @@ impl Calls {
         let Hall { desks, screens, positions } = self.hall;
         let desk = number(rng, desks);
         match function {
-            Open => self.push(Open, &[desks, screens, positions]),
+            Open => self.push(rng, Open, &[desks, screens, positions]),
             Take => {
                 let screen = number(rng, screens);
-                self.push(Take, &[desk, screen, number(rng, positions)]);
+                let position = number(rng, positions);
+                self.push(rng, Take, &[desk, screen, position]);
             }
-            Drop => self.push(Drop, &[desk, number(rng, screens)]),
+            Drop => {
+                let screen = number(rng, screens);
+                self.push(rng, Drop, &[desk, screen]);
+            }
             Swap => {
                 let position = number(rng, positions);
                 let any = self.sessions.pick(rng);
                 let session = if rng.one_in(3) { self.held(position) } else { any };
-                self.push(Swap, &[desk, position, session]);
+                self.push(rng, Swap, &[desk, position, session]);
             }
-            Retire | Collect => self.push(function, &[desk]),
+            Retire | Collect => self.push(rng, function, &[desk]),
         }
     }
 
@@ -227,17 +273,17 @@ impl Calls {
             any if any == held => 0,
             any => any,
         };
-        self.push(Swap, &[desk, position, session]);
+        self.push(rng, Swap, &[desk, position, session]);
         if rng.one_in(8) {
             self.repeat(rng, desk, position);
         }
-        self.push(Retire, &[desk]);
+        self.push(rng, Retire, &[desk]);
     }
 
     /// A swap to what stands at the position, by this desk or by another.
     fn repeat(&mut self, rng: &mut Rng, desk: u16, position: u16) {
         let desk = if rng.one_in(2) { desk } else { one_of(rng, self.hall.desks) };
-        self.push(Swap, &[desk, position, self.held(position)]);
+        self.push(rng, Swap, &[desk, position, self.held(position)]);
     }
 }
 

@@ -3,7 +3,7 @@
 
 use crate::call::{Call, Function};
 use crate::case::Case;
-use reference::{place, set_word, word, Hall};
+use reference::{place, set_word, word, Hall, Limits};
 
 /// Tries smaller and smaller cases until none of them differs.
 pub fn shrink(case: Case) -> Case {
@@ -47,7 +47,7 @@ fn try_other(smallest: &mut Case, other: Case) -> bool {
 }
 
 fn cut_after_difference(case: &mut Case) {
-    if let Some(difference) = case.run(|_, _, _| ()) {
+    if let Some(difference) = case.run(|_| ()) {
         case.calls.truncate(difference.call + 1);
     }
 }
@@ -135,7 +135,7 @@ fn halls_within(hall: &Hall) -> Vec<Hall> {
     for desks in 1..=hall.desks {
         for screens in 1..=hall.screens {
             for positions in 1..=hall.positions {
-                halls.extend(Hall::new(desks, screens, positions));
+                halls.extend(Hall::new(Limits::HALL, desks, screens, positions));
             }
         }
     }
@@ -150,7 +150,7 @@ fn hall_of(case: &Case) -> Option<Hall> {
         None if case.table.len() >= 6 => [0, 1, 2].map(|at| word(&case.table, at)),
         None => return None,
     };
-    Hall::new(desks, screens, positions).ok()
+    Hall::new(Limits::HALL, desks, screens, positions).ok()
 }
 
 /// The same case in a smaller hall, as far as possible.
@@ -211,7 +211,7 @@ fn moved_call(call: &Call, from: &Hall, to: &Hall, skipped: u16) -> Call {
         Function::Swap => [desk(a), position(b), c],
         Function::Retire | Function::Collect => [desk(a), b, c],
     };
-    Call { function: call.function, numbers }
+    Call { numbers, ..*call }
 }
 
 fn shorter_table(smallest: &mut Case) {

@@ -1,23 +1,29 @@
 //! Tables to start from: any bytes, and sound ones built word by word.
 
 use crate::rng::Rng;
-use reference::{place, set_word, Hall};
+use reference::{place, set_word, Hall, Limits};
 
 /// The few sessions of a case, so that screens and lists often agree.
 pub struct Sessions(Vec<u16>);
 
 impl Sessions {
-    pub fn any(rng: &mut Rng) -> Sessions {
+    /// Around the room's limit and far from it. Some are over it: a swap refuses
+    /// them, but a table may have them.
+    pub fn any(rng: &mut Rng, limits: Limits) -> Sessions {
+        let most = limits.sessions;
+        let more = most.saturating_add(1);
         // Some share a byte: a board that compares bytes would confuse them.
-        let sets: [&[u16]; 5] = [
+        let sets: [&[u16]; 7] = [
             &[5],
             &[5, 6],
-            &[1, 2, 3, 65_535],
-            &[0x0105, 0x0005, 0x0500, 0x0501],
+            &[1, 2, 3, most],
+            &[0x0103, 0x0003, 0x0300, 0x0301],
             &[256, 255, 1, 0x8000, 0x7FFF],
+            &[most - 1, most, more],
+            &[5, more, 65_535],
         ];
-        match rng.below(6) {
-            5 => Sessions((0..8).map(|_| rng.word().max(1)).collect()),
+        match rng.below(8) {
+            7 => Sessions((0..8).map(|_| rng.word().max(1)).collect()),
             set => Sessions(sets[set].to_vec()),
         }
     }
@@ -36,17 +42,21 @@ impl Sessions {
     }
 }
 
-/// Halls of all sizes, including the smallest and the largest.
-pub fn any_hall(rng: &mut Rng) -> Hall {
+/// Halls of all sizes within the limits, including the smallest and the largest.
+pub fn any_hall(rng: &mut Rng, limits: Limits) -> Hall {
+    let largest = [limits.desks, limits.screens, limits.positions];
     let (least, most) = match rng.below(16) {
         0 => ([1, 1, 1], [1, 1, 1]),
-        1 => ([16, 4, 64], [16, 4, 64]),
-        2 | 3 => ([1, 1, 1], [16, 4, 64]),
+        1 => (largest, largest),
+        2 | 3 => ([1, 1, 1], largest),
         4..=6 => ([1, 1, 1], [8, 3, 12]),
         _ => ([1, 1, 1], [4, 2, 3]),
     };
-    let mut number = |which: usize| rng.within(least[which], most[which]) as u16;
-    Hall::new(number(0), number(1), number(2)).expect("a hall within the limits")
+    let mut number = |which: usize| {
+        let most = most[which].min(largest[which]);
+        rng.within(usize::from(least[which]), usize::from(most)) as u16
+    };
+    Hall::new(limits, number(0), number(1), number(2)).expect("a hall within the limits")
 }
 
 pub fn any_bytes(rng: &mut Rng, length: usize) -> Vec<u8> {
@@ -152,7 +162,7 @@ pub fn reading_record(rng: &mut Rng, hall: &Hall, record: &mut [u8]) -> Option<(
     let scanned = 2 * rng.within(1, (all_screens - 1) / 2);
     let tested = rng.within(scanned + 1, 2 * all_screens - 1);
     record.fill(0);
-    let sessions = Sessions::any(rng);
+    let sessions = Sessions::any(rng, Limits::HALL);
     let waiting = rng.below(2);
     sound_record(rng, hall, &sessions, [0, tested, waiting], record);
     set_word(record, place::SCANNED, scanned as u16);

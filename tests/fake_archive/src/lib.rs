@@ -1,4 +1,4 @@
-//! The reference under the board's six C names. It replaces the archive in the
+//! The reference under the archive's C names. It replaces the archive in the
 //! self-tests, and only there.
 //!
 //! The reference is included as a module, not linked as a crate: its functions
@@ -8,7 +8,7 @@
 #[path = "../../reference/src/lib.rs"]
 mod board;
 
-use board::answer;
+use board::{answer, Limits};
 
 /// # Safety
 /// As the header has it: `table` points to `bytes` bytes, or `bytes` is 0.
@@ -20,50 +20,35 @@ unsafe fn lent<'a>(table: *mut u8, bytes: usize) -> &'a mut [u8] {
     }
 }
 
-#[no_mangle]
-unsafe extern "C" fn board_open(
-    desks: u16,
-    screens: u16,
-    positions: u16,
-    table: *mut u8,
-    bytes: usize,
-) -> u32 {
-    answer(board::open(desks, screens, positions, lent(table, bytes)))
+/// The calls of a room: its limits, then for each call its C name, its function in
+/// the reference, and its numbers.
+macro_rules! calls {
+    ($limits:expr; $($name:ident = $function:ident($($number:ident),*);)*) => {
+        $(
+            #[no_mangle]
+            unsafe extern "C" fn $name($($number: u16,)* table: *mut u8, bytes: usize) -> u32 {
+                answer(board::$function($limits, $($number,)* lent(table, bytes)))
+            }
+        )*
+    };
 }
 
-#[no_mangle]
-unsafe extern "C" fn board_take(
-    desk: u16,
-    screen: u16,
-    position: u16,
-    table: *mut u8,
-    bytes: usize,
-) -> u32 {
-    answer(board::take(desk, screen, position, lent(table, bytes)))
+calls! {
+    Limits::HALL;
+    board_open = open(desks, screens, positions);
+    board_take = take(desk, screen, position);
+    board_drop = drop(desk, screen);
+    board_swap = swap(desk, position, session);
+    board_retire = retire(desk);
+    board_collect = collect(desk);
 }
 
-#[no_mangle]
-unsafe extern "C" fn board_drop(desk: u16, screen: u16, table: *mut u8, bytes: usize) -> u32 {
-    answer(board::drop(desk, screen, lent(table, bytes)))
-}
-
-#[no_mangle]
-unsafe extern "C" fn board_swap(
-    desk: u16,
-    position: u16,
-    session: u16,
-    table: *mut u8,
-    bytes: usize,
-) -> u32 {
-    answer(board::swap(desk, position, session, lent(table, bytes)))
-}
-
-#[no_mangle]
-unsafe extern "C" fn board_retire(desk: u16, table: *mut u8, bytes: usize) -> u32 {
-    answer(board::retire(desk, lent(table, bytes)))
-}
-
-#[no_mangle]
-unsafe extern "C" fn board_collect(desk: u16, table: *mut u8, bytes: usize) -> u32 {
-    answer(board::collect(desk, lent(table, bytes)))
+calls! {
+    Limits::TRAINING;
+    training_open = open(desks, screens, positions);
+    training_take = take(desk, screen, position);
+    training_drop = drop(desk, screen);
+    training_swap = swap(desk, position, session);
+    training_retire = retire(desk);
+    training_collect = collect(desk);
 }

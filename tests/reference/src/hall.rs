@@ -1,11 +1,7 @@
 //! The hall: its three numbers, and the location of each part in the table.
 
-use super::{ask, Refusal};
+use super::{ask, Limits, Refusal};
 use std::ops::Range;
-
-pub const MAX_DESKS: u16 = 16;
-pub const MAX_SCREENS: u16 = 4;
-pub const MAX_POSITIONS: u16 = 64;
 
 /// Words before the first position: the hall's three numbers.
 const HEADER: usize = 3;
@@ -19,12 +15,15 @@ pub struct Hall {
 }
 
 impl Hall {
-    /// The hall of these numbers, checked in the order of the opening.
-    pub fn new(desks: u16, screens: u16, positions: u16) -> Result<Hall, Refusal> {
-        ask((1..=MAX_DESKS).contains(&desks), Refusal::BadDesks)?;
-        ask((1..=MAX_SCREENS).contains(&screens), Refusal::BadScreens)?;
-        ask((1..=MAX_POSITIONS).contains(&positions), Refusal::BadPositions)?;
-        Ok(Hall { desks, screens, positions })
+    /// The hall of these numbers, checked in the order of the opening: 1 to 3 ask
+    /// the hall's limits in every room, and 22 those of this one.
+    pub fn new(limits: Limits, desks: u16, screens: u16, positions: u16) -> Result<Hall, Refusal> {
+        ask((1..=Limits::HALL.desks).contains(&desks), Refusal::BadDesks)?;
+        ask((1..=Limits::HALL.screens).contains(&screens), Refusal::BadScreens)?;
+        ask((1..=Limits::HALL.positions).contains(&positions), Refusal::BadPositions)?;
+        let hall = Hall { desks, screens, positions };
+        ask(limits.allow(&hall), Refusal::OverLimits)?;
+        Ok(hall)
     }
 
     /// S, the screens of the whole hall.

@@ -2,15 +2,17 @@
 //!
 //! The board is compared with it, so the two share no code. The table is a
 //! slice of bytes, two to a word, low byte first; an odd last byte is not part
-//! of it.
+//! of it. Every call is told the limits of its room, the hall or the training room.
 
 mod hall;
+mod limits;
 mod record;
 pub mod sheet;
 mod sound;
 mod words;
 
-pub use self::hall::{Hall, MAX_DESKS, MAX_POSITIONS, MAX_SCREENS};
+pub use self::hall::Hall;
+pub use self::limits::Limits;
 pub use self::record::place;
 pub use self::sound::is_sound;
 pub use self::words::{set_word, word};
@@ -36,6 +38,8 @@ pub enum Refusal {
     Owing = 12,
     OwesNothing = 13,
     NoRoom = 14,
+    /// A size or a session that the hall allows and this room does not.
+    OverLimits = 22,
 }
 
 /// The session of an accepted call, or the refusal.
@@ -50,8 +54,8 @@ pub fn answer(reply: Reply) -> u32 {
 }
 
 /// Opening: the hall's numbers, then zeros up to the need.
-pub fn open(desks: u16, screens: u16, positions: u16, table: &mut [u8]) -> Reply {
-    let hall = Hall::new(desks, screens, positions)?;
+pub fn open(limits: Limits, desks: u16, screens: u16, positions: u16, table: &mut [u8]) -> Reply {
+    let hall = Hall::new(limits, desks, screens, positions)?;
     ask(words::count(table) >= hall.need(), Refusal::TableShort)?;
     table[..2 * hall.need()].fill(0);
     set_word(table, 0, desks);
@@ -61,8 +65,8 @@ pub fn open(desks: u16, screens: u16, positions: u16, table: &mut [u8]) -> Reply
 }
 
 /// The screen shows the position's session.
-pub fn take(desk: u16, screen: u16, position: u16, table: &mut [u8]) -> Reply {
-    let hall = hall_with_desk(table, desk)?;
+pub fn take(limits: Limits, desk: u16, screen: u16, position: u16, table: &mut [u8]) -> Reply {
+    let hall = hall_with_desk(limits, table, desk)?;
     ask_screen(&hall, screen)?;
     ask_position(&hall, position)?;
     let shown = hall.screen(desk, screen);
@@ -74,8 +78,8 @@ pub fn take(desk: u16, screen: u16, position: u16, table: &mut [u8]) -> Reply {
 }
 
 /// The screen no longer shows anything.
-pub fn drop(desk: u16, screen: u16, table: &mut [u8]) -> Reply {
-    let hall = hall_with_desk(table, desk)?;
+pub fn drop(limits: Limits, desk: u16, screen: u16, table: &mut [u8]) -> Reply {
+    let hall = hall_with_desk(limits, table, desk)?;
     ask_screen(&hall, screen)?;
     let shown = hall.screen(desk, screen);
     let session = word(table, shown);
@@ -88,10 +92,12 @@ pub fn drop(desk: u16, screen: u16, table: &mut [u8]) -> Reply {
 ///
 /// Document 02, Job 1: "a swap to the session already there, or of 0 onto an
 /// empty position, replies with it, owes nothing and is no swap for linking. ..
-/// 12 is still asked first, also for a repeat." A repeat writes no word.
-pub fn swap(desk: u16, position: u16, session: u16, table: &mut [u8]) -> Reply {
-    let hall = hall_with_desk(table, desk)?;
+/// 12 is still asked first, also for a repeat." A repeat writes no word. Job 5, of a
+/// session over the limit: "22 for one passed straight to swap, after 8."
+pub fn swap(limits: Limits, desk: u16, position: u16, session: u16, table: &mut [u8]) -> Reply {
+    let hall = hall_with_desk(limits, table, desk)?;
     ask_position(&hall, position)?;
+    ask(session <= limits.sessions, Refusal::OverLimits)?;
     let owed = hall.record(desk).start + place::OWED;
     ask(word(table, owed) == 0, Refusal::Owing)?;
     let held = hall.position(position);
@@ -107,8 +113,8 @@ pub fn swap(desk: u16, position: u16, session: u16, table: &mut [u8]) -> Reply {
 }
 
 /// The owed session starts to wait.
-pub fn retire(desk: u16, table: &mut [u8]) -> Reply {
-    let hall = hall_with_desk(table, desk)?;
+pub fn retire(limits: Limits, desk: u16, table: &mut [u8]) -> Reply {
+    let hall = hall_with_desk(limits, table, desk)?;
     let (_, mut record) = screens_and_record(&hall, desk, table);
     ask(record.owed() != 0, Refusal::OwesNothing)?;
     ask(record.used() < 2 * hall.all_screens(), Refusal::NoRoom)?;
@@ -116,8 +122,8 @@ pub fn retire(desk: u16, table: &mut [u8]) -> Reply {
 }
 
 /// Reads the next screens of the hall, and hands back at most one session.
-pub fn collect(desk: u16, table: &mut [u8]) -> Reply {
-    let hall = hall_with_desk(table, desk)?;
+pub fn collect(limits: Limits, desk: u16, table: &mut [u8]) -> Reply {
+    let hall = hall_with_desk(limits, table, desk)?;
     let (screens, mut record) = screens_and_record(&hall, desk, table);
     Ok(record.collect(screens))
 }
@@ -131,8 +137,8 @@ fn ask(yes: bool, refusal: Refusal) -> Result<(), Refusal> {
 }
 
 /// The two questions that every step asks first.
-fn hall_with_desk(table: &[u8], desk: u16) -> Result<Hall, Refusal> {
-    let hall = sound_hall(table).ok_or(Refusal::Unsound)?;
+fn hall_with_desk(limits: Limits, table: &[u8], desk: u16) -> Result<Hall, Refusal> {
+    let hall = sound_hall(limits, table).ok_or(Refusal::Unsound)?;
     ask((1..=hall.desks).contains(&desk), Refusal::NoDesk)?;
     Ok(hall)
 }

@@ -2,15 +2,17 @@
 
 use super::record::{marks, place};
 use super::words::{bytes, count, word};
-use super::Hall;
+use super::{Hall, Limits};
 
-pub fn is_sound(table: &[u8]) -> bool {
-    sound_hall(table).is_some()
+/// Document 01, for Job 5: "in a training room soundness asks its limits for P and
+/// c too." It asks nothing of the sessions in a table but where 0 must be.
+pub fn is_sound(limits: Limits, table: &[u8]) -> bool {
+    sound_hall(limits, table).is_some()
 }
 
 /// The hall of a sound table.
-pub fn sound_hall(table: &[u8]) -> Option<Hall> {
-    let hall = header(table)?;
+pub fn sound_hall(limits: Limits, table: &[u8]) -> Option<Hall> {
+    let hall = header(limits, table)?;
     let long_enough = count(table) >= hall.need();
     let sound = long_enough
         && (1..=hall.desks)
@@ -19,11 +21,11 @@ pub fn sound_hall(table: &[u8]) -> Option<Hall> {
 }
 
 /// The ranges are checked first: the need is defined only within them.
-fn header(table: &[u8]) -> Option<Hall> {
+fn header(limits: Limits, table: &[u8]) -> Option<Hall> {
     if count(table) < 3 {
         return None;
     }
-    Hall::new(word(table, 0), word(table, 1), word(table, 2)).ok()
+    Hall::new(limits, word(table, 0), word(table, 1), word(table, 2)).ok()
 }
 
 fn sound_record(record: &[u8], all_screens: usize) -> bool {

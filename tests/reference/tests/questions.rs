@@ -4,11 +4,17 @@
 mod board;
 
 use board::Board;
-use reference::{answer, is_sound, place, set_word, word, Hall, Refusal};
+use reference::{answer, place, set_word, word, Hall, Limits, Refusal};
+
+const HALL: Limits = Limits::HALL;
+
+fn is_sound(table: &[u8]) -> bool {
+    reference::is_sound(HALL, table)
+}
 
 fn opening(desks: u16, screens: u16, positions: u16, bytes: usize) -> u32 {
     let mut table = vec![0xAA; bytes];
-    let reply = reference::open(desks, screens, positions, &mut table);
+    let reply = reference::open(HALL, desks, screens, positions, &mut table);
     if reply.is_err() {
         assert!(table.iter().all(|&byte| byte == 0xAA));
     }
@@ -31,18 +37,18 @@ fn an_opening_asks_in_order() {
 fn an_odd_last_byte_is_no_part_of_the_table() {
     assert_eq!(opening(1, 1, 1, 39), 4 << 16);
     let mut table = [0xAA; 41];
-    assert_eq!(reference::open(1, 1, 1, &mut table), Ok(0));
+    assert_eq!(reference::open(HALL, 1, 1, 1, &mut table), Ok(0));
     assert_eq!(table[40], 0xAA);
 }
 
 #[test]
 fn words_past_the_need_are_left_alone() {
     let mut table = [0xAA; 50];
-    assert_eq!(reference::open(1, 1, 1, &mut table), Ok(0));
-    assert_eq!(reference::swap(1, 1, 5, &mut table), Ok(0));
-    assert_eq!(reference::swap(1, 1, 6, &mut table), Ok(5));
-    assert_eq!(reference::retire(1, &mut table), Ok(5));
-    assert_eq!(reference::collect(1, &mut table), Ok(5));
+    assert_eq!(reference::open(HALL, 1, 1, 1, &mut table), Ok(0));
+    assert_eq!(reference::swap(HALL, 1, 1, 5, &mut table), Ok(0));
+    assert_eq!(reference::swap(HALL, 1, 1, 6, &mut table), Ok(5));
+    assert_eq!(reference::retire(HALL, 1, &mut table), Ok(5));
+    assert_eq!(reference::collect(HALL, 1, &mut table), Ok(5));
     assert_eq!(table[40..], [0xAA; 10]);
 }
 
@@ -53,7 +59,7 @@ fn opening_again_starts_afresh() {
     board.wait(1, &[5, 6]);
     board.show(2, 2, 5);
     assert_ne!(board.table, fresh);
-    assert_eq!(reference::open(2, 2, 2, &mut board.table), Ok(0));
+    assert_eq!(reference::open(HALL, 2, 2, 2, &mut board.table), Ok(0));
     assert_eq!(board.table, fresh);
 }
 
@@ -99,7 +105,7 @@ fn short_tables_are_unsound() {
     let board = Board::open(1, 1, 1);
     for bytes in 0..board.table.len() {
         let mut table = board.table[..bytes].to_vec();
-        assert_eq!(answer(reference::collect(9, &mut table)), 5 << 16);
+        assert_eq!(answer(reference::collect(HALL, 9, &mut table)), 5 << 16);
     }
 }
 
@@ -131,7 +137,7 @@ fn sound_with(changes: &[(usize, u16)]) -> bool {
     }
     let sound = is_sound(&board.table);
     let before = board.table.clone();
-    let unsound = answer(reference::collect(0, &mut board.table)) == 5 << 16;
+    let unsound = answer(reference::collect(HALL, 0, &mut board.table)) == 5 << 16;
     assert_eq!(board.table, before);
     assert_eq!(unsound, !sound);
     sound

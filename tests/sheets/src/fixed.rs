@@ -4,25 +4,29 @@
 use crate::bytes::{put, MAX_IN_THREE};
 use crate::numbers::{in_format, in_groups, shortest, Numbers, TO_SHORTHAND};
 use reference::sheet::Format;
+use reference::Limits;
 
 /// The longest sheet that is read.
 const MAX_BYTES: usize = 65_536;
 
-pub fn sheets(format: Format) -> Vec<Vec<u8>> {
+pub fn sheets(format: Format, limits: Limits) -> Vec<Vec<u8>> {
     let case_d = shortest(&in_format(case_d(), format));
+    let every_step = in_format(numbers_of_every_step(limits), format);
     let mut sheets = vec![Vec::new(), case_d.clone()];
     sheets.extend((0..=255).map(|byte| vec![byte]));
-    sheets.extend(headers(format));
-    sheets.extend(numbers(format));
+    sheets.extend(headers(format, limits));
+    sheets.extend(numbers(format, limits));
     sheets.extend(codes(format));
     sheets.extend(if format.has_shorthand() { wrong_in_edition_2() } else { of_edition_2() });
-    for sheet in [case_d, every_step(format, 1), every_step(format, 2), every_step(format, 3)] {
+    let padded = |least_groups| padded(format, &every_step, least_groups);
+    for sheet in [case_d, padded(1), padded(2), padded(3)] {
         sheets.extend((0..=sheet.len()).map(|cut| sheet[..cut].to_vec()));
     }
-    sheets.extend(too_large(format));
-    sheets.extend(one_padded(format));
-    sheets.extend(deep(format));
-    sheets.extend(if format.has_shorthand() { long_in_edition_2() } else { long() });
+    sheets.extend(too_large(&every_step));
+    sheets.extend(around_a_session(&every_step, limits));
+    sheets.extend(one_padded(&every_step));
+    sheets.extend(deep(format, limits));
+    sheets.extend(if format.has_shorthand() { long_in_edition_2() } else { long(limits) });
     sheets
 }
 
@@ -51,12 +55,17 @@ fn started(format: Format, rest: &[u8]) -> Vec<u8> {
     [&first_bytes(format), rest].concat()
 }
 
-/// Each limit of the opening and the first number past it, alone and together.
-fn headers(format: Format) -> Vec<Vec<u8>> {
+/// Each limit of the opening, the hall's and the room's, and the first number past
+/// it, alone and together.
+fn headers(format: Format, limits: Limits) -> Vec<Vec<u8>> {
+    let around = |of: fn(Limits) -> u16| {
+        let [of_hall, of_room] = [Limits::HALL, limits].map(|limits| of(limits) as u8);
+        in_order(vec![0, 1, of_room, of_room + 1, of_hall, of_hall + 1])
+    };
     let mut sheets = Vec::new();
-    for desks in [0, 1, 16, 17] {
-        for screens in [0, 1, 4, 5] {
-            for positions in [0, 1, 64, 65] {
+    for &desks in &around(|limits| limits.desks) {
+        for &screens in &around(|limits| limits.screens) {
+            for &positions in &around(|limits| limits.positions) {
                 sheets.push(started(format, &[desks, screens, positions]));
                 sheets.push(started(format, &[desks, screens, positions, 5, 1]));
             }
@@ -65,12 +74,21 @@ fn headers(format: Format) -> Vec<Vec<u8>> {
     sheets
 }
 
+/// Each of these once.
+fn in_order<T: Ord>(mut numbers: Vec<T>) -> Vec<T> {
+    numbers.sort();
+    numbers.dedup();
+    numbers
+}
+
 /// Numbers at every bound, as the session of a swap; with zero groups too.
-fn numbers(format: Format) -> Vec<Vec<u8>> {
-    let bounds = [0, 1, 127, 128, 255, 256, 16_383, 16_384, 32_768, 65_535];
-    let too_large = [65_536, 65_537, 131_072, MAX_IN_THREE, MAX_IN_THREE + 1];
+fn numbers(format: Format, limits: Limits) -> Vec<Vec<u8>> {
+    let most = u32::from(limits.sessions);
+    let mut bounds = vec![0, 1, 127, 128, 255, 256, 16_383, 16_384, 32_768, 65_535];
+    bounds.extend([65_536, 65_537, 131_072, MAX_IN_THREE, MAX_IN_THREE + 1]);
+    bounds.extend([most, most + 1, most + 256]);
     let mut sheets = Vec::new();
-    for number in bounds.into_iter().chain(too_large) {
+    for number in in_order(bounds) {
         let swap = vec![vec![1, 1, 1], vec![3, 1, 1, number], vec![1, 1, 1, 1]];
         let swap = in_format(swap, format);
         let session = swap[0].len() + 3;
@@ -159,20 +177,22 @@ fn other_first_numbers() -> Vec<Vec<u8>> {
 }
 
 /// A sheet of edition 1 with each step, accepted and refused, and repeats.
-fn numbers_of_every_step() -> Numbers {
+fn numbers_of_every_step(limits: Limits) -> Numbers {
+    let screens = u32::from(limits.screens.min(2));
+    let most = u32::from(limits.sessions);
     let records: [&[u32]; 21] = [
-        &[2, 2, 2],
+        &[2, screens, 2],
         &[3, 1, 2, 0],
         &[3, 1, 2, 300],
         &[3, 2, 2, 300],
         &[1, 2, 1, 2],
         &[1, 2, 1, 2],
         &[1, 2, 2, 1],
-        &[3, 1, 2, 65_535],
-        &[3, 1, 2, 65_535],
+        &[3, 1, 2, most],
+        &[3, 1, 2, most],
         &[3, 1, 1, 7],
         &[4, 1],
-        &[3, 1, 2, 65_535],
+        &[3, 1, 2, most],
         &[4, 1],
         &[5, 1],
         &[5, 1],
@@ -186,34 +206,48 @@ fn numbers_of_every_step() -> Numbers {
     records.map(<[u32]>::to_vec).to_vec()
 }
 
-/// Each step, with all numbers from P on in at least `least_groups` groups.
-fn every_step(format: Format, least_groups: usize) -> Vec<u8> {
+/// The sheet, with all numbers from P on in at least `least_groups` groups.
+fn padded(format: Format, numbers: &Numbers, least_groups: usize) -> Vec<u8> {
     let first = format.first_numbers().len();
-    let numbers = in_format(numbers_of_every_step(), format);
-    in_groups(&numbers, |at| if at < first { 1 } else { least_groups })
+    in_groups(numbers, |at| if at < first { 1 } else { least_groups })
 }
 
-/// Each step, with one number that is too large: each of them in turn.
-fn too_large(format: Format) -> Vec<Vec<u8>> {
-    let numbers = in_format(numbers_of_every_step(), format);
+/// The sheet with one number changed: each of them in turn.
+fn with_one_changed(numbers: &Numbers, change: impl Fn(u32) -> u32) -> Vec<Numbers> {
+    let changed = |at| {
+        let mut numbers = numbers.clone();
+        let number = numbers.iter_mut().flatten().nth(at).expect("a number");
+        *number = change(*number);
+        numbers
+    };
+    (0..numbers.iter().flatten().count()).map(changed).collect()
+}
+
+/// One number is too large for any field; those after it may be padded.
+fn too_large(numbers: &Numbers) -> Vec<Vec<u8>> {
     let mut sheets = Vec::new();
-    for bad in 0..numbers.iter().flatten().count() {
+    for (bad, numbers) in with_one_changed(numbers, |number| number + 65_536).iter().enumerate() {
         for least_groups in 1..=3 {
-            let mut numbers = numbers.clone();
-            *numbers.iter_mut().flatten().nth(bad).expect("a number") += 65_536;
-            sheets.push(in_groups(&numbers, |at| if at > bad { least_groups } else { 1 }));
+            sheets.push(in_groups(numbers, |at| if at > bad { least_groups } else { 1 }));
         }
     }
     sheets
 }
 
-/// Each step, with one number in more groups than the others: each of them in turn.
-fn one_padded(format: Format) -> Vec<Vec<u8>> {
-    let numbers = in_format(numbers_of_every_step(), format);
+/// One number is the largest session of the room, or one more: a session is then
+/// too large, another number need not be.
+fn around_a_session(numbers: &Numbers, limits: Limits) -> Vec<Vec<u8>> {
+    let most = u32::from(limits.sessions);
+    let sheets = [most, most + 1].into_iter().flat_map(|to| with_one_changed(numbers, |_| to));
+    sheets.map(|numbers| shortest(&numbers)).collect()
+}
+
+/// One number has more groups than the others: each of them in turn.
+fn one_padded(numbers: &Numbers) -> Vec<Vec<u8>> {
     let mut sheets = Vec::new();
     for padded in 0..numbers.iter().flatten().count() {
         for least_groups in 2..=4 {
-            sheets.push(in_groups(&numbers, |at| if at == padded { least_groups } else { 1 }));
+            sheets.push(in_groups(numbers, |at| if at == padded { least_groups } else { 1 }));
         }
     }
     sheets
@@ -221,9 +255,10 @@ fn one_padded(format: Format) -> Vec<Vec<u8>> {
 
 /// Sheets whose last number is bad, at an offset that needs 9 or 16 bits, and
 /// at the end of the longest sheet, where it needs 17.
-fn deep(format: Format) -> Vec<Vec<u8>> {
+fn deep(format: Format, limits: Limits) -> Vec<Vec<u8>> {
     let mut ends: Vec<Vec<u8>> = vec![vec![0x80], vec![0x80, 0x80], vec![0x80, 0x80, 0x04]];
     ends.push(vec![0x85, 0x00, 1]);
+    ends.push(shortest(&vec![vec![3, 2, 1, u32::from(limits.sessions) + 1]]));
     for step in STEPS {
         ends.extend(bad_ends(step));
         if format.has_shorthand() {
@@ -274,23 +309,31 @@ fn around_the_longest() -> [usize; 7] {
     ]
 }
 
-fn long() -> Vec<Vec<u8>> {
+fn long(limits: Limits) -> Vec<Vec<u8>> {
+    let largest = [limits.desks, limits.screens, limits.positions].map(|most| most as u8);
+    let [last_desk, last_screen, last_position] = largest;
+    let desk = last_desk.min(7);
+    let padded_header = [last_desk | 0x80, 0x00, last_screen, last_position];
+    let mut with_padded_code = vec![3, last_desk, last_position];
+    put(&mut with_padded_code, limits.sessions.into(), 1);
+    with_padded_code.extend([0x84, 0x80, 0x00, last_desk]);
+    let steps = [
+        &[3, desk, last_position, 9][..],
+        &[1, last_desk, last_screen, last_position],
+        &[4, desk],
+        &[3, desk, last_position, 8],
+        &[4, desk],
+        &[2, last_desk, last_screen],
+        &[5, desk],
+    ];
     let mut sheets = Vec::new();
     for bytes in around_the_longest() {
         sheets.push(filled(&[1, 1, 1], &[5], bytes));
         sheets.push(filled(&[1, 1, 1], &[5, 1], bytes));
-        sheets.push(filled(&[16, 4, 64], &[5, 16], bytes));
-        sheets.push(filled(
-            &[16, 4, 64],
-            &[3, 7, 64, 9, 1, 16, 4, 64, 4, 7, 3, 7, 64, 8, 4, 7, 2, 16, 4, 5, 7],
-            bytes,
-        ));
-        sheets.push(filled(&[0x90, 0x00, 4, 64], &[0x85, 0x00, 0x90, 0x00], bytes));
-        sheets.push(filled(
-            &[16, 4, 64],
-            &[3, 16, 64, 0xFF, 0xFF, 0x03, 0x84, 0x80, 0x00, 16],
-            bytes,
-        ));
+        sheets.push(filled(&largest, &[5, last_desk], bytes));
+        sheets.push(filled(&largest, &steps.concat(), bytes));
+        sheets.push(filled(&padded_header, &[0x85, 0x00, last_desk | 0x80, 0x00], bytes));
+        sheets.push(filled(&largest, &with_padded_code, bytes));
         // Two desks in turn: in edition 2 these are two bytes longer.
         sheets.push(filled(&[2, 1, 1], &[5, 1, 5, 2], bytes));
         sheets.push(filled(&[2, 1, 1, 2, 2, 1], &[5, 1, 5, 2], bytes));

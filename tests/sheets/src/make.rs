@@ -1,11 +1,13 @@
 //! Random sheets: histories that lead to all refusals; the same with padded
-//! numbers, truncated or damaged, or wrong about edition 2; and random bytes.
+//! numbers, truncated or damaged, wrong about edition 2, or with sessions over the
+//! limit of the training room; and random bytes.
 
 use crate::bytes::MAX_IN_THREE;
 use crate::damage::{cut, damage};
 use crate::numbers::{in_format, in_groups, leave_desk_out, shortest, Numbers, TO_SHORTHAND};
 use crate::rng::Rng;
 use reference::sheet::Format;
+use reference::Limits;
 
 #[derive(Clone, Copy)]
 enum Kind {
@@ -20,6 +22,7 @@ enum Kind {
     DeskWrittenOut,
     ShorthandAtFirst,
     OtherFirstNumbers,
+    SessionOverLimit,
 }
 
 /// The kinds of sheets, and how many of 32 are of each.
@@ -38,14 +41,18 @@ const KINDS: [(Kind, usize); 8] = [
 const KINDS_OF_EDITION_2: [(Kind, usize); 3] =
     [(Kind::DeskWrittenOut, 3), (Kind::ShorthandAtFirst, 3), (Kind::OtherFirstNumbers, 2)];
 
-/// The sheet of this number under this seed, for a program that reads this format.
-pub fn sheet(format: Format, seed: u64, number: u64) -> Vec<u8> {
+/// The same in the training room.
+const KINDS_OF_TRAINING: [(Kind, usize); 1] = [(Kind::SessionOverLimit, 3)];
+
+/// The sheet of this number under this seed, for a program that reads this format in
+/// a room of these limits.
+pub fn sheet(format: Format, limits: Limits, seed: u64, number: u64) -> Vec<u8> {
     let rng = &mut Rng::of_case(seed, number);
-    match any_kind(rng, format) {
+    match any_kind(rng, format, limits) {
         Kind::AnyBytes => (0..rng.below(40)).map(|_| rng.word() as u8).collect(),
         Kind::SmallBytes => (0..rng.below(60)).map(|_| rng.below(8) as u8).collect(),
         kind => {
-            let numbers = any_numbers(rng, format, kind);
+            let numbers = any_numbers(rng, format, limits, kind);
             let sheet = encoded(rng, format, &numbers);
             match kind {
                 Kind::Cut => cut(rng, sheet),
@@ -56,20 +63,27 @@ pub fn sheet(format: Format, seed: u64, number: u64) -> Vec<u8> {
     }
 }
 
-fn any_kind(rng: &mut Rng, format: Format) -> Kind {
-    let more = if format.has_shorthand() { &KINDS_OF_EDITION_2[..] } else { &[] };
-    let kinds: Vec<Kind> =
-        KINDS.iter().chain(more).flat_map(|&(kind, share)| vec![kind; share]).collect();
+fn any_kind(rng: &mut Rng, format: Format, limits: Limits) -> Kind {
+    let mut kinds = KINDS.to_vec();
+    if format.has_shorthand() {
+        kinds.extend(KINDS_OF_EDITION_2);
+    }
+    if limits == Limits::TRAINING {
+        kinds.extend(KINDS_OF_TRAINING);
+    }
+    let kinds: Vec<Kind> = kinds.iter().flat_map(|&(kind, share)| vec![kind; share]).collect();
     rng.pick(&kinds)
 }
 
 /// The numbers of a sheet, with what its kind has in place of a history.
-fn any_numbers(rng: &mut Rng, format: Format, kind: Kind) -> Numbers {
+fn any_numbers(rng: &mut Rng, format: Format, limits: Limits, kind: Kind) -> Numbers {
+    let history = history(rng, limits);
     let numbers = match kind {
-        Kind::NumberTooLarge => with_a_number_too_large(rng),
-        Kind::CodeOutOfRange => with_a_code_out_of_range(rng),
-        Kind::AnyHeader => any_header(rng),
-        _ => history(rng),
+        Kind::NumberTooLarge => with_a_number_too_large(rng, history),
+        Kind::CodeOutOfRange => with_a_code_out_of_range(rng, history),
+        Kind::AnyHeader => with_any_header(rng, limits, history),
+        Kind::SessionOverLimit => with_a_session_over_the_limit(rng, limits, history),
+        _ => history,
     };
     let numbers = in_format(numbers, format);
     match kind {
@@ -128,27 +142,31 @@ fn many_padded(rng: &mut Rng, numbers: &Numbers, times: usize) -> Vec<u8> {
 }
 
 /// Halls of all sizes, mostly small: there a few steps are enough to interact.
-fn any_hall(rng: &mut Rng) -> Hall {
-    let most = match rng.below(16) {
+fn any_hall(rng: &mut Rng, limits: Limits) -> Hall {
+    let [most_desks, most_screens, most_positions] = match rng.below(16) {
         0 => [1, 1, 1],
         1 => [16, 4, 64],
         2..=4 => [8, 3, 12],
         _ => [4, 2, 3],
     };
-    let [desks, screens, positions] = most.map(|most| one_of(rng, most));
-    Hall { desks, screens, positions }
+    Hall {
+        desks: one_of(rng, most_desks.min(limits.desks.into())),
+        screens: one_of(rng, most_screens.min(limits.screens.into())),
+        positions: one_of(rng, most_positions.min(limits.positions.into())),
+    }
 }
 
 /// A header and records. There are few desks and few sessions, and each sheet
 /// has its own mixture of steps, so that lists become full and copies marked.
-fn history(rng: &mut Rng) -> Numbers {
-    let hall = any_hall(rng);
+fn history(rng: &mut Rng, limits: Limits) -> Numbers {
+    let hall = any_hall(rng, limits);
     let mut desks: Vec<u32> = (0..rng.within(1, 3)).map(|_| one_of(rng, hall.desks)).collect();
     if rng.one_in(8) {
         desks.push(number(rng, hall.desks));
     }
-    let any = u32::from(rng.word()).max(1);
-    let sessions = rng.pick(&[[5, 5, 0], [5, 6, 7], [300, 7, any], [0x0105, 0x0501, 5]]);
+    let most = u32::from(limits.sessions);
+    let any = one_of(rng, most);
+    let sessions = rng.pick(&[[5, 5, 0], [5, 6, 7], [300, most, any], [0x0103, 0x0301, 3]]);
     let shares = [(); 3].map(|_| rng.pick(&[1, 4, 10]));
     let most = rng.pick(&[4, 12, 12, 40, 120]);
     let records = rng.within(1, most);
@@ -217,8 +235,7 @@ fn any_place(rng: &mut Rng, numbers: &Numbers) -> (usize, usize) {
 }
 
 /// Just over 65,535, anything over it, or more than three bytes long.
-fn with_a_number_too_large(rng: &mut Rng) -> Numbers {
-    let mut numbers = history(rng);
+fn with_a_number_too_large(rng: &mut Rng, mut numbers: Numbers) -> Numbers {
     let (record, at) = any_place(rng, &numbers);
     let now = numbers[record][at];
     let over = rng.within(65_536, MAX_IN_THREE as usize) as u32;
@@ -226,8 +243,20 @@ fn with_a_number_too_large(rng: &mut Rng) -> Numbers {
     numbers
 }
 
-fn with_a_code_out_of_range(rng: &mut Rng) -> Numbers {
-    let mut numbers = history(rng);
+/// The session of a swap is just over the limit, or anything over it. Nothing changes
+/// where no desk swaps.
+fn with_a_session_over_the_limit(rng: &mut Rng, limits: Limits, mut numbers: Numbers) -> Numbers {
+    let swaps: Vec<usize> = (1..numbers.len()).filter(|&at| numbers[at][0] == 3).collect();
+    if !swaps.is_empty() {
+        let session = &mut numbers[rng.pick(&swaps)][3];
+        let most = u32::from(limits.sessions);
+        let over = rng.within(most as usize + 1, 65_535) as u32;
+        *session = rng.pick(&[most + 1, most + 1, *session + 1_024, over, 65_535]);
+    }
+    numbers
+}
+
+fn with_a_code_out_of_range(rng: &mut Rng, mut numbers: Numbers) -> Numbers {
     let record = rng.within(1, numbers.len() - 1);
     let now = numbers[record][0];
     let any = u32::from(rng.word()).max(6);
@@ -235,12 +264,13 @@ fn with_a_code_out_of_range(rng: &mut Rng) -> Numbers {
     numbers
 }
 
-/// A header of any numbers, with or without records after it.
-fn any_header(rng: &mut Rng) -> Numbers {
-    let mut numbers = history(rng);
-    for (at, most) in [16, 4, 64].into_iter().enumerate() {
+/// A header of any numbers, around the limits of the hall and of the room, with or
+/// without records after it.
+fn with_any_header(rng: &mut Rng, limits: Limits, mut numbers: Numbers) -> Numbers {
+    let Limits { desks, screens, positions, .. } = rng.pick(&[Limits::HALL, limits]);
+    for (at, most) in [desks, screens, positions].into_iter().enumerate() {
         if rng.one_in(2) {
-            numbers[0][at] = number(rng, most);
+            numbers[0][at] = number(rng, most.into());
         }
     }
     if rng.one_in(4) {

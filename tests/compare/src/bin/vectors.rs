@@ -115,7 +115,7 @@ impl FromStr for Vector {
         let [text, table, answer, after] = fields[..] else {
             return Err(format!("{} fields, not 4", fields.len()));
         };
-        let call = board_call(text)?;
+        let call = text.parse()?;
         let table = bytes(table)?;
         let answer = numbers(answer)?;
         // `=` is a table that has not changed. A call cannot change its length.
@@ -125,11 +125,6 @@ impl FromStr for Vector {
         }
         Ok(Vector { text: text.into(), call, table, answer, after })
     }
-}
-
-fn board_call(text: &str) -> Result<Call, String> {
-    let call = text.strip_prefix("board_").ok_or("not a call of the board".to_string());
-    call.and_then(str::parse).map_err(|error| format!("{text}: {error}"))
 }
 
 /// The answer of a reply number and a session.

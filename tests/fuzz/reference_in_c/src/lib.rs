@@ -1,38 +1,41 @@
 //! The reference under C names of its own, so that a harness in C can make the
 //! same call on it and on the archive. The header is ../reference_in_c.h.
 
-use reference::answer;
 use reference::sheet::{printed, Conversion, Format};
+use reference::{answer, Limits};
 use std::slice;
 
-/// A call: 0 to 5 are open, take, drop, swap, retire and collect, with the
-/// numbers that they have, in the order of the header.
+/// A call: rooms 0 and 1 are the hall and the training room; functions 0 to 5 are
+/// open, take, drop, swap, retire and collect, with the numbers that they have, in
+/// the order of the header.
 ///
 /// # Safety
 /// `table` points to `bytes` bytes, or `bytes` is 0.
 #[no_mangle]
 pub unsafe extern "C" fn reference_call(
+    room: u8,
     function: u8,
     numbers: *const [u16; 3],
     table: *mut u8,
     bytes: usize,
 ) -> u32 {
+    let limits = if room == 0 { Limits::HALL } else { Limits::TRAINING };
     let [a, b, c] = *numbers;
     let table = if bytes == 0 { &mut [] } else { slice::from_raw_parts_mut(table, bytes) };
     answer(match function {
-        0 => reference::open(a, b, c, table),
-        1 => reference::take(a, b, c, table),
-        2 => reference::drop(a, b, table),
-        3 => reference::swap(a, b, c, table),
-        4 => reference::retire(a, table),
-        5 => reference::collect(a, table),
+        0 => reference::open(limits, a, b, c, table),
+        1 => reference::take(limits, a, b, c, table),
+        2 => reference::drop(limits, a, b, table),
+        3 => reference::swap(limits, a, b, c, table),
+        4 => reference::retire(limits, a, table),
+        5 => reference::collect(limits, a, table),
         _ => unreachable!("six functions"),
     })
 }
 
 /// What a sheet program writes, valid until the next call; its length goes to
-/// `length`. Programs 0 to 4 are day_sheet, day_sheet_2, shorten_sheet, to_edition_2
-/// and to_edition_1.
+/// `length`. Programs 0 to 5 are day_sheet, day_sheet_2, training_sheet,
+/// shorten_sheet, to_edition_2 and to_edition_1.
 ///
 /// # Safety
 /// `sheet` points to `bytes` bytes; one thread calls this.
@@ -46,12 +49,13 @@ pub unsafe extern "C" fn reference_output(
     static mut OUTPUT: Vec<u8> = Vec::new();
     let sheet = slice_of(sheet, bytes);
     let output = match program {
-        0 => printed(sheet, Format::Edition1),
-        1 => printed(sheet, Format::Edition2),
-        2 => Conversion::SHORTEN.output(sheet),
-        3 => Conversion::TO_EDITION_2.output(sheet),
-        4 => Conversion::TO_EDITION_1.output(sheet),
-        _ => unreachable!("five programs"),
+        0 => printed(sheet, Format::Edition1, Limits::HALL),
+        1 => printed(sheet, Format::Edition2, Limits::HALL),
+        2 => printed(sheet, Format::Edition1, Limits::TRAINING),
+        3 => Conversion::SHORTEN.output(sheet),
+        4 => Conversion::TO_EDITION_2.output(sheet),
+        5 => Conversion::TO_EDITION_1.output(sheet),
+        _ => unreachable!("six programs"),
     };
     keep(output, &raw mut OUTPUT, length)
 }

@@ -5,9 +5,9 @@
 //! rewrites each in shortest form, with the same meaning record by record,
 //! refusing what the old reader refused. A refused sheet .. gives only a line:
 //! the number, a space, its offset or 0." Job 4: "Converting refuses what ends a
-//! reading, and an output over 65,536 bytes is 18."
+//! reading, and an output over 65,536 bytes is 18." These sheets are the hall's.
 
-use super::super::Hall;
+use super::super::{Hall, Limits};
 use super::line::{print_columns, Columns};
 use super::number::{write_number, Fault};
 use super::record::{read_fields, write_record, Code, DESK};
@@ -42,14 +42,14 @@ impl Conversion {
         let mut reader = begin(sheet, self.from)?;
         let header = read_header(&mut reader)?;
         let [desks, screens, positions] = header;
-        Hall::new(desks, screens, positions)?;
+        Hall::new(Limits::HALL, desks, screens, positions)?;
         let mut converted = Vec::with_capacity(sheet.len());
         let numbers = self.to.first_numbers().iter().copied().chain(header);
         numbers.for_each(|number| write_number(&mut converted, number));
         let mut desk_before = None;
         while !reader.at_end() {
             let code = Code::of_number(reader.number()?, self.from)?;
-            let fields = read_fields(code, desk_before, &mut reader)?;
+            let fields = read_fields(code, desk_before, Limits::HALL, &mut reader)?;
             write_record(&mut converted, self.to, code.step, desk_before, fields);
             desk_before = Some(fields[DESK]);
         }

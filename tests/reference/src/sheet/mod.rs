@@ -7,7 +7,8 @@
 //! offset as in Job 2". Job 4: "20 for a shorthand code in the first record or a
 //! desk written out though unchanged, 21 for a first number other than 0 or an
 //! edition other than 2, each straight after that number is read; 17 for codes
-//! outside both ranges; 20 after the record's fields."
+//! outside both ranges; 20 after the record's fields." Job 5: "16 for a session over
+//! the caller's limit in a sheet"; so only the opening of a sheet can get 22.
 
 mod convert;
 mod format;
@@ -26,7 +27,7 @@ pub use self::tally::Tally;
 
 use self::line::{print_end, print_line};
 use self::record::{read_fields, step, Code, DESK};
-use super::open;
+use super::{open, Limits};
 
 /// The longest sheet that is read.
 pub const MAX_BYTES: usize = 65_536;
@@ -35,9 +36,9 @@ pub const MAX_BYTES: usize = 65_536;
 /// with 4, and no step after it with 5.
 const TABLE_BYTES: usize = 2 * 2387;
 
-/// All lines of a sheet, the last one included.
-pub fn printed(sheet: &[u8], format: Format) -> Vec<u8> {
-    let mut run = Run::new();
+/// All lines of a sheet, the last one included, in a room of these limits.
+pub fn printed(sheet: &[u8], format: Format, limits: Limits) -> Vec<u8> {
+    let mut run = Run::new(limits);
     if let Err(Stop { code, columns }) = run.whole(sheet, format) {
         run.line(code, columns);
     }
@@ -77,6 +78,7 @@ fn stop_at<Reason: Into<Columns>>(code: u16) -> impl Fn(Reason) -> Stop {
 
 /// The state of reading a sheet.
 struct Run {
+    limits: Limits,
     table: [u8; TABLE_BYTES],
     /// The current record; the header is record 0.
     record: u32,
@@ -87,8 +89,9 @@ struct Run {
 }
 
 impl Run {
-    fn new() -> Run {
+    fn new(limits: Limits) -> Run {
         Run {
+            limits,
             table: [0; TABLE_BYTES],
             record: 0,
             desk_before: None,
@@ -110,7 +113,7 @@ impl Run {
     /// All three numbers are read before the opening asks its questions.
     fn header(&mut self, reader: &mut Reader) -> Result<(), Stop> {
         let [desks, screens, positions] = read_header(reader).map_err(stop_at(0))?;
-        let reply = open(desks, screens, positions, &mut self.table);
+        let reply = open(self.limits, desks, screens, positions, &mut self.table);
         reply.map_err(stop_at(0))?;
         self.line(0, reply.into());
         Ok(())
@@ -122,9 +125,10 @@ impl Run {
     fn one_record(&mut self, reader: &mut Reader) -> Result<(), Stop> {
         let number = reader.number().map_err(stop_at(0))?;
         let code = Code::of_number(number, reader.format()).map_err(stop_at(number))?;
-        let fields = read_fields(code, self.desk_before, reader).map_err(stop_at(code.step))?;
+        let fields =
+            read_fields(code, self.desk_before, self.limits, reader).map_err(stop_at(code.step))?;
         self.desk_before = Some(fields[DESK]);
-        let reply = step(code.step, fields, &mut self.table);
+        let reply = step(self.limits, code.step, fields, &mut self.table);
         self.tally.count(code.step, reply);
         self.line(code.step, reply.into());
         Ok(())

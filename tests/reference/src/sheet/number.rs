@@ -46,20 +46,27 @@ impl<'a> Reader<'a> {
         self.next == self.sheet.len()
     }
 
-    /// Asks 15 and 16, then 19.
+    /// A number up to 65,535.
     pub fn number(&mut self) -> Result<u16, Fault> {
+        self.number_up_to(u16::MAX)
+    }
+
+    /// A number up to the limit of the caller. Asks 15 and 16, then 19.
+    pub fn number_up_to(&mut self, most: u16) -> Result<u16, Fault> {
         let offset = self.next;
         let mut number = 0;
         for group in 0..MAX_GROUPS {
             let byte = self.byte().ok_or(Fault::SheetShort { offset })?;
             number |= u32::from(byte & 0x7F) << (7 * group);
             if byte & 0x80 == 0 {
-                let number = u16::try_from(number).map_err(|_| Fault::BadNumber { offset })?;
+                if number > u32::from(most) {
+                    return Err(Fault::BadNumber { offset });
+                }
                 let is_padded = byte == 0 && group > 0;
                 if is_padded && !self.format.allows_padding() {
                     return Err(Fault::Padded { offset });
                 }
-                return Ok(number);
+                return Ok(number as u16);
             }
         }
         Err(Fault::BadNumber { offset })

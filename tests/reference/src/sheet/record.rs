@@ -1,6 +1,6 @@
 //! A record: the code of a step, and the fields that follow it.
 
-use super::super::{collect, drop, retire, swap, take, Reply};
+use super::super::{collect, drop, retire, swap, take, Limits, Reply};
 use super::number::{write_number, Fault, Reader};
 use super::Format;
 
@@ -65,16 +65,19 @@ impl Code {
     }
 }
 
-/// Asks 20 once all fields are read.
+/// Asks 20 once all fields are read. Document 01, for Job 5: "Only a session is
+/// read against 999; other numbers keep 65,535."
 pub fn read_fields(
     code: Code,
     desk_before: Option<u16>,
+    limits: Limits,
     reader: &mut Reader,
 ) -> Result<Fields, Fault> {
+    let largest = [u16::MAX, u16::MAX, u16::MAX, limits.sessions];
     let mut fields = [0; 4];
-    for (field, follows) in fields.iter_mut().zip(code.follows()) {
+    for ((field, follows), most) in fields.iter_mut().zip(code.follows()).zip(largest) {
         if follows {
-            *field = reader.number()?;
+            *field = reader.number_up_to(most)?;
         }
     }
     if code.is_shorthand {
@@ -108,12 +111,17 @@ pub fn write_record(
 }
 
 /// Does the step on the board. Precondition: the code is 1 to 5.
-pub fn step(code: u16, [desk, screen, position, session]: Fields, table: &mut [u8]) -> Reply {
+pub fn step(
+    limits: Limits,
+    code: u16,
+    [desk, screen, position, session]: Fields,
+    table: &mut [u8],
+) -> Reply {
     match code {
-        TAKE => take(desk, screen, position, table),
-        DROP => drop(desk, screen, table),
-        SWAP => swap(desk, position, session, table),
-        RETIRE => retire(desk, table),
-        _ => collect(desk, table),
+        TAKE => take(limits, desk, screen, position, table),
+        DROP => drop(limits, desk, screen, table),
+        SWAP => swap(limits, desk, position, session, table),
+        RETIRE => retire(limits, desk, table),
+        _ => collect(limits, desk, table),
     }
 }

@@ -2,9 +2,10 @@
 
 #![allow(dead_code)] // each test file uses its own part of this
 
-use reference::{place, set_word, word, Hall, Reply};
+use reference::{place, set_word, word, Hall, Limits, Reply};
 
 pub struct Board {
+    pub limits: Limits,
     pub hall: Hall,
     pub table: Vec<u8>,
 }
@@ -25,38 +26,49 @@ pub fn list(ready: u16, tested: u16, waiting: u16, sessions: &[u16]) -> List {
 impl Board {
     /// A hall after its opening, in a table of exactly the need.
     pub fn open(desks: u16, screens: u16, positions: u16) -> Board {
-        let hall = Hall::new(desks, screens, positions).expect("a hall within the limits");
+        Board::open_in(Limits::HALL, desks, screens, positions)
+    }
+
+    /// The same in a room of these limits.
+    pub fn open_in(limits: Limits, desks: u16, screens: u16, positions: u16) -> Board {
+        let hall = Hall::new(limits, desks, screens, positions).expect("a hall within the limits");
         let mut table = vec![0xAA; 2 * hall.need()];
-        assert_eq!(reference::open(desks, screens, positions, &mut table), Ok(0));
-        Board { hall, table }
+        assert_eq!(reference::open(limits, desks, screens, positions, &mut table), Ok(0));
+        Board { limits, hall, table }
+    }
+
+    /// Two of them: one in the hall, one in the training room.
+    pub fn open_in_both_rooms(desks: u16, screens: u16, positions: u16) -> [Board; 2] {
+        [Limits::HALL, Limits::TRAINING]
+            .map(|limits| Board::open_in(limits, desks, screens, positions))
     }
 
     pub fn take(&mut self, desk: u16, screen: u16, position: u16) -> Reply {
-        self.step(|table| reference::take(desk, screen, position, table))
+        self.step(|limits, table| reference::take(limits, desk, screen, position, table))
     }
 
     pub fn drop(&mut self, desk: u16, screen: u16) -> Reply {
-        self.step(|table| reference::drop(desk, screen, table))
+        self.step(|limits, table| reference::drop(limits, desk, screen, table))
     }
 
     pub fn swap(&mut self, desk: u16, position: u16, session: u16) -> Reply {
-        self.step(|table| reference::swap(desk, position, session, table))
+        self.step(|limits, table| reference::swap(limits, desk, position, session, table))
     }
 
     pub fn retire(&mut self, desk: u16) -> Reply {
-        self.step(|table| reference::retire(desk, table))
+        self.step(|limits, table| reference::retire(limits, desk, table))
     }
 
     pub fn collect(&mut self, desk: u16) -> Reply {
-        self.step(|table| reference::collect(desk, table))
+        self.step(|limits, table| reference::collect(limits, desk, table))
     }
 
     /// Every step leaves a sound table sound; a refusal leaves it unchanged.
-    fn step(&mut self, step: impl FnOnce(&mut [u8]) -> Reply) -> Reply {
+    fn step(&mut self, step: impl FnOnce(Limits, &mut [u8]) -> Reply) -> Reply {
         let before = self.table.clone();
-        let reply = step(&mut self.table);
+        let reply = step(self.limits, &mut self.table);
         match reply {
-            Ok(_) => assert!(reference::is_sound(&self.table)),
+            Ok(_) => assert!(reference::is_sound(self.limits, &self.table)),
             Err(_) => assert_eq!(self.table, before),
         }
         reply

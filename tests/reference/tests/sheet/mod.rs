@@ -4,6 +4,7 @@
 
 use reference::sheet::Format::{self, Edition1};
 use reference::sheet::{printed, Fault, Reader};
+use reference::Limits;
 
 pub const CASE_D: [u8; 27] = [
     0x01, 0x01, 0x01, 0x03, 0x01, 0x01, 0xAC, 0x02, 0x01, 0x01, 0x01, 0x01, 0x03, 0x01, 0x01, 0x07,
@@ -26,7 +27,12 @@ pub const SMALLEST: [u8; 3] = [1, 1, 1];
 pub const SMALLEST_2: [u8; 5] = [0, 2, 1, 1, 1];
 
 pub fn lines_in(format: Format, sheet: &[u8]) -> String {
-    String::from_utf8(printed(sheet, format)).expect("plain text")
+    lines_in_room(Limits::HALL, format, sheet)
+}
+
+/// The lines of a sheet in a room of these limits.
+pub fn lines_in_room(limits: Limits, format: Format, sheet: &[u8]) -> String {
+    String::from_utf8(printed(sheet, format, limits)).expect("plain text")
 }
 
 pub fn lines(sheet: &[u8]) -> String {

@@ -17,6 +17,7 @@ mod rng;
 #[path = "../../../../compare/src/tables.rs"]
 mod tables;
 
+use call::FUNCTIONS;
 use case::Case;
 use std::path::Path;
 use std::{env, fs};
@@ -43,7 +44,8 @@ fn input(case: &Case) -> Vec<u8> {
     input.extend(&case.table[..given]);
     for call in &case.calls {
         let wide = call.numbers.iter().any(|&number| number > 255);
-        input.push(call.function as u8 | if wide { 0x80 } else { 0 });
+        let function = call.room as u8 * FUNCTIONS.len() as u8 + call.function as u8;
+        input.push(function | if wide { 0x80 } else { 0 });
         for number in call.numbers {
             input.extend(&number.to_le_bytes()[..if wide { 2 } else { 1 }]);
         }

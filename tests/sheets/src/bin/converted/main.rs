@@ -11,6 +11,7 @@
 mod tally;
 
 use reference::sheet::{printed, Conversion, Format};
+use reference::Limits;
 use sheets::{
     first_difference_in_bytes, first_difference_in_lines, fixed_sheets, run_comparison, sheet,
     Comparison, InputMode, Output, Runner,
@@ -48,11 +49,11 @@ impl Comparison for Converter {
     }
 
     fn fixed_sheets(&self) -> Vec<Vec<u8>> {
-        fixed_sheets(self.conversion.from)
+        fixed_sheets(self.conversion.from, Limits::HALL)
     }
 
     fn make_sheet(&self, seed: u64, number: u64) -> Vec<u8> {
-        sheet(self.conversion.from, seed, number)
+        sheet(self.conversion.from, Limits::HALL, seed, number)
     }
 
     fn tally(&self) -> Outcomes {
@@ -100,7 +101,7 @@ impl Run<'_> {
     /// The lines of a sheet. No program prints those of the archive.
     fn lines(&self, format: Format, sheet: &[u8]) -> Output {
         match format {
-            Format::Archive => Ok(printed(sheet, format)),
+            Format::Archive => Ok(printed(sheet, format, Limits::HALL)),
             Format::Edition1 => self.output("day_sheet", sheet),
             Format::Edition2 => self.output("day_sheet_2", sheet),
         }

@@ -5,11 +5,12 @@
 //!     sheets PROGRAM FOLDER --seed N --sheet N       one of them again
 //!     sheets PROGRAM FOLDER --hex 'BYTES'            a sheet as it was printed
 //!
-//! PROGRAM is day_sheet or day_sheet_2, which is in FOLDER.
+//! PROGRAM is day_sheet, day_sheet_2 or training_sheet, which is in FOLDER.
 
 mod tally;
 
 use reference::sheet::{printed, Format};
+use reference::Limits;
 use sheets::{
     first_difference_in_lines, fixed_sheets, run_comparison, sheet, Comparison, InputMode, Runner,
 };
@@ -24,33 +25,35 @@ fn main() -> ExitCode {
 struct DaySheet {
     program: PathBuf,
     format: Format,
+    limits: Limits,
 }
 
 impl Comparison for DaySheet {
     const NAME: &'static str = "sheets";
-    const PROGRAMS: &'static [&'static str] = &["day_sheet", "day_sheet_2"];
+    const PROGRAMS: &'static [&'static str] = &["day_sheet", "day_sheet_2", "training_sheet"];
     const SHEETS: u64 = 20_000;
 
     type Tally = Lines;
 
     fn new(program: &str, folder: &Path) -> DaySheet {
-        let format = match program {
-            "day_sheet_2" => Format::Edition2,
-            _ => Format::Edition1,
+        let (format, limits) = match program {
+            "day_sheet_2" => (Format::Edition2, Limits::HALL),
+            "training_sheet" => (Format::Edition1, Limits::TRAINING),
+            _ => (Format::Edition1, Limits::HALL),
         };
-        DaySheet { program: folder.join(program), format }
+        DaySheet { program: folder.join(program), format, limits }
     }
 
     fn fixed_sheets(&self) -> Vec<Vec<u8>> {
-        fixed_sheets(self.format)
+        fixed_sheets(self.format, self.limits)
     }
 
     fn make_sheet(&self, seed: u64, number: u64) -> Vec<u8> {
-        sheet(self.format, seed, number)
+        sheet(self.format, self.limits, seed, number)
     }
 
     fn tally(&self) -> Lines {
-        Lines::new(self.format)
+        Lines::new(self.format, self.limits)
     }
 
     fn differences(
@@ -60,8 +63,8 @@ impl Comparison for DaySheet {
         runner: &Runner,
         tally: &mut Lines,
     ) -> Vec<String> {
-        let expected = printed(sheet, self.format);
-        tally.count(&expected);
+        let expected = printed(sheet, self.format, self.limits);
+        tally.count(sheet, &expected);
         let found = runner.run(&self.program, sheet, mode);
         let difference =
             first_difference_in_lines(("reference", &Ok(expected)), ("program", &found));

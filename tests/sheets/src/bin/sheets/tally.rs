@@ -1,11 +1,12 @@
 //! What was compared: the lines, by reply number and by what they answer, and
 //! the offsets that they print.
 
-use reference::sheet::Format;
+use reference::sheet::{Format, Reader};
+use reference::Limits;
 use sheets::{width_of, Tally, WIDTHS};
 use std::fmt;
 
-const NUMBERS: usize = 22;
+const NUMBERS: usize = 23;
 
 /// What a line answers, with the reply numbers that the documents give it. An
 /// opening is never 4, because the program lends enough; no step is ever 5.
@@ -24,7 +25,11 @@ const COLUMNS: [(&str, &[usize]); 8] = [
 const OF_EDITION_2: [&[usize]; COLUMNS.len()] =
     [&[21], &[20], &[20], &[20], &[20], &[20], &[], &[]];
 
+/// Those that only the training room gives. A session over its limit is 16.
+const OF_TRAINING: [&[usize]; COLUMNS.len()] = [&[22], &[], &[], &[], &[], &[], &[], &[]];
+
 const HEADER: usize = 0;
+const SWAP: usize = 3;
 const NO_CODE: usize = 6;
 const BAD_CODE: usize = 7;
 
@@ -35,29 +40,43 @@ type Counts<const KINDS: usize> = [[u64; KINDS]; COLUMNS.len()];
 
 pub struct Lines {
     format: Format,
+    limits: Limits,
     lines: Counts<NUMBERS>,
     offsets: [Counts<{ WIDTHS.len() }>; WITH_OFFSET.len()],
+    /// Swaps with 16 because of a number that the hall would have read.
+    over_limit: u64,
 }
 
 impl Lines {
-    pub fn new(format: Format) -> Lines {
-        Lines { format, lines: Default::default(), offsets: Default::default() }
+    pub fn new(format: Format, limits: Limits) -> Lines {
+        let (lines, offsets) = Default::default();
+        Lines { format, limits, lines, offsets, over_limit: 0 }
+    }
+
+    fn in_training(&self) -> bool {
+        self.limits == Limits::TRAINING
     }
 
     /// The reply numbers that must occur in a column.
     fn required(&self, column: usize) -> impl Iterator<Item = usize> {
-        let more = if self.format.has_shorthand() { OF_EDITION_2[column] } else { &[] };
-        COLUMNS[column].1.iter().chain(more).copied()
+        let of_edition = if self.format.has_shorthand() { OF_EDITION_2[column] } else { &[] };
+        let of_room = if self.in_training() { OF_TRAINING[column] } else { &[] };
+        COLUMNS[column].1.iter().chain(of_edition).chain(of_room).copied()
     }
 
-    /// Counts the lines of the reference. Other output leaves a column empty,
-    /// which is a failure.
-    pub fn count(&mut self, printed: &[u8]) {
+    /// Counts the lines of the reference for a sheet. Other output leaves a column
+    /// empty, which is a failure.
+    pub fn count(&mut self, sheet: &[u8], printed: &[u8]) {
         for line in printed.split(|&byte| byte == b'\n') {
             let words: Option<Vec<usize>> =
                 line.split(|&byte| byte == b' ').map(plain_number).collect();
             if let Some([record, code, number @ ..NUMBERS, session]) = words.as_deref() {
-                self.count_line(column(*record, *code, *number), *number, *session);
+                let column = column(*record, *code, *number);
+                self.count_line(column, *number, *session);
+                if (column, *number) == (SWAP, 16) {
+                    let mut refused = Reader::new(&sheet[*session..], Format::Archive);
+                    self.over_limit += u64::from(refused.number().is_ok());
+                }
             }
         }
     }
@@ -76,6 +95,7 @@ impl Tally for Lines {
         for (offsets, of_other) in self.offsets.iter_mut().zip(&other.offsets) {
             add(offsets, of_other);
         }
+        self.over_limit += other.over_limit;
     }
 
     /// The replies and offsets that a sheet can get, but that never occurred.
@@ -91,6 +111,9 @@ impl Tally for Lines {
                     never.map(|from| format!("{name}: never {number} at an offset from {from}")),
                 );
             }
+        }
+        if self.in_training() && self.over_limit == 0 {
+            missing.push("swap: never a session over the room's limit".to_string());
         }
         missing
     }
@@ -132,7 +155,7 @@ impl fmt::Display for Lines {
             writeln!(out)?;
             table(out, &format!("{number} at"), &WIDTHS, offsets)?;
         }
-        Ok(())
+        write!(out, "\nsessions over the limit: {}", self.over_limit)
     }
 }
 

@@ -1,0 +1,12 @@
+//! Reads a sheet of edition 1 for the training room from standard input and prints
+//! its lines.
+
+use reference::sheet::{printed, run_program, Format};
+use reference::Limits;
+use std::process::ExitCode;
+
+fn main() -> ExitCode {
+    run_program("training_sheet_reference", |sheet| {
+        printed(sheet, Format::Edition1, Limits::TRAINING)
+    })
+}
