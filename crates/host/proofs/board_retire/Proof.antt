@@ -1,0 +1,16 @@
+-- `host::board_retire` meets its contract.
+use borrow.Author.Needs.{needs}
+use Rattle.host.proofs.board_retire.Statement.{statement}
+use Rattle.host.proofs.board_retire.Tie as tie
+
+call-retire-requires : tie.Need-call-retire-requires
+call-retire-requires c κs = search needs
+
+same-length : tie.Need-same-length
+same-length c = search needs
+
+returns : tie.Need-returns
+returns c = c .before .before .call-retire .ensures
+
+pub board-retire-spec : {M : Type 1} → statement M
+board-retire-spec = tie.close (tie.spec call-retire-requires same-length returns)
