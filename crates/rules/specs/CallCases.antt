@@ -8,9 +8,9 @@ use mathlib.Core.List.{List, [], _∷_, _++_, map}
 use lib.ListN.{getD, replicate}
 use lib.Dec.{eqb, ltb}
 use Rattle.rules.specs.Bytes.{Agrees, Call16, Calls16, IsBytes, Words16, bytesOfWords, openBytes, overwriteWords, pack, stepBytes, unpack, wordsOfBytes}
-use Rattle.rules.specs.Cases.{ok, refusedWith, wide}
+use Rattle.rules.specs.Cases.{wide}
 use Rattle.rules.specs.Demands.{Demand1, SwapPromise, footprint, onBytesOf, openingFootprint, openingRefusals, refusals}
-use Rattle.rules.specs.Hall.{Desk, Formed, Hall, Limits, State, emptyDesk, hallLimits, hallOf, marked, unmarked}
+use Rattle.rules.specs.Hall.{Desk, Formed, Hall, State, emptyDesk, hallLimits, hallOf, marked, unmarked}
 use Rattle.rules.specs.Lists.{occurrences, toNat}
 use Rattle.rules.specs.Locality.{OthersStay, SameView, StepsAlike, deskAt, namedWords, positionAt, screenAt, screensRead, mayWritePosition, mayWriteScreen}
 use Rattle.rules.specs.Steps.{Answer, Call, Collect, Drop, Result, Retire, Step, Swap, Take, _sends_, accept, refuse, step}

@@ -5,8 +5,8 @@ use mathlib.Core.List.{List, [], _∷_, map}
 use lib.ListN.{getD, length, replicate}
 use Rattle.rules.specs.Hall.{hallLimits, hallOf}
 use Rattle.rules.specs.Lists.{toNat}
-use Rattle.rules.specs.Numbers.{barred, decodeNumber, parsed, refusal, refusalOf}
-use Rattle.sheet_rules.specs.Edition1.{Format, archiveEdition, decodeHeader, decodeRecord, edition1, encodeHeader, encodeNumber, encodeRecord, hallEdition, trainingEdition}
+use Rattle.rules.specs.Numbers.{decodeNumber, parsed, refusal, refusalOf}
+use Rattle.sheet_rules.specs.Edition1.{archiveEdition, decodeHeader, decodeRecord, encodeHeader, encodeNumber, encodeRecord, hallEdition, trainingEdition}
 use Rattle.sheet_rules.specs.Lines.{decimal, endingLine, line}
 use Rattle.sheet_rules.specs.Sheet.{Carried, Edition, Meaning, Record, Records, complete, encodeSheet, fieldTable, follows, lastDesk, lentTable, more}
 use Rattle.sheet_rules.specs.Sheet.{noDesk, openSheet, opened, openingNumber, reading, recordFor, stop, unopened, whole}

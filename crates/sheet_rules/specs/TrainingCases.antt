@@ -5,7 +5,6 @@ use mathlib.Core.List.{List, [], _∷_, map}
 use Rattle.rules.specs.Hall.{hallLimits, hallOf, trainingLimits}
 use Rattle.rules.specs.History.{numberAt}
 use Rattle.rules.specs.Numbers.{barred, decodeNumber, parsed, refusal, refusalOf}
-use Rattle.rules.specs.Table.{decodeDesk, encodeDesk, openTable, recordSound, sound, stepTable}
 use Rattle.sheet_rules.specs.Edition1.{decodeHeader, decodeRecord, hallEdition, trainingEdition, trainingFormat}
 use Rattle.sheet_rules.specs.Lines.{printed}
 use Rattle.sheet_rules.specs.Offsets.{Located}

@@ -1,5 +1,5 @@
 -- Every edition of the reader is lawful, and its limits are those that it was given.
-use Prim.Native.Nat.{ℕ, _≤_}
+use Prim.Native.Nat.{_≤_}
 use mathlib.Core.Path.{_≡_, refl}
 use Rattle.limits.specs.Room.{limitsOf}
 use Rattle.sheet_rules.specs.Edition1.{Format}

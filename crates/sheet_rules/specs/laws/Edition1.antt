@@ -7,7 +7,7 @@ use mathlib.Core.Bool.{Bool, true, false}
 use mathlib.Core.List.{List, [], _++_}
 use lib.ListN.{length, length-append}
 use Rattle.rules.specs.Bytes.{IsBytes}
-use Rattle.rules.specs.Hall.{Hall, hallLimits, hallOf}
+use Rattle.rules.specs.Hall.{Hall, hallOf}
 use Rattle.rules.specs.Numbers.{Parsed, allowed, barred, maxNumber, parsed, refused}
 use Rattle.rules.specs.laws.history.StepEffects.{in-range}
 use Rattle.rules.specs.laws.table.EncodedStep.{hall-opens, limits-fit}

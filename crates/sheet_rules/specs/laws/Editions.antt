@@ -7,7 +7,7 @@ use mathlib.Core.List.{List, [], _∷_}
 use mathlib.Core.Logic.{_⊎_, inl, inr, ⊎-elim}
 use lib.ListN.{length}
 use borrow.Author.Tests.{lt-ltb}
-use Rattle.rules.specs.Hall.{Hall, hallLimits, hallOf}
+use Rattle.rules.specs.Hall.{Hall, hallOf}
 use Rattle.rules.specs.Numbers.{Parsed, Refusal, bind, maxNumber, parsed, refusalOf, refused}
 use Rattle.rules.specs.laws.table.EncodedStep.{hall-opens, limits-fit}
 use Rattle.sheet_rules.specs.OtherEdition.{HeaderNumberRefused, RefusedHeader}

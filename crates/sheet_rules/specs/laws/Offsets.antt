@@ -9,7 +9,7 @@ use mathlib.Core.Option.{Option, none, some}
 use lib.ListN.{length, take}
 use lib.Dec.{leb, ltb}
 use borrow.Author.Tests.{leb-false, leb-true, ne-eqb}
-use Rattle.rules.specs.Hall.{Hall, Limits, hallLimits}
+use Rattle.rules.specs.Hall.{Hall, Limits}
 use Rattle.rules.specs.Numbers.{Parsed, Refusal, allowed, bind, maxNumber, parsed, refusal, refusalOf, refused}
 use Rattle.rules.specs.Table.{openTable}
 use Rattle.sheet_rules.specs.Edition1.{Format, archiveEdition, archiveFormat}

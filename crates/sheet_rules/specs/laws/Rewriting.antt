@@ -11,7 +11,7 @@ use lib.Dec.{leb, ltb}
 use borrow.Author.Tests.{le-leb, leb-false, leb-true, ltb-true}
 use Rattle.rules.specs.Bytes.{IsBytes}
 use Rattle.rules.specs.Hall.{Hall, Limits, hallLimits}
-use Rattle.rules.specs.Numbers.{Refusal, maxNumber}
+use Rattle.rules.specs.Numbers.{Refusal}
 use Rattle.sheet_rules.specs.Edition1.{Format, archiveEdition, archiveFormat, edition1, hallEdition, hallFormat}
 use Rattle.sheet_rules.specs.Edition2.{Version, editionFor}
 use Rattle.sheet_rules.specs.Lawful.{Exact, Lawful, LawfulNumbers}

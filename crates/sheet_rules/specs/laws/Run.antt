@@ -1,15 +1,13 @@
 -- A sheet that opens: its records are the board's run from an accepted opening, and the lines are those of that run.
 use Prim.Native.Nat.{ℕ, zero, suc, _≤_}
 use native.Mathlib.Omega.{arith}
-use mathlib.Core.Path.{_≡_, refl, sym, ap, _∙_, subst}
-use mathlib.Core.Bool.{Bool, true, false, cond}
+use mathlib.Core.Path.{_≡_, refl, sym, ap, _∙_}
+use mathlib.Core.Bool.{true, false}
 use mathlib.Core.List.{List, _∷_, _++_, append-assoc}
 use mathlib.Core.Option.{none, some}
-use lib.ListN.{length}
-use lib.Dec.{eqb, ltb}
+use lib.Dec.{eqb}
 use borrow.Author.Tests.{le-leb, ne-eqb}
 use Rattle.rules.specs.Hall.{Hall, Limits}
-use Rattle.rules.specs.Numbers.{Parsed, parsed, refused}
 use Rattle.rules.specs.Steps.{Call, Event, Result, accept, run}
 use Rattle.rules.specs.Table.{openTable, openedTable, stepTable}
 use Rattle.rules.specs.laws.history.StepEffects.{in-range}
@@ -17,10 +15,10 @@ use Rattle.rules.specs.laws.table.TableSteps.{accepted-open}
 use Rattle.sheet_rules.specs.Lawful.{Lawful}
 use Rattle.sheet_rules.specs.Lines.{answerLine, endLine, endingLine, eventLines, line, linesFrom, linesOf, printed}
 use Rattle.sheet_rules.specs.Run.{callOf, callsIn, codeOf}
-use Rattle.sheet_rules.specs.Sheet.{Carried, Edition, Record, Records, bindRecords, carriedAfter, complete, decodeRecords, isCode, lentTable, more}
-use Rattle.sheet_rules.specs.Sheet.{noDesk, opened, openingNumber, reading, recordFor, stop}
+use Rattle.sheet_rules.specs.Sheet.{Edition, Record, Records, complete, isCode, lentTable, more}
+use Rattle.sheet_rules.specs.Sheet.{opened, openingNumber, reading, recordFor, stop}
 use Rattle.sheet_rules.specs.Tally.{Tally, addStep, addSteps, countsIn, zeros}
-use Rattle.sheet_rules.specs.laws.Sheet.{opened-from}
+use Rattle.sheet_rules.specs.laws.Sheet.{EachGoodIn, opened-from, opened-good}
 use Rattle.sheet_rules.specs.laws.Tally.{tally-from-zeros}
 
 pub opening-accepted : (edition : Edition) (sheet : List ℕ) (hall : Hall) (records : Records) → reading edition sheet ≡ opened hall records
@@ -28,24 +26,7 @@ pub opening-accepted : (edition : Edition) (sheet : List ℕ) (hall : Hall) (rec
 unfolding openingNumber
 opening-accepted edition sheet hall records e = accepted-open (edition .limits) hall lentTable (opened-from edition sheet hall records e .accepted)
 
--- ---- Each record that is read has a step's code, so the step's code is the record's.
-abbrev EachCode : Records → Type 0
-EachCode complete = Unit {0}
-EachCode (stop reason) = Unit {0}
-EachCode (more entry rest) = (isCode (entry .code) ≡ true) × EachCode rest
-
-each-code : {edition : Edition} → Lawful edition → (most : ℕ) (carried : Carried) (sheet : List ℕ) (at : ℕ)
-    → EachCode (decodeRecords edition most carried sheet at)
-each-code lawful zero carried sheet at = tt
-each-code {edition} lawful (suc most) carried sheet at =
-    by-offset (ltb at (length sheet)) (edition .decodeRecord carried sheet at) refl (λ entry. each-code lawful most (carriedAfter entry) sheet)
-  where
-    by-offset : (inside : Bool) (found : Parsed Record) → edition .decodeRecord carried sheet at ≡ found
-        → ((entry : Record) (next : ℕ) → EachCode (decodeRecords edition most (carriedAfter entry) sheet next))
-        → EachCode (cond inside (bindRecords found (λ entry next. more entry (decodeRecords edition most (carriedAfter entry) sheet next))) complete)
-    by-offset true (parsed entry next) e later = (lawful .record-code carried sheet at entry next e, later entry next)
-    by-offset true (refused reason) e later = tt
-    by-offset false found e later = tt
+-- ---- Each record that is read is good, so it has a step's code, and the step's code is the record's.
 
 -- A record with a step's code asks for a call of that step.
 pub record Asks (entry : Record) : Type 0 where
@@ -98,16 +79,16 @@ lines-of-call limits table index code total entry rest call same later =
     ∙ ap (λ (n : ℕ). answerLine index n (done .answer) ++ (eventLines (suc index) events ++ (endingLine (suc index) rest ++ endLine (addSteps (addStep total n (done .answer)) events)))) (sym same)
     ∙ sym (append-assoc (answerLine index (codeOf (call .step)) (done .answer)) (eventLines (suc index) events) _)
 
-lines-from : (limits : Limits) (table : List ℕ) (index : ℕ) (total : Tally) (records : Records) → EachCode records
+lines-from : (limits : Limits) (table : List ℕ) (index : ℕ) (total : Tally) (records : Records) → EachGoodIn (limits .sessions) records
     → linesFrom limits table index total records ≡ runLines limits table index total records (callsIn records)
-lines-from limits table index total complete codes = refl
-lines-from limits table index total (stop reason) codes = refl
-lines-from limits table index total (more entry rest) codes =
-    let asks : Asks entry = record-asks entry (codes .0) in
+lines-from limits table index total complete good = refl
+lines-from limits table index total (stop reason) good = refl
+lines-from limits table index total (more entry rest) good =
+    let asks : Asks entry = record-asks entry (good .0 .code) in
     let next : Result (List ℕ) = stepTable limits table (asks .call) in
     simp (asks .asked)
     (lines-of-call limits table index (entry .code) total entry rest (asks .call) (asks .sameCode)
-    (lines-from limits (next .after) (suc index) (addStep total (entry .code) (next .answer)) rest (codes .1)))
+    (lines-from limits (next .after) (suc index) (addStep total (entry .code) (next .answer)) rest (good .1)))
 
 pub lines-of-run : {edition : Edition} → Lawful edition → (sheet : List ℕ) (hall : Hall) (records : Records)
     → reading edition sheet ≡ opened hall records
@@ -118,7 +99,7 @@ pub lines-of-run : {edition : Edition} → Lawful edition → (sheet : List ℕ)
 unfolding printed
 lines-of-run {edition} lawful sheet hall records e =
     ap (linesOf (edition .limits)) e
-    ∙ ap (λ (lines : List ℕ). answerLine 0 0 (openTable (edition .limits) hall lentTable .answer) ++ lines) (lines-from (edition .limits) table 1 zeros records codes)
+    ∙ ap (λ (lines : List ℕ). answerLine 0 0 (openTable (edition .limits) hall lentTable .answer) ++ lines) (lines-from (edition .limits) table 1 zeros records (opened-good lawful sheet hall records e))
     ∙ ap (λ (total : Tally). answerLine 0 0 (openTable (edition .limits) hall lentTable .answer) ++ (eventLines 1 events ++ (endingLine 1 records ++ endLine total)))
     (tally-from-zeros events)
     ∙ ap (λ (done : Result (List ℕ)). answerLine 0 0 (done .answer) ++ (eventLines 1 events ++ (endingLine 1 records ++ endLine (countsIn events))))
@@ -129,8 +110,3 @@ lines-of-run {edition} lawful sheet hall records e =
 
     events : List Event
     events = run (stepTable (edition .limits)) table (callsIn records)
-
-    codes : EachCode records
-    codes =
-        let was = opened-from edition sheet hall records e in
-        subst EachCode (sym (was .are)) (each-code lawful (length sheet) noDesk sheet (was .next))

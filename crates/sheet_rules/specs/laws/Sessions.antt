@@ -1,48 +1,23 @@
 -- A session that is read is within the limit of the room, so no step of a sheet is answered 22.
 use Prim.Native.Nat.{ℕ, zero, suc, _≤_}
 use native.Mathlib.Omega.{arith}
-use mathlib.Core.Path.{_≡_, refl, sym, _∙_, subst}
+use mathlib.Core.Path.{_≡_, _∙_, subst}
 use mathlib.Core.Bool.{Bool, true, false, cond}
 use mathlib.Core.List.{List, [], _∷_}
-use lib.ListN.{length}
-use lib.Dec.{ltb}
 use borrow.Author.Tests.{le-leb}
 use Rattle.rules.specs.Hall.{Hall, Limits, State, deskOf}
 use Rattle.rules.specs.History.{numberAt}
-use Rattle.rules.specs.Numbers.{Parsed, parsed, refused}
 use Rattle.rules.specs.Steps.{Call, Collect, Drop, Retire, Step, Swap, Take, _sends_, firstNo, inRange, isNone, questions, run}
 use Rattle.rules.specs.Table.{decode, hallIn, stepTable}
 use Rattle.rules.specs.laws.history.StepEffects.{in-range}
 use Rattle.rules.specs.laws.table.WordBounds.{by-step, first-no-is-asked}
-use Rattle.sheet_rules.specs.Lawful.{CarriedHolds, Lawful}
+use Rattle.sheet_rules.specs.Lawful.{Lawful}
 use Rattle.sheet_rules.specs.Run.{callOf, callsIn, consSome}
-use Rattle.sheet_rules.specs.Sheet.{Carried, Edition, FieldHolds, GoodRecord, Record, Records, bindRecords, carriedAfter, complete, decodeRecords, deskField, follows, isCode}
-use Rattle.sheet_rules.specs.Sheet.{more, noDesk, opened, reading, recordFor, sessionField, stop}
-use Rattle.sheet_rules.specs.laws.Sheet.{field-small, opened-from}
+use Rattle.sheet_rules.specs.Sheet.{Edition, FieldHolds, Records, complete, follows, isCode}
+use Rattle.sheet_rules.specs.Sheet.{more, opened, reading, recordFor, sessionField, stop}
+use Rattle.sheet_rules.specs.laws.Sheet.{EachGoodIn, opened-good}
 
--- ---- The records that are read are good, whether something ends the reading later or not.
-abbrev EachGoodIn : ℕ → Records → Type 0
-EachGoodIn most complete = Unit {0}
-EachGoodIn most (stop reason) = Unit {0}
-EachGoodIn most (more entry rest) = GoodRecord most entry × EachGoodIn most rest
-
-each-good : {edition : Edition} → Lawful edition → (most : ℕ) (carried : Carried) (sheet : List ℕ) (at : ℕ) → CarriedHolds carried
-    → EachGoodIn (edition .limits .sessions) (decodeRecords edition most carried sheet at)
-each-good lawful zero carried sheet at holds = tt
-each-good {edition} lawful (suc most) carried sheet at holds =
-    by-offset (ltb at (length sheet)) (edition .decodeRecord carried sheet at) refl (λ entry. each-good lawful most (carriedAfter entry) sheet)
-  where
-    by-offset : (inside : Bool) (found : Parsed Record) → edition .decodeRecord carried sheet at ≡ found
-        → ((entry : Record) (next : ℕ) → CarriedHolds (carriedAfter entry)
-        → EachGoodIn (edition .limits .sessions) (decodeRecords edition most (carriedAfter entry) sheet next))
-        → EachGoodIn (edition .limits .sessions) (cond inside (bindRecords found (λ entry next. more entry (decodeRecords edition most (carriedAfter entry) sheet next))) complete)
-    by-offset true (parsed entry next) e later =
-        let good = lawful .record-good carried sheet at entry next holds e in
-        (good, later entry next (field-small (follows (entry .code) deskField) (entry .desk) (good .desk)))
-    by-offset true (refused reason) e later = tt
-    by-offset false found e later = tt
-
--- ---- So the swaps that they request send no session over the limit.
+-- ---- The records that are read are good, so the swaps that they request send no session over the limit.
 abbrev Small : ℕ → Step → Type 0
 Small most (Take c p) = Unit {0}
 Small most (Drop c) = Unit {0}
@@ -109,6 +84,4 @@ pub sheet-not-22 : {edition : Edition} → Lawful edition → (sheet : List ℕ)
     → numberAt (run (stepTable (edition .limits)) table (callsIn records)) i ≡ 22
     → ⊥
 sheet-not-22 {edition} lawful sheet hall records opens table i =
-    let was = opened-from edition sheet hall records opens in
-    let good = subst (EachGoodIn (edition .limits .sessions)) (sym (was .are)) (each-good lawful (length sheet) noDesk sheet (was .next) tt) in
-    run-not-22 (edition .limits) table (callsIn records) (each-small (edition .limits .sessions) records good) i
+    run-not-22 (edition .limits) table (callsIn records) (each-small (edition .limits .sessions) records (opened-good lawful sheet hall records opens)) i
