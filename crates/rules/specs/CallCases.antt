@@ -1,11 +1,12 @@
 -- What the statements about one call admit and what they refuse, by computation: demand 1, widths, words and bytes, locality. For each
 -- field of each statement there is a result that this field alone refuses. No theorem is used here.
-use Prim.Native.Nat.{ℕ, zero, suc, _≤_}
+use Prim.Native.Nat.{ℕ, _<_, _≤_, suc, zero}
 use native.Mathlib.Omega.{arith}
 use mathlib.Core.Path.{_≡_, refl, ap, subst}
 use mathlib.Core.Bool.{Bool, true, false, cond, true≢false}
 use mathlib.Core.List.{List, [], _∷_, _++_, map}
 use lib.ListN.{getD, replicate}
+use lib.Seq.{getD-set-other}
 use lib.Dec.{eqb, ltb}
 use Rattle.rules.specs.Bytes.{Agrees, Call16, Calls16, IsBytes, Words16, bytesOfWords, openBytes, overwriteWords, pack, stepBytes, unpack, wordsOfBytes}
 use Rattle.rules.specs.Cases.{wide}
@@ -13,7 +14,7 @@ use Rattle.rules.specs.Demands.{Demand1, SwapPromise, footprint, onBytes
 use Rattle.rules.specs.Hall.{Desk, Formed, Hall, State, emptyDesk, hallLimits, hallOf, marked, unmarked}
 use Rattle.rules.specs.Lists.{occurrences, toNat}
 use Rattle.rules.specs.Locality.{OthersStay, SameView, StepsAlike, deskAt, namedWords, positionAt, screenAt, screensRead, mayWritePosition, mayWriteScreen}
-use Rattle.rules.specs.Steps.{Answer, Call, Collect, Drop, Result, Retire, Step, Swap, Take, _sends_, accept, refuse, step}
+use Rattle.rules.specs.Steps.{Answer, Call, Collect, Drop, Result, Retire, Step, Swap, Take, _numbered_, _sends_, accept, refuse, step}
 use Rattle.rules.specs.Table.{decodeDesk, encodeDesk, openTable, recordSound, sound, stepTable}
 use Rattle.rules.specs.laws.history.Checks.{each-below}
 
@@ -24,28 +25,28 @@ abbrev below : ℕ → (ℕ → Bool) → List ℕ
 below zero test = []
 below (suc n) test = below n test ++ cond (test n) (n ∷ []) []
 
--- 2 desks with 2 screens each and 2 positions: S = 4, and desk 2's record of 21 words starts at word 30. Position 1 holds 5; desk 2 owes 9
+-- 2 desks with 2 screens each and 2 positions: S = 4, and desk 2's record of 22 words starts at word 31. Position 1 holds 5; desk 2 owes 9
 -- and has 8 ready.
 abbrev twoByTwo : List ℕ
-twoByTwo = (2 ∷ 2 ∷ 2 ∷ 5 ∷ 0 ∷ 0 ∷ 0 ∷ 0 ∷ 6 ∷ []) ++ (replicate 21 0 ++ ((9 ∷ 0 ∷ 1 ∷ replicate 10 0) ++ (8 ∷ replicate 7 0)))
+twoByTwo = (2 ∷ 2 ∷ 2 ∷ 5 ∷ 0 ∷ 0 ∷ 0 ∷ 0 ∷ 6 ∷ []) ++ (replicate 22 0 ++ ((9 ∷ 0 ∷ 1 ∷ replicate 10 0) ++ (8 ∷ replicate 8 0)))
 
 -- The words that a call of desk 2 names.
 abbrev named : Step → List ℕ
 named step = below 60 (footprint twoByTwo (2 sends step))
 
 -- take and drop, the one screen; swap, the position, and the owed word only where the position holds a session; a repeat of a session or of
--- 0, none; retire, the owed word, the
--- count of waiting and the first unused slot; collect, all of the record but the owed word
+-- 0, none; retire, the owed word, the count of waiting and the first unused slot; collect, all of the record but the owed word; and each of
+-- them the message number, the last word of the record
 pub words-named :
     map named (Take 1 2 ∷ Take 2 2 ∷ Drop 1 ∷ Drop 2 ∷ Swap 1 7 ∷ Swap 2 7 ∷ Swap 1 0 ∷ Swap 1 5 ∷ Swap 2 0 ∷ Retire ∷ [])
-    ≡ (7 ∷ []) ∷ (8 ∷ []) ∷ (7 ∷ []) ∷ (8 ∷ []) ∷ (3 ∷ 30 ∷ []) ∷ (4 ∷ []) ∷ (3 ∷ 30 ∷ []) ∷ [] ∷ [] ∷ (30 ∷ 34 ∷ 44 ∷ []) ∷ []
+    ≡ (7 ∷ 52 ∷ []) ∷ (8 ∷ 52 ∷ []) ∷ (7 ∷ 52 ∷ []) ∷ (8 ∷ 52 ∷ []) ∷ (3 ∷ 31 ∷ 52 ∷ []) ∷ (4 ∷ 52 ∷ []) ∷ (3 ∷ 31 ∷ 52 ∷ []) ∷ (52 ∷ []) ∷ (52 ∷ []) ∷ (31 ∷ 35 ∷ 45 ∷ 52 ∷ []) ∷ []
 words-named = refl
 
-pub words-named-by-collect : named Collect ≡ below 51 (λ i. ltb 30 i)
+pub words-named-by-collect : named Collect ≡ below 53 (λ i. ltb 31 i)
 words-named-by-collect = refl
 
--- The words that an opening names: all up to the need, 20.
-pub words-named-by-opening : below 60 (openingFootprint (hallOf 1 1 1)) ≡ below 20 (λ i. true)
+-- The words that an opening names: all up to the need, 21.
+pub words-named-by-opening : below 60 (openingFootprint (hallOf 1 1 1)) ≡ below 21 (λ i. true)
 words-named-by-opening = refl
 
 -- The bytes of word 4, in five words and an odd byte; the odd byte belongs to no word.
@@ -55,13 +56,13 @@ bytes-named = (refl, refl)
 -- The numbers of each step's refusals and of the opening's.
 pub refusal-numbers :
     map (λ (step : Step). refusals (2 sends step)) (Take 1 2 ∷ Drop 2 ∷ Swap 1 7 ∷ Retire ∷ Collect ∷ [])
-    ≡ (5 ∷ 6 ∷ 7 ∷ 8 ∷ 9 ∷ 10 ∷ []) ∷ (5 ∷ 6 ∷ 7 ∷ 11 ∷ []) ∷ (5 ∷ 6 ∷ 8 ∷ 22 ∷ 12 ∷ []) ∷ (5 ∷ 6 ∷ 13 ∷ 14 ∷ []) ∷ (5 ∷ 6 ∷ []) ∷ []
+    ≡ (5 ∷ 6 ∷ 23 ∷ 7 ∷ 8 ∷ 9 ∷ 10 ∷ []) ∷ (5 ∷ 6 ∷ 23 ∷ 7 ∷ 11 ∷ []) ∷ (5 ∷ 6 ∷ 23 ∷ 8 ∷ 22 ∷ 12 ∷ []) ∷ (5 ∷ 6 ∷ 23 ∷ 13 ∷ 14 ∷ []) ∷ (5 ∷ 6 ∷ 23 ∷ []) ∷ []
 refusal-numbers = refl
 
 pub opening-refusal-numbers : openingRefusals ≡ 1 ∷ 2 ∷ 3 ∷ 22 ∷ 4 ∷ []
 opening-refusal-numbers = refl
 
--- Results of a take that demand 1 refuses. It may give 5 to 10, and may write word 1 of these four.
+-- Results of a take that demand 1 refuses. It may give 5 to 10 or 23, and may write word 1 of these four.
 abbrev TakeDemand1 : Result (List ℕ) → Type 0
 TakeDemand1 = Demand1 (refusals (1 sends Take 1 1)) (eqb 1) (4 ∷ 5 ∷ 6 ∷ 7 ∷ [])
 
@@ -97,9 +98,9 @@ demand-1-refuses = (
   λ demand. omega (arith, demand .sameLength),
 )
 
--- ---- What a swap promises, in a hall of 1, 1, 1, given the session at the position and what the desk owes.
-abbrev holdsOwes : ℕ → ℕ → List ℕ
-holdsOwes session owed = 1 ∷ 1 ∷ 1 ∷ session ∷ 0 ∷ owed ∷ replicate 14 0
+-- ---- What a swap promises, in a hall of 1, 1, 1, given the session at the position, what the desk owes and its next message number.
+abbrev holdsOwes : ℕ → ℕ → ℕ → List ℕ
+holdsOwes session owed next = 1 ∷ 1 ∷ 1 ∷ session ∷ 0 ∷ owed ∷ replicate 14 0 ++ (next ∷ [])
 
 abbrev Promises : ℕ → List ℕ → Result (List ℕ) → Type 0
 Promises = SwapPromise (hallOf 1 1 1) 1 1
@@ -107,32 +108,36 @@ Promises = SwapPromise (hallOf 1 1 1) 1 1
 -- It admits a swap from 5 to 6, one onto an empty position, a repeat of 0, and a swap that is refused with 12 where the position holds what
 -- the desk owes.
 pub swap-promise-admits :
-    Promises 6 (holdsOwes 5 0) (accept 5 (holdsOwes 6 5)) × Promises 6 (holdsOwes 0 0) (accept 0 (holdsOwes 6 0))
-    × Promises 0 (holdsOwes 0 0) (accept 0 (holdsOwes 0 0)) × Promises 7 (holdsOwes 5 5) (refuse 12 (holdsOwes 5 5))
+    Promises 6 (holdsOwes 5 0 8) (accept 5 (holdsOwes 6 5 9)) × Promises 6 (holdsOwes 0 0 8) (accept 0 (holdsOwes 6 0 9))
+    × Promises 0 (holdsOwes 0 0 8) (accept 0 (holdsOwes 0 0 9)) × Promises 7 (holdsOwes 5 5 8) (refuse 12 (holdsOwes 5 5 8))
 swap-promise-admits = (
   record { replies = λ n. refl; holds = λ n. refl; unchanged = λ same. absurd (omega (arith, same)); replaced = λ n owes same. omega (arith, same) },
   record { replies = λ n. refl; holds = λ n. refl; unchanged = λ same. absurd (omega (arith, same)); replaced = λ n owes. absurd (owes refl) },
-  record { replies = λ n. refl; holds = λ n. refl; unchanged = λ same. refl; replaced = λ n owes. absurd (owes refl) },
+  record { replies = λ n. refl; holds = λ n. refl; unchanged = λ same. moved; replaced = λ n owes. absurd (owes refl) },
   record {
     replies = λ n. absurd (omega (arith, n));
     holds = λ n. absurd (omega (arith, n));
-    unchanged = λ same. refl;
+    unchanged = λ same i other. refl;
     replaced = λ n. absurd (omega (arith, n));
   },
 )
+  where
+    -- the repeat of 0 has moved the message number on, from 8 to 9, and nothing else
+    moved : (i : ℕ) → (i ≡ 20 → ⊥) → getD (holdsOwes 0 0 9) i 0 ≡ getD (holdsOwes 0 0 8) i 0
+    moved i other = getD-set-other (holdsOwes 0 0 8) 20 i 9 0 other
 
 -- It refuses a swap that replies something else than what was there; one that leaves the position; a repeat that changes what the desk owes;
 -- and one that makes its desk owe what the position holds, as a repeat would do that owes.
 pub swap-promise-refuses :
-    (Promises 6 (holdsOwes 5 0) (accept 7 (holdsOwes 6 5)) → ⊥)
-    × (Promises 6 (holdsOwes 5 0) (accept 5 (holdsOwes 5 0)) → ⊥)
-    × (Promises 5 (holdsOwes 5 0) (accept 5 (holdsOwes 5 7)) → ⊥)
-    × (Promises 6 (holdsOwes 5 0) (accept 5 (holdsOwes 6 6)) → ⊥)
-    × (Promises 5 (holdsOwes 5 0) (accept 5 (holdsOwes 5 5)) → ⊥)
+    (Promises 6 (holdsOwes 5 0 8) (accept 7 (holdsOwes 6 5 9)) → ⊥)
+    × (Promises 6 (holdsOwes 5 0 8) (accept 5 (holdsOwes 5 0 9)) → ⊥)
+    × (Promises 5 (holdsOwes 5 0 8) (accept 5 (holdsOwes 5 7 9)) → ⊥)
+    × (Promises 6 (holdsOwes 5 0 8) (accept 5 (holdsOwes 6 6 9)) → ⊥)
+    × (Promises 5 (holdsOwes 5 0 8) (accept 5 (holdsOwes 5 5 9)) → ⊥)
 swap-promise-refuses = (
   λ promise. omega (arith, promise .replies refl),
   λ promise. omega (arith, promise .holds refl),
-  λ promise. omega (arith, ap (λ (words : List ℕ). getD words 5 0) (promise .unchanged refl)),
+  λ promise. omega (arith, promise .unchanged refl 5 (λ same. omega (arith, same))),
   λ promise. promise .replaced refl (λ none. omega (arith, none)) refl,
   λ promise. promise .replaced refl (λ none. omega (arith, none)) refl,
 )
@@ -141,23 +146,27 @@ swap-promise-refuses = (
 
 -- "Every number in a call is 16 bits wide": 65,535 is, 65,536 is not, in any field of any step, and in any call of a list.
 abbrev widest : List Call
-widest = 65535 sends Take 65535 65535 ∷ 65535 sends Drop 65535 ∷ 65535 sends Swap 65535 65535 ∷ 65535 sends Retire ∷ 65535 sends Collect ∷ []
+widest =
+    map (λ (step : Step). (65535 sends step) numbered 65535)
+    (Take 65535 65535 ∷ Drop 65535 ∷ Swap 65535 65535 ∷ Retire ∷ Collect ∷ [])
 
 pub widest-calls : Calls16 widest
 widest-calls =
-    ((omega arith, (omega arith, omega arith)), ((omega arith, omega arith), ((omega arith, (omega arith, omega arith)), ((omega arith, tt), ((omega arith, tt), tt)))))
+    let small : 65535 < 65536 = omega arith in
+    ((small, small, (small, small)), ((small, small, small), ((small, small, (small, small)), ((small, small, tt), ((small, small, tt), tt)))))
 
 pub too-wide :
-    (Call16 (65536 sends Collect) → ⊥) × (Call16 (1 sends Take 65536 1) → ⊥) × (Call16 (1 sends Take 1 65536) → ⊥) × (Call16 (1 sends Drop 65536) → ⊥)
+    (Call16 ((1 sends Collect) numbered 65536) → ⊥) × (Call16 (65536 sends Collect) → ⊥) × (Call16 (1 sends Take 65536 1) → ⊥) × (Call16 (1 sends Take 1 65536) → ⊥) × (Call16 (1 sends Drop 65536) → ⊥)
     × (Call16 (1 sends Swap 65536 1) → ⊥) × (Call16 (1 sends Swap 1 65536) → ⊥) × (Calls16 (1 sends Collect ∷ 65536 sends Collect ∷ []) → ⊥)
 too-wide = (
   λ call. omega (arith, call .0),
-  λ call. omega (arith, call .1 .0),
-  λ call. omega (arith, call .1 .1),
   λ call. omega (arith, call .1),
-  λ call. omega (arith, call .1 .0),
-  λ call. omega (arith, call .1 .1),
-  λ calls. omega (arith, calls .1 .0 .0),
+  λ call. omega (arith, call .2 .0),
+  λ call. omega (arith, call .2 .1),
+  λ call. omega (arith, call .2),
+  λ call. omega (arith, call .2 .0),
+  λ call. omega (arith, call .2 .1),
+  λ calls. omega (arith, calls .1 .0 .1),
 )
 
 -- Words of 16 bits, and bytes.
@@ -185,22 +194,25 @@ pub packed-answers :
     × (unpack 65535 ≡ record { number = 0; session = 65535 })
 packed-answers = (refl, refl, refl, refl)
 
--- A hall of 1, 1, 1 in 41 bytes: opened, and then with 300 at position 1. The odd last byte is unchanged.
-abbrev oneDesk : ℕ → ℕ → List ℕ
-oneDesk low high = (1 ∷ 0 ∷ 1 ∷ 0 ∷ 1 ∷ 0 ∷ low ∷ high ∷ replicate 32 0) ++ (9 ∷ [])
+-- A hall of 1, 1, 1 in 43 bytes: opened, and then with 300 at position 1. The message number is in the last word, and the odd last byte is
+-- unchanged.
+abbrev oneDesk : ℕ → ℕ → ℕ → List ℕ
+oneDesk low high next = (1 ∷ 0 ∷ 1 ∷ 0 ∷ 1 ∷ 0 ∷ low ∷ high ∷ replicate 32 0) ++ (next ∷ 0 ∷ 9 ∷ [])
 
-pub opening-bytes : openBytes hallLimits (hallOf 1 1 1) (replicate 41 9) ≡ accept 0 (oneDesk 0 0)
+pub opening-bytes : openBytes hallLimits (hallOf 1 1 1) (replicate 43 9) ≡ accept 0 (oneDesk 0 0 0)
 unfolding openBytes openTable overwriteWords
 opening-bytes = refl
 
-pub swap-bytes : stepBytes hallLimits (oneDesk 0 0) (1 sends Swap 1 300) ≡ accept 0 (oneDesk 0x2C 0x01)
+pub swap-bytes : stepBytes hallLimits (oneDesk 0 0 0) (1 sends Swap 1 300) ≡ accept 0 (oneDesk 0x2C 0x01 1)
 unfolding stepBytes stepTable overwriteWords sound recordSound encodeDesk decodeDesk
 swap-bytes = refl
 
--- The repeat of that swap: every byte is unchanged.
-pub repeat-bytes : stepBytes hallLimits (oneDesk 0x2C 0x01) (1 sends Swap 1 300) ≡ accept 300 (oneDesk 0x2C 0x01)
+-- The repeat of that swap with the next number: every other byte is unchanged. The same message again is refused.
+pub repeat-bytes :
+    (stepBytes hallLimits (oneDesk 0x2C 0x01 1) ((1 sends Swap 1 300) numbered 1) ≡ accept 300 (oneDesk 0x2C 0x01 2))
+    × (stepBytes hallLimits (oneDesk 0x2C 0x01 1) (1 sends Swap 1 300) ≡ refuse 23 (oneDesk 0x2C 0x01 1))
 unfolding stepBytes stepTable overwriteWords sound recordSound encodeDesk decodeDesk
-repeat-bytes = refl
+repeat-bytes = (refl, refl)
 
 -- A call on bytes agrees with the call on words, `accept 7 (3 ∷ 2 ∷ 4 ∷ [])` on three words and an odd byte.
 abbrev AgreesWith : Result (List ℕ) → Result (List ℕ) → Type 0
@@ -236,7 +248,7 @@ agrees-refuses = (
 
 -- ---- Locality. What a call reads, in a hall of 2 desks with 3 screens each and 4 positions.
 abbrev pub deskWith : ℕ → List ℕ → Desk
-deskWith owed waiting = record { owed = owed; scanned = 0; ready = []; tested = []; waiting = waiting }
+deskWith owed waiting = record { owed = owed; scanned = 0; ready = []; tested = []; waiting = waiting; next = 0 }
 
 abbrev wideState : State
 wideState = record { held = 7 ∷ 8 ∷ 9 ∷ 10 ∷ []; shown = 1 ∷ 2 ∷ 3 ∷ 4 ∷ 5 ∷ 6 ∷ []; desks = deskWith 5 [] ∷ deskWith 6 (9 ∷ []) ∷ [] }

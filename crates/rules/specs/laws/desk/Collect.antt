@@ -10,8 +10,8 @@ use lib.Dec.{eqb}
 use borrow.Author.Tests.{eqb-true, eqb-false}
 use Rattle.rules.specs.Hall.{Desk, TestedSlot, unmarked, usedSlots}
 use Rattle.rules.specs.Lists.{occurrences, toNat}
-use Rattle.rules.specs.Steps.{begin, beginAt, collect, isSession, markEach, markedOf, nextScreens, readScreens, retire, scan, scanAt, settle, settleIf}
-use Rattle.rules.specs.Steps.{unmarkedOf}
+use Rattle.rules.specs.Steps.{Collected, begin, beginAt, collect, handBack, isSession, markEach, markedOf, nextScreens, readScreens, renumber, retire, scan, scanAt}
+use Rattle.rules.specs.Steps.{settle, settleIf, unmarkedOf}
 use Rattle.rules.specs.laws.desk.Marks.{length-mark-each, length-next-screens, tested-copies-begin, tested-copies-mark-each, testedCopies}
 use Rattle.rules.specs.laws.desk.Marks.{unmarked-and-marked}
 use Rattle.rules.specs.laws.lists.Lists.{indicator, indicator-other, occurrences-append, occurrences-drop}
@@ -203,3 +203,26 @@ owed-collect S shown D =
     begun : (t : List TestedSlot) → beginAt t D .owed ≡ D .owed
     begun [] = refl
     begun (p ∷ ps) = refl
+
+-- The next message number makes no difference to a collect, which leaves it.
+pub collect-renumbered : (S : ℕ) (shown : List ℕ) (D : Desk) (n : ℕ)
+    → collect S shown (renumber D n) ≡ record { session = collect S shown D .session; after = renumber (collect S shown D .after) n }
+collect-renumbered S shown D n =
+    ap (λ (E : Desk). handBack (settle S (scan shown E))) (begun (D .tested))
+    ∙ ap (λ (E : Desk). handBack (settle S E)) (scanned (begin D .tested) (begin D))
+    ∙ ap handBack (settled (eqb (scan shown (begin D) .scanned) S) (scan shown (begin D)))
+  where
+    begun : (t : List TestedSlot) → beginAt t (renumber D n) ≡ renumber (beginAt t D) n
+    begun [] = refl
+    begun (p ∷ ps) = refl
+
+    scanned : (t : List TestedSlot) (E : Desk) → scanAt t (nextScreens shown E) (renumber E n) ≡ renumber (scanAt t (nextScreens shown E) E) n
+    scanned [] E = refl
+    scanned (p ∷ ps) E = refl
+
+    settled : (b : Bool) (E : Desk) → settleIf b (renumber E n) ≡ renumber (settleIf b E) n
+    settled true E = refl
+    settled false E = refl
+
+pub next-collect : (S : ℕ) (shown : List ℕ) (D : Desk) → collect S shown D .after .next ≡ D .next
+next-collect S shown D = ap (λ (collected : Collected). collected .after .next) (collect-renumbered S shown D (D .next))

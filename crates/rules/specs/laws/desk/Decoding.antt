@@ -4,14 +4,14 @@ use native.Mathlib.Omega.{arith}
 use mathlib.Core.Path.{_≡_, refl, sym, ap, ap₂, _∙_}
 use mathlib.Core.Bool.{Bool, true, false, not, _&&_}
 use mathlib.Core.List.{List, [], _∷_, _++_, map, append-assoc}
-use lib.ListN.{length, getD, take, drop, replicate, length-append, length-drop, take-append-drop, drop-of-length-le}
+use lib.ListN.{length, getD, take, drop, replicate, length-append, length-drop, take-append-drop}
 use lib.Seq.{take-add, length-take-le, drop-drop, drop-cons, getD-drop, take-at, drop-at}
 use lib.Dec.{leb, eqb}
 use borrow.Author.Tests.{eqb-true, eqb-false, leb-true}
 use Rattle.rules.specs.Hall.{TestedSlot, maxAllScreens}
 use Rattle.rules.specs.Lists.{chunks, concat, every, toNat}
 use Rattle.rules.specs.Table.{allMarks, bitsOfWord, bitsOfWords, decodeDesk, encodeDesk, encodeTail, listOffset, markWords, marksIn, marksOf, marksOffset}
-use Rattle.rules.specs.Table.{ones, readyOffset, recordSound, scanSound, scannedOffset, sessionsOf, slotsIn, slotsOf, tailIn, tailOffset, testedOffset}
+use Rattle.rules.specs.Table.{ones, readyOffset, recordSound, scanSound, scannedOffset, sessionsOf, slotsIn, slotsOf, tailIn, tailOffset, tailWords, testedOffset}
 use Rattle.rules.specs.Table.{usedIn, waitingOffset, widthFor, wordOfBits, wordsOfBits}
 use Rattle.rules.specs.laws.lists.Bools.{and-left, and-right}
 
@@ -184,7 +184,13 @@ module _ (S : ℕ) (r : List ℕ) (long : length r ≡ widthFor S) (bounded : S 
 
   -- its tail is that of the desk that it is read as
   tail-again : encodeTail (decodeDesk S r) ≡ tailIn S r
-  tail-again = sym (drop-of-length-le r {i = tailOffset S} (omega (arith, long)))
+  unfolding decodeDesk
+  tail-again = one-word (tailIn S r) (omega (arith, length-drop (tailOffset S) r, long))
+    where
+      one-word : (words : List ℕ) → length words ≡ tailWords → getD words 0 0 ∷ [] ≡ words
+      one-word [] e = absurd (omega arith)
+      one-word (word ∷ []) e = refl
+      one-word (word ∷ other ∷ words) e = absurd (omega arith)
 
   list-and-tail : l ++ tailIn S r ≡ drop listOffset r
   list-and-tail = ap (λ (x : List ℕ). l ++ x) (sym (drop-drop (2 * S) listOffset r)) ∙ take-append-drop (2 * S) (drop listOffset r)

@@ -4,16 +4,17 @@ use native.Mathlib.Omega.{arith}
 use mathlib.Core.Path.{_≡_, refl, ap, ap₂, _∙_}
 use mathlib.Core.Bool.{Bool, true, false}
 use mathlib.Core.List.{List, [], _∷_, _++_, append-assoc}
-use lib.ListN.{length, take, drop, replicate, length-append, length-replicate, length-drop, take-append-drop, getD}
-use lib.Seq.{take-at, drop-at, take-append-seam, drop-append-seam, length-take-le, drop-append-add}
+use lib.ListN.{length, take, drop, replicate, length-append, length-replicate, length-drop, set, take-append-drop, getD}
+use lib.Seq.{getD-drop, take-at, drop-at, take-append-seam, drop-append-seam, length-take-le, drop-append-add}
 use lib.Dec.{eqb}
 use borrow.Author.Tests.{eq-eqb, ne-eqb}
 use Rattle.rules.specs.Hall.{Desk, TestedSlot, marked, unmarked, usedSlots}
 use Rattle.rules.specs.Lists.{toNat}
-use Rattle.rules.specs.Table.{allMarks, bitsOfWord, bitsOfWords, decodeDesk, encodeDesk, encodeTail, listOf, listOffset, markWords, marksOf, ones}
-use Rattle.rules.specs.Table.{sessionsOf, slotsFor, slotsIn, slotsOf, tailOffset, tailWords, wordOfBits, wordsOfBits}
+use Rattle.rules.specs.Steps.{renumber}
+use Rattle.rules.specs.Table.{allMarks, bitsOfWord, bitsOfWords, decodeDesk, encodeDesk, encodeTail, listOf, listOffset, markWords, marksOf, ones, sessionsOf}
+use Rattle.rules.specs.Table.{slotsFor, slotsIn, slotsOf, tailOffset, tailWords, widthFor, wordOfBits, wordsOfBits}
 use Rattle.rules.specs.laws.desk.Marks.{markCount}
-use Rattle.rules.specs.laws.lists.ListSlices.{get-past}
+use Rattle.rules.specs.laws.lists.ListSlices.{get-past, set-append-add}
 
 bits-of-word-of-bits : (n : ℕ) (bs : List Bool) → length bs ≡ n → bitsOfWord n (wordOfBits bs) ≡ bs
 bits-of-word-of-bits zero [] h = refl
@@ -127,12 +128,23 @@ module _ (S : ℕ) (D : Desk) (room : usedSlots D ≤ 2 * S) where
       ∙ get-past (slotsFor S D) (encodeTail D) (j - listOffset) (omega (arith, length-slots-for))
       ∙ ap (λ (i : ℕ). getD (encodeTail D) i 0) same
 
+-- of any desk, with room or without
+pub encoded-long : (S : ℕ) (D : Desk) → widthFor S ≤ length (encodeDesk S D)
+unfolding encodeDesk
+encoded-long S D =
+    omega (
+      arith,
+      length-append (slotsFor S D) (encodeTail D),
+      length-append (listOf D) (replicate (2 * S - length (listOf D)) 0),
+      length-replicate {A = ℕ} (2 * S - length (listOf D)) 0,
+    )
+
 pub length-tail : (D : Desk) → length (encodeTail D) ≡ tailWords
 length-tail D = refl
 
 pub desk-read-back : (S : ℕ) (D : Desk) → usedSlots D ≤ 2 * S → length (D .tested) ≤ allMarks → decodeDesk S (encodeDesk S D) ≡ D
 unfolding encodeDesk decodeDesk
-desk-read-back S D room h = λ i. record { owed = D .owed; scanned = D .scanned; ready = ready i; tested = tested i; waiting = waiting i }
+desk-read-back S D room h = λ i. record { owed = D .owed; scanned = D .scanned; ready = ready i; tested = tested i; waiting = waiting i; next = next i }
   where
     pad : List ℕ
     pad = replicate (2 * S - length (listOf D)) 0
@@ -160,3 +172,18 @@ desk-read-back S D room h = λ i. record { owed = D .owed; scanned = D .scanned;
     waiting =
         ap (λ (l : List ℕ). take (length (D .waiting)) (drop (length (D .ready) + length (D .tested)) l)) slots
         ∙ third-part (D .ready) (sessionsOf (D .tested)) (D .waiting) pad (length (D .tested)) (length-sessions (D .tested))
+
+    next : decodeDesk S (encodeDesk S D) .next ≡ D .next
+    next = getD-drop (tailOffset S) (encodeDesk S D) 0 0 ∙ tail-word S D room (tailOffset S + 0) (omega arith) ∙ ap (λ (i : ℕ). getD (encodeTail D) i 0) nought
+      where
+        nought : tailOffset S + 0 - tailOffset S ≡ 0
+        nought = omega arith
+
+-- Another next message number is one word stored.
+pub number-stored : (S : ℕ) (D : Desk) (number : ℕ) → usedSlots D ≤ 2 * S → set (encodeDesk S D) (tailOffset S) number ≡ encodeDesk S (renumber D number)
+unfolding encodeDesk
+number-stored S D number room =
+    let e : tailOffset S ≡ length (headFor D) + (length (slotsFor S D) + 0) = omega (arith, length-slots-for S D room) in
+    (λ i. set (headFor D ++ (slotsFor S D ++ encodeTail D)) (e i) number)
+    ∙ set-append-add (headFor D) (slotsFor S D ++ encodeTail D) (length (slotsFor S D) + 0) number
+    ∙ ap (λ (l : List ℕ). headFor D ++ l) (set-append-add (slotsFor S D) (encodeTail D) 0 number)

@@ -9,7 +9,7 @@ use lib.ListN.{length, drop, length-append, length-map}
 use Rattle.rules.specs.Demands.{readings, sharperBound}
 use Rattle.rules.specs.Hall.{Desk, TestedSlot, unmarked, usedSlots}
 use Rattle.rules.specs.Lists.{occurrences}
-use Rattle.rules.specs.Steps.{begin, beginAt, collect, handBack, markEach, markedOf, nextScreens, owe, retire, scan, settle, settleIf, unmarkedOf}
+use Rattle.rules.specs.Steps.{begin, beginAt, collect, handBack, markEach, markedOf, nextScreens, owe, renumber, retire, scan, settle, settleIf, unmarkedOf}
 use Rattle.rules.specs.laws.desk.Collect.{Orderly, Scanning, begin-keeps, by-scan, copiesOn, readOn, scanned-within}
 use Rattle.rules.specs.laws.desk.Marks.{length-mark-each, marked-copies-begin, marked-copies-mark-each, occurrences-next-screens, tested-copies-begin}
 use Rattle.rules.specs.laws.desk.Marks.{tested-copies-mark-each, testedCopies, unmarked-and-marked}
@@ -131,3 +131,9 @@ due-owe S s B m o D (thisReading a b c) = thisReading a b c
 due-owe S s B m o D (noReading a b) = noReading a b
 due-owe S s B m o D (nextReading a b c d e) = nextReading a b c d e
 due-owe S s B m o D (isReady a) = isReady a
+
+pub due-renumbered : (S s B m n : ℕ) (D : Desk) → Due S s B m D → Due S s B m (renumber D n)
+due-renumbered S s B m n D (thisReading a b c) = thisReading a b c
+due-renumbered S s B m n D (noReading a b) = noReading a b
+due-renumbered S s B m n D (nextReading a b c d e) = nextReading a b c d e
+due-renumbered S s B m n D (isReady a) = isReady a

@@ -7,7 +7,7 @@ use mathlib.Core.Bool.{true}
 use mathlib.Core.List.{List, [], _∷_, _++_, map}
 use lib.ListN.{length, length-append, length-drop, length-map}
 use Rattle.rules.specs.Hall.{Desk, TestedSlot, unmarked, usedSlots}
-use Rattle.rules.specs.Steps.{begin, beginAt, collect, handBack, markedOf, nextScreens, owe, retire, scan, settle, settleIf, unmarkedOf}
+use Rattle.rules.specs.Steps.{begin, beginAt, collect, handBack, markedOf, nextScreens, owe, renumber, retire, scan, settle, settleIf, unmarkedOf}
 use Rattle.rules.specs.laws.desk.Collect.{Scanning, by-scan, readOn}
 use Rattle.rules.specs.laws.desk.Marks.{length-mark-each, mark-count-begin, mark-count-mark-each, markCount, unmarked-and-marked}
 
@@ -102,3 +102,6 @@ retire-room S D r = record { total = omega (arith, r .total, length-append (D .w
 -- What a swap makes the desk owe takes no room.
 pub owe-room : (S f o : ℕ) (D : Desk) → Room S f D → Room S f (owe D o)
 owe-room S f o D r = record { total = r .total; pass = r .pass }
+
+pub room-renumbered : (S f n : ℕ) (D : Desk) → Room S f D → Room S f (renumber D n)
+room-renumbered S f n D r = record { total = r .total; pass = r .pass }

@@ -10,7 +10,7 @@ use lib.Dec.{leb, ltb, eqb}
 use borrow.Author.Tests.{eq-eqb, ne-eqb, le-leb, lt-ltb}
 use Rattle.rules.specs.Hall.{Desk, TestedSlot, marked, maxAllScreens, unmarked, usedSlots}
 use Rattle.rules.specs.Lists.{every, occurrences}
-use Rattle.rules.specs.Steps.{begin, beginAt, collect, isNone, isSession, nextScreens, owe, retire, scan, settle}
+use Rattle.rules.specs.Steps.{begin, beginAt, collect, isNone, isSession, nextScreens, owe, renumber, retire, scan, settle}
 use Rattle.rules.specs.Table.{allMarks, bitsOfWords, encodeDesk, listOf, markWords, marksOf, ones, recordSound, scanSound, sessionsOf, slotsIn}
 use Rattle.rules.specs.Table.{wordsOfBits}
 use Rattle.rules.specs.laws.desk.Collect.{Orderly, Scanning, by-scan, collect-orderly, copiesOn, readOn, retire-orderly}
@@ -39,6 +39,9 @@ sound-orderly S D s = record { total = s .total; real = s .real; going = by-case
 -- The steps keep it.
 pub sound-owe : (S o : ℕ) (D : Desk) → Sound S D → Sound S (owe D o)
 sound-owe S o D s = record { total = s .total; real = s .real; pass = s .pass }
+
+pub sound-renumbered : (S n : ℕ) (D : Desk) → Sound S D → Sound S (renumber D n)
+sound-renumbered S n D s = record { total = s .total; real = s .real; pass = s .pass }
 
 pub retire-sound : (S : ℕ) (D : Desk) → (D .owed ≡ 0 → ⊥) → usedSlots D < 2 * S → Sound S D → Sound S (retire D)
 retire-sound S D h l s = let o = retire-orderly S D h l (sound-orderly S D s) in record { total = o .total; real = o .real; pass = s .pass }

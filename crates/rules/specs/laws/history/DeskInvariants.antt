@@ -12,14 +12,14 @@ use Rattle.rules.specs.History.{Action, CollectBetween, CollectsBetweenR
 use Rattle.rules.specs.History.{handBacks, handBacksOf, handsBack, isCollect, isHandBackWith, isRetireAttempt, isRetirementOf, isRetirementWith, noAction}
 use Rattle.rules.specs.History.{outOfRoom, retirements, retirementsOf, retires, swaps, takes}
 use Rattle.rules.specs.Lists.{count, occurrences, toNat}
-use Rattle.rules.specs.Steps.{Call, Event, collect, end, owe, retire, run, step}
+use Rattle.rules.specs.Steps.{Call, Event, collect, end, owe, renumber, retire, run, step}
 use Rattle.rules.specs.laws.desk.Collect.{Orderly, collect-copies, collect-slots, copiesOn, retire-copies, retire-slots}
-use Rattle.rules.specs.laws.desk.HandBack.{Due, due-collect, due-end, due-owe, due-retire}
-use Rattle.rules.specs.laws.desk.Room.{Room, collect-room, owe-room, retire-room}
-use Rattle.rules.specs.laws.desk.Sound.{Sound, collect-sound, retire-sound, sound-orderly, sound-owe}
+use Rattle.rules.specs.laws.desk.HandBack.{Due, due-collect, due-end, due-owe, due-renumbered, due-retire}
+use Rattle.rules.specs.laws.desk.Room.{Room, collect-room, owe-room, retire-room, room-renumbered}
+use Rattle.rules.specs.laws.desk.Sound.{Sound, collect-sound, retire-sound, sound-orderly, sound-owe, sound-renumbered}
 use Rattle.rules.specs.laws.history.Actions.{by-own-desk, same-action}
 use Rattle.rules.specs.laws.history.Spacing.{CollectBefore, Spaced}
-use Rattle.rules.specs.laws.history.StepEffects.{Collects, DeskChangeIn, OutOfRoom, Same, desk-change, effectIn, formed-step}
+use Rattle.rules.specs.laws.history.StepEffects.{Collects, DeskChangeIn, DeskChanged, OutOfRoom, Same, desk-change, effectIn, formed-step}
 use Rattle.rules.specs.laws.lists.Lists.{indicator, indicator-other, one-if-le}
 
 -- ---- A collect between any two retires. Has the desk tried to retire since its last collect?
@@ -92,18 +92,22 @@ module _ (limits : Limits) (H : Hall) (d : ℕ) (hS : 1 ≤ allScreens H) (hd : 
   room-run [] st f formed r sp i q = let differ = same-action refl q in true≢false (cc)
   room-run (c ∷ cs) st f formed r sp zero q =
       let lacks = own-out-of-room d _ q in
-      has-room f (run (step limits H) st (c ∷ cs)) (deskOf st d) (deskOf (step limits H st c .after) d) sp (ap isRetireAttempt lacks) r
-      (subst (DeskChangeIn H st d (deskOf (step limits H st c .after) d)) lacks (desk-change limits H st formed d hd c))
+      let k = desk-change limits H st formed d hd c in
+      has-room f (run (step limits H) st (c ∷ cs)) (deskOf st d) (k .desk) sp (ap isRetireAttempt lacks) r
+      (subst (DeskChangeIn H st d (k .desk)) lacks (k .change))
   room-run (c ∷ cs) st f formed r sp (suc i) q =
       room-run cs (step limits H st c .after) (pending f (byDesk d (effectAt (run (step limits H) st (c ∷ cs)) 0))) (formed-step limits H st formed c)
-      (next (byDesk d (effectAt (run (step limits H) st (c ∷ cs)) 0)) refl (desk-change limits H st formed d hd c))
+      (rw (k .moved .is) (room-renumbered (allScreens H) _ (k .moved .number) (k .desk) (next (byDesk d (effectAt (run (step limits H) st (c ∷ cs)) 0)) refl (k .change))))
       (spaced-next d f (record { call = c; answer = step limits H st c .answer }) (run (step limits H) (step limits H st c .after) cs) sp) i q
     where
-      kept : Same (deskOf st d) (deskOf (step limits H st c .after) d) → Room (allScreens H) (toNat f) (deskOf (step limits H st c .after) d)
+      k : DeskChanged H st d (deskOf (step limits H st c .after) d) (byDesk d (effectIn limits H st c))
+      k = desk-change limits H st formed d hd c
+
+      kept : Same (deskOf st d) (k .desk) → Room (allScreens H) (toNat f) (k .desk)
       kept e = rw (e .after) (owe-room (allScreens H) (toNat f) (e .owed) (deskOf st d) r)
 
-      next : (a : Action) → byDesk d (effectAt (run (step limits H) st (c ∷ cs)) 0) ≡ a → DeskChangeIn H st d (deskOf (step limits H st c .after) d) a
-          → Room (allScreens H) (toNat (pending f a)) (deskOf (step limits H st c .after) d)
+      next : (a : Action) → byDesk d (effectAt (run (step limits H) st (c ∷ cs)) 0) ≡ a → DeskChangeIn H st d (k .desk) a
+          → Room (allScreens H) (toNat (pending f a)) (k .desk)
       next (takes s p v) q e = kept e
       next (drops s) q e = kept e
       next (swaps p) q e = kept e
@@ -111,20 +115,24 @@ module _ (limits : Limits) (H : Hall) (d : ℕ) (hS : 1 ≤ allScreens H) (hd : 
           rw (e .after)
           (retire-room (allScreens H) (deskOf st d) (rw (not-pending f (run (step limits H) st (c ∷ cs)) sp (ap isRetireAttempt q)) at r))
       next outOfRoom q e =
-          absurd (has-room f (run (step limits H) st (c ∷ cs)) (deskOf st d) (deskOf (step limits H st c .after) d) sp (ap isRetireAttempt q) r e)
+          absurd (has-room f (run (step limits H) st (c ∷ cs)) (deskOf st d) (k .desk) sp (ap isRetireAttempt q) r e)
       next collects q e = rw (e .after) (collect-room (allScreens H) (toNat f) (st .shown) (deskOf st d) hS (one-if-le f) (formed .screens) r)
       next (handsBack v) q e = rw (e .1 .after) (collect-room (allScreens H) (toNat f) (st .shown) (deskOf st d) hS (one-if-le f) (formed .screens) r)
       next noAction q e = kept e
 
   -- ---- The desk stays sound.
   pub sound-step : (st : State) (c : Call) → Formed H st → Sound (allScreens H) (deskOf st d) → Sound (allScreens H) (deskOf (step limits H st c .after) d)
-  sound-step st c formed ok = at (byDesk d (effectIn limits H st c)) (desk-change limits H st formed d hd c)
+  sound-step st c formed ok =
+      rw (k .moved .is) (sound-renumbered (allScreens H) (k .moved .number) (k .desk) (at (byDesk d (effectIn limits H st c)) (k .change)))
     where
-      kept : Same (deskOf st d) (deskOf (step limits H st c .after) d) → Sound (allScreens H) (deskOf (step limits H st c .after) d)
+      k : DeskChanged H st d (deskOf (step limits H st c .after) d) (byDesk d (effectIn limits H st c))
+      k = desk-change limits H st formed d hd c
+
+      kept : Same (deskOf st d) (k .desk) → Sound (allScreens H) (k .desk)
       kept e = rw (e .after) (sound-owe (allScreens H) (e .owed) (deskOf st d) ok)
 
-      at : (a : Action) → DeskChangeIn H st d (deskOf (step limits H st c .after) d) a
-          → Sound (allScreens H) (deskOf (step limits H st c .after) d)
+      at : (a : Action) → DeskChangeIn H st d (k .desk) a
+          → Sound (allScreens H) (k .desk)
       at (takes s p v) e = kept e
       at (drops s) e = kept e
       at (swaps p) e = kept e
@@ -139,7 +147,7 @@ module _ (limits : Limits) (H : Hall) (d : ℕ) (hS : 1 ≤ allScreens H) (hd : 
   sound-run (c ∷ cs) st formed ok = sound-run cs (step limits H st c .after) (formed-step limits H st formed c) (sound-step st c formed ok)
 
   -- ---- The counting law: the retirements of the sessions that pass a test are the hand-backs of such and the amount of them on the list.
-  module _ (test : ℕ → Bool) (amount : Desk → ℕ) (owes : (o : ℕ) (D : Desk) → amount (owe D o) ≡ amount D)
+  module _ (test : ℕ → Bool) (amount : Desk → ℕ) (owes : (o : ℕ) (D : Desk) → amount (owe D o) ≡ amount D) (renumbered : (n : ℕ) (D : Desk) → amount (renumber D n) ≡ amount D)
       (retired : (v : ℕ) (D : Desk) → D .owed ≡ v → amount (retire D) ≡ amount D + toNat (test v))
       (none : (shown : List ℕ) (D : Desk) → length shown ≡ allScreens H → Orderly (allScreens H) D → collect (allScreens H) shown D .session ≡ 0
       → amount (collect (allScreens H) shown D .after) ≡ amount D)
@@ -150,18 +158,26 @@ module _ (limits : Limits) (H : Hall) (d : ℕ) (hS : 1 ≤ allScreens H) (hd : 
         ≡ count (isHandBackWith test) (actionsBy d (run (step limits H) st cs)) + amount (deskOf (end (step limits H) st cs) d)
     count-run [] st formed ok = refl
     count-run (c ∷ cs) st formed ok =
-        at (byDesk d (effectIn limits H st c)) (desk-change limits H st formed d hd c)
+        at (byDesk d (effectIn limits H st c)) (k .change)
         (actionsBy d (run (step limits H) (step limits H st c .after) cs)) (amount (deskOf (end (step limits H) (step limits H st c .after) cs) d))
-        (count-run cs (step limits H st c .after) (formed-step limits H st formed c) (sound-step st c formed ok))
+        (omega (
+          arith,
+          count-run cs (step limits H st c .after) (formed-step limits H st formed c) (sound-step st c formed ok),
+          ap amount (k .moved .is),
+          renumbered (k .moved .number) (k .desk),
+        ))
       where
+        k : DeskChanged H st d (deskOf (step limits H st c .after) d) (byDesk d (effectIn limits H st c))
+        k = desk-change limits H st formed d hd c
+
         orderly : Orderly (allScreens H) (deskOf st d)
         orderly = sound-orderly (allScreens H) (deskOf st d) ok
 
-        kept : Same (deskOf st d) (deskOf (step limits H st c .after) d) → amount (deskOf (step limits H st c .after) d) ≡ amount (deskOf st d)
+        kept : Same (deskOf st d) (k .desk) → amount (k .desk) ≡ amount (deskOf st d)
         kept e = ap amount (e .after) ∙ owes (e .owed) (deskOf st d)
 
-        at : (a : Action) → DeskChangeIn H st d (deskOf (step limits H st c .after) d) a → (ds : List Action) (u : ℕ)
-            → count (isRetirementWith test) ds + amount (deskOf (step limits H st c .after) d) ≡ count (isHandBackWith test) ds + u
+        at : (a : Action) → DeskChangeIn H st d (k .desk) a → (ds : List Action) (u : ℕ)
+            → count (isRetirementWith test) ds + amount (k .desk) ≡ count (isHandBackWith test) ds + u
             → count (isRetirementWith test) (a ∷ ds) + amount (deskOf st d) ≡ count (isHandBackWith test) (a ∷ ds) + u
         at (takes s p v) e ds u ih = omega (arith, kept e)
         at (drops s) e ds u ih = omega (arith, kept e)
@@ -177,7 +193,7 @@ module _ (limits : Limits) (H : Hall) (d : ℕ) (hS : 1 ≤ allScreens H) (hd : 
   pub slots-run : (cs : List Call) (st : State) → Formed H st → Sound (allScreens H) (deskOf st d)
       → retirements d (run (step limits H) st cs) + usedSlots (deskOf st d) ≡ handBacks d (run (step limits H) st cs) + usedSlots (deskOf (end (step limits H) st cs) d)
   slots-run =
-      count-run (λ session. true) usedSlots (λ o D. refl) (λ v D q. retire-slots D)
+      count-run (λ session. true) usedSlots (λ o D. refl) (λ n D. refl) (λ v D q. retire-slots D)
       (λ shown D hl ok q. omega (arith, rw q at (collect-slots (allScreens H) shown D hS hl ok)))
       (λ v shown D hl ok q nz. omega (arith, rw q at (collect-slots (allScreens H) shown D hS hl ok), ap (λ (b : Bool). toNat (not b)) (ne-eqb v 0 nz)))
 
@@ -185,7 +201,7 @@ module _ (limits : Limits) (H : Hall) (d : ℕ) (hS : 1 ≤ allScreens H) (hd : 
   pub copies-run : (s : ℕ) → (s ≡ 0 → ⊥) → (cs : List Call) (st : State) → Formed H st → Sound (allScreens H) (deskOf st d)
       → retirementsOf d s (run (step limits H) st cs) + copiesOn s (deskOf st d) ≡ handBacksOf d s (run (step limits H) st cs) + copiesOn s (deskOf (end (step limits H) st cs) d)
   copies-run s hs =
-      count-run (eqb s) (copiesOn s) (λ o D. refl) (retire-copies s)
+      count-run (eqb s) (copiesOn s) (λ o D. refl) (λ n D. refl) (retire-copies s)
       (λ shown D hl ok q. omega (arith, indicator-other s 0 hs, rw q at (collect-copies s (allScreens H) shown D hS hl ok hs)))
       (λ v shown D hl ok q nz. rw q at (collect-copies s (allScreens H) shown D hS hl ok hs))
 
@@ -196,23 +212,26 @@ module _ (limits : Limits) (H : Hall) (d : ℕ) (hS : 1 ≤ allScreens H) (hd : 
   due-run s [] st B m formed ok du hid hc =
       omega (arith, due-end (allScreens H) s m (deskOf st d) hS (sound-orderly (allScreens H) (deskOf st d) ok) (rw (← hc) at du))
   due-run s (c ∷ cs) st B m formed ok du hid hc =
-      at (byDesk d (effectIn limits H st c)) (desk-change limits H st formed d hd c)
+      at (byDesk d (effectIn limits H st c)) (k .change)
       (actionsBy d (run (step limits H) (step limits H st c .after) cs)) (copiesOn s (deskOf (end (step limits H) (step limits H st c .after) cs) d)) B du hc
-      (λ B′ m′ du′ hc′. due-run s cs (step limits H st c .after) B′ m′ (formed-step limits H st formed c) (sound-step st c formed ok) du′ (hid .1) hc′)
+      (λ B′ m′ du′ hc′. due-run s cs (step limits H st c .after) B′ m′ (formed-step limits H st formed c) (sound-step st c formed ok) (rw (k .moved .is) (due-renumbered (allScreens H) s B′ m′ (k .moved .number) (k .desk) du′)) (hid .1) hc′)
     where
-      kept : (B : ℕ) → Due (allScreens H) s B m (deskOf st d) → Same (deskOf st d) (deskOf (step limits H st c .after) d)
-          → Due (allScreens H) s B m (deskOf (step limits H st c .after) d)
+      k : DeskChanged H st d (deskOf (step limits H st c .after) d) (byDesk d (effectIn limits H st c))
+      k = desk-change limits H st formed d hd c
+
+      kept : (B : ℕ) → Due (allScreens H) s B m (deskOf st d) → Same (deskOf st d) (k .desk)
+          → Due (allScreens H) s B m (k .desk)
       kept B du e = rw (e .after) (due-owe (allScreens H) s B m (e .owed) (deskOf st d) du)
 
       collected : (B v : ℕ) → Due (allScreens H) s (suc B) m (deskOf st d)
-          → Collects (allScreens H) (st .shown) v (deskOf st d) (deskOf (step limits H st c .after) d) → Due (allScreens H) s B m (deskOf (step limits H st c .after) d)
+          → Collects (allScreens H) (st .shown) v (deskOf st d) (k .desk) → Due (allScreens H) s B m (k .desk)
       collected B v du e =
           rw (e .after)
           (due-collect (allScreens H) s B m (st .shown) (deskOf st d) hS (formed .screens) (hid .0) (sound-orderly (allScreens H) (deskOf st d) ok) du)
 
-      at : (a : Action) → DeskChangeIn H st d (deskOf (step limits H st c .after) d) a → (ds : List Action) (u B : ℕ)
+      at : (a : Action) → DeskChangeIn H st d (k .desk) a → (ds : List Action) (u B : ℕ)
           → Due (allScreens H) s B m (deskOf st d) → count isCollect (a ∷ ds) ≡ B
-          → ((B m : ℕ) → Due (allScreens H) s B m (deskOf (step limits H st c .after) d) → count isCollect ds ≡ B → u ≤ count (isRetirementOf s) ds + m)
+          → ((B m : ℕ) → Due (allScreens H) s B m (k .desk) → count isCollect ds ≡ B → u ≤ count (isRetirementOf s) ds + m)
           → u ≤ count (isRetirementOf s) (a ∷ ds) + m
       at (takes x p v) e ds u B du hc later = omega (arith, later B m (kept B du e) (omega arith))
       at (drops x) e ds u B du hc later = omega (arith, later B m (kept B du e) (omega arith))

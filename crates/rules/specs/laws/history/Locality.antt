@@ -6,14 +6,16 @@ use mathlib.Core.Bool.{Bool, true, false, cond, _&&_, true≢false}
 use mathlib.Core.List.{List, [], _∷_}
 use lib.ListN.{getD, set}
 use lib.Seq.{getD-set-same, getD-set-other}
-use lib.Dec.{leb}
+use lib.Dec.{leb, eqb}
 use borrow.Author.Tests.{eqb-false}
 use Rattle.rules.specs.Hall.{Desk, Formed, Hall, Limits, State, TestedSlot, allScreens, deskOf, emptyDesk, screenIndex, withHeld, withShown}
-use Rattle.rules.specs.Locality.{OthersStay, SameView, StepsAlike, deskAt, positionAt, collectReads, readIfTested, screenAt}
-use Rattle.rules.specs.Steps.{Answer, Call, Collect, Collected, Drop, Retire, Step, Swap, Take, _sends_, accept, begin, changePosition, collect, decide, firstNo, handBack, inRange}
-use Rattle.rules.specs.Steps.{isNone, isRepeat, isSession, owe, performStep, questions, readScreens, retire, retireQuestions, scanAt, settle, step}
+use Rattle.rules.specs.Locality.{OthersStay, SameView, StepsAlike, collectReads, deskAt, positionAt, readIfTested, screenAt, stepNamedWords}
+use Rattle.rules.specs.Steps.{Answer, Call, Collect, Collected, Drop, Retire, Step, Swap, Take, _numbered_, _sends_, accept, advance, begin, changePosition}
+use Rattle.rules.specs.Steps.{collect, decide, firstNo, handBack, inRange, isNone, isRepeat, isSession, owe, perform, performStep, questions, readScreens, renumber}
+use Rattle.rules.specs.Steps.{retire, retireQuestions, scanAt, settle, step, withNext}
 use Rattle.rules.specs.laws.history.ScreenIndex.{screen-in, screen-same}
-use Rattle.rules.specs.laws.history.StepEffects.{IsDesk, IsPosition, IsScreen, SwapAsked, desk-asked, drop-asked, in-range, range-holds, swap-asked, take-asked}
+use Rattle.rules.specs.laws.history.StepEffects.{IsDesk, IsPosition, IsScreen, SwapAsked, desk-asked, drop-asked, formed-performed, in-range, range-holds}
+use Rattle.rules.specs.laws.history.StepEffects.{swap-asked, take-asked, unmoved}
 use Rattle.rules.specs.laws.lists.Bools.{and-left, and-right, and-true, cond-both}
 
 -- What is chosen by a test is the same where it is the same whenever the test holds; and back, where it holds.
@@ -33,14 +35,14 @@ second-same : {xs ys : List ℕ} → xs ≡ ys → getD xs 1 0 ≡ getD ys 1 0
 second-same e = ap (λ (l : List ℕ). getD l 1 0) e
 
 -- ---- What a call leaves alone.
-module _ (limits : Limits) (H : Hall) (st : State) where
-  other-desk-stays : (held : List ℕ) (d : ℕ) (new : Desk) → IsDesk H d → (x : ℕ) → (x ≡ d → ⊥)
-      → deskAt H (record { held = held; shown = st .shown; desks = set (st .desks) (d - 1) new }) x ≡ deskAt H st x
-  other-desk-stays held d new hd x other =
-      cond-cong (inRange x (H .desks)) _ _ emptyDesk (λ h.
-      let hx = in-range x (H .desks) h in
-      getD-set-other (st .desks) (d - 1) (x - 1) new emptyDesk (λ m. other (omega (arith, hd .0, hx .0))))
+other-desk-stays : (H : Hall) (st : State) (held : List ℕ) (d : ℕ) (new : Desk) → IsDesk H d → (x : ℕ) → (x ≡ d → ⊥)
+    → deskAt H (record { held = held; shown = st .shown; desks = set (st .desks) (d - 1) new }) x ≡ deskAt H st x
+other-desk-stays H st held d new hd x other =
+    cond-cong (inRange x (H .desks)) _ _ emptyDesk (λ h.
+    let hx = in-range x (H .desks) h in
+    getD-set-other (st .desks) (d - 1) (x - 1) new emptyDesk (λ m. other (omega (arith, hd .0, hx .0))))
 
+module _ (limits : Limits) (H : Hall) (st : State) where
   other-screen-stays : (d c v : ℕ) → IsDesk H d → IsScreen H c → (x y : ℕ) → (x ≡ d → y ≡ c → ⊥)
       → screenAt H (withShown st (screenIndex H d c) v) x y ≡ screenAt H st x y
   other-screen-stays d c v hd hc x y other =
@@ -58,40 +60,51 @@ module _ (limits : Limits) (H : Hall) (st : State) where
       getD-set-other (st .held) (p - 1) (q - 1) v 0 (λ m. other (omega (arith, hp .0, hq .0))))
 
   pub others-stay : (call : Call) → OthersStay H call st (step limits H st call .after)
-  others-stay call = by-number (firstNo (questions limits H st call)) (call .desk) (call .step) refl
+  others-stay call = moved (firstNo (questions limits H st call)) refl (by-number (firstNo (questions limits H st call)) (call .message) (call .desk) (call .step) refl)
     where
-      unchanged : (d : ℕ) (s : Step) → OthersStay H (d sends s) st st
-      unchanged d s = record { desks = λ x other. refl; screens = λ x y free. refl; positions = λ q free. refl }
+      unchanged : (m d : ℕ) (s : Step) → OthersStay H ((d sends s) numbered m) st st
+      unchanged m d s = record { desks = λ x other. refl; screens = λ x y free. refl; positions = λ q free. refl }
 
-      by-number : (n d : ℕ) (s : Step) → firstNo (questions limits H st (d sends s)) ≡ n
-          → let outcome = performStep H st d s in
-          OthersStay H (d sends s) st (decide n st (outcome .session) (outcome .after) .after)
-      by-number zero d (Take c p) e =
-          let asked = take-asked limits H st d c p e in
+      by-number : (n m d : ℕ) (s : Step) → firstNo (questions limits H st ((d sends s) numbered m)) ≡ n
+          → OthersStay H ((d sends s) numbered m) st (unmoved limits H st n d s .after)
+      by-number zero m d (Take c p) e =
+          let asked = take-asked limits H st m d c p e in
           record {
             desks = λ x other. refl;
             screens = λ x y free. other-screen-stays d c _ (asked .desk) (asked .screen) x y (λ own same. eqb-false c y (free own) (sym same));
             positions = λ q free. refl;
           }
-      by-number zero d (Drop c) e =
-          let asked = drop-asked limits H st d c e in
+      by-number zero m d (Drop c) e =
+          let asked = drop-asked limits H st m d c e in
           record {
             desks = λ x other. refl;
             screens = λ x y free. other-screen-stays d c 0 (asked .desk) (asked .screen) x y (λ own same. eqb-false c y (free own) (sym same));
             positions = λ q free. refl;
           }
-      by-number zero d (Swap p v) e =
-          let asked = swap-asked limits H st d p v e in
-          cond-both (OthersStay H (d sends Swap p v) st) (isRepeat (getD (st .held) (p - 1) 0) v) (unchanged d (Swap p v)) (record {
-            desks = other-desk-stays (set (st .held) (p - 1) v) d _ (asked .desk);
+      by-number zero m d (Swap p v) e =
+          let asked = swap-asked limits H st m d p v e in
+          cond-both (OthersStay H ((d sends Swap p v) numbered m) st) (isRepeat (getD (st .held) (p - 1) 0) v) (unchanged m d (Swap p v)) (record {
+            desks = other-desk-stays H st (set (st .held) (p - 1) v) d _ (asked .desk);
             screens = λ x y free. refl;
             positions = λ q free. other-position-stays p v (asked .position) q (λ same. eqb-false p q free (sym same));
           })
-      by-number zero d Retire e =
-          record { desks = other-desk-stays (st .held) d _ (desk-asked limits H st (d sends Retire) e); screens = λ x y free. refl; positions = λ q free. refl }
-      by-number zero d Collect e =
-          record { desks = other-desk-stays (st .held) d _ (desk-asked limits H st (d sends Collect) e); screens = λ x y free. refl; positions = λ q free. refl }
-      by-number (suc n) d s e = unchanged d s
+      by-number zero m d Retire e =
+          record { desks = other-desk-stays H st (st .held) d _ (desk-asked limits H st ((d sends Retire) numbered m) e); screens = λ x y free. refl; positions = λ q free. refl }
+      by-number zero m d Collect e =
+          record { desks = other-desk-stays H st (st .held) d _ (desk-asked limits H st ((d sends Collect) numbered m) e); screens = λ x y free. refl; positions = λ q free. refl }
+      by-number (suc n) m d s e = unchanged m d s
+
+      -- the message number is in the desk's own record
+      moved : (n : ℕ) → firstNo (questions limits H st call) ≡ n → OthersStay H call st (unmoved limits H st n (call .desk) (call .step) .after)
+          → OthersStay H call st (decide n st (perform H st call .session) (perform H st call .after) .after)
+      moved zero e stay =
+          let after : State = performStep H st (call .desk) (call .step) .after in
+          record {
+            desks = λ x other. other-desk-stays H after (after .held) (call .desk) _ (desk-asked limits H st call e) x other ∙ stay .desks x other;
+            screens = stay .screens;
+            positions = stay .positions;
+          }
+      moved (suc n) e stay = stay
 
 -- ---- What a call's answer and its own desk depend on.
 
@@ -118,23 +131,31 @@ module _ (limits : Limits) (H : Hall) (A B : State) where
   same-position p e h = cond-true-injective (inRange p (H .positions)) _ _ 0 h e
 
   -- A call is asked the same in both, so it is refused by the same number or accepted in both.
-  asked-alike : (d : ℕ) (s : Step) → SameView H A B (d sends s) → firstNo (questions limits H A (d sends s)) ≡ firstNo (questions limits H B (d sends s))
-  asked-alike d (Take c p) view =
+  same-number : (m : ℕ) {D E : Desk} {x y : ℕ} → D ≡ E → x ≡ y → cond (eqb m (D .next)) x 23 ≡ cond (eqb m (E .next)) y 23
+  same-number m desks later = λ i. cond (eqb m (desks i .next)) (later i) 23
+
+  asked-alike : (m d : ℕ) (s : Step) → SameView H A B ((d sends s) numbered m)
+      → firstNo (questions limits H A ((d sends s) numbered m)) ≡ firstNo (questions limits H B ((d sends s) numbered m))
+  asked-alike m d (Take c p) view =
       cond-cong (inRange d (H .desks)) _ _ 6 (λ hd.
-      cond-cong (inRange c (H .screens)) _ _ 7 (λ hc.
+      same-number m (same-desk d (view .desk) hd)
+      (cond-cong (inRange c (H .screens)) _ _ 7 (λ hc.
       cond-cong (inRange p (H .positions)) _ _ 8 (λ hp.
       ap₂ (λ (shown held : ℕ). cond (isNone shown) (cond (isSession held) 0 10) 9) (same-screen d c (first-same (view .named)) hd hc)
-      (same-position p (second-same (view .named)) hp))))
-  asked-alike d (Drop c) view =
+      (same-position p (second-same (view .named)) hp)))))
+  asked-alike m d (Drop c) view =
       cond-cong (inRange d (H .desks)) _ _ 6 (λ hd.
-      cond-cong (inRange c (H .screens)) _ _ 7 (λ hc. ap (λ (shown : ℕ). cond (isSession shown) 0 11) (same-screen d c (first-same (view .named)) hd hc)))
-  asked-alike d (Swap p v) view =
+      same-number m (same-desk d (view .desk) hd)
+      (cond-cong (inRange c (H .screens)) _ _ 7 (λ hc. ap (λ (shown : ℕ). cond (isSession shown) 0 11) (same-screen d c (first-same (view .named)) hd hc))))
+  asked-alike m d (Swap p v) view =
       cond-cong (inRange d (H .desks)) _ _ 6 (λ hd.
-      cond-cong (inRange p (H .positions)) _ _ 8 (λ hp.
-      ap (λ (D : Desk). cond (leb v (limits .sessions)) (cond (isNone (D .owed)) 0 12) 22) (same-desk d (view .desk) hd)))
-  asked-alike d Retire view =
-      cond-cong (inRange d (H .desks)) _ _ 6 (λ hd. ap (λ (D : Desk). firstNo (retireQuestions (allScreens H) D)) (same-desk d (view .desk) hd))
-  asked-alike d Collect view = refl
+      same-number m (same-desk d (view .desk) hd)
+      (cond-cong (inRange p (H .positions)) _ _ 8 (λ hp.
+      ap (λ (D : Desk). cond (leb v (limits .sessions)) (cond (isNone (D .owed)) 0 12) 22) (same-desk d (view .desk) hd))))
+  asked-alike m d Retire view =
+      cond-cong (inRange d (H .desks)) _ _ 6 (λ hd.
+      same-number m (same-desk d (view .desk) hd) (ap (λ (D : Desk). firstNo (retireQuestions (allScreens H) D)) (same-desk d (view .desk) hd)))
+  asked-alike m d Collect view = cond-cong (inRange d (H .desks)) _ _ 6 (λ hd. same-number m (same-desk d (view .desk) hd) refl)
 
   module _ (formedA : Formed H A) (formedB : Formed H B) where
     -- What is the same and stored in both at one desk, one screen or one position is the same there.
@@ -163,15 +184,15 @@ module _ (limits : Limits) (H : Hall) (A B : State) where
         ∙ sym (getD-set-same (B .held) (p - 1) v 0 (omega (arith, formedB .positions))))
 
     pub steps-alike : (call : Call) → SameView H A B call → StepsAlike H call (step limits H A call) (step limits H B call)
-    steps-alike call view = from (firstNo (questions limits H B call)) (asked-alike (call .desk) (call .step) view) refl
+    steps-alike call view = from (firstNo (questions limits H B call)) (asked-alike (call .message) (call .desk) (call .step) view) refl
       where
         accepted : {v w : ℕ} → v ≡ w → _≡_ {A = Answer} (record { number = 0; session = v }) (record { number = 0; session = w })
         accepted e = λ i. record { number = 0; session = e i }
 
         -- a collect of the same desk that reads the same screens
-        collect-alike : (d : ℕ) → inRange d (H .desks) ≡ true → SameView H A B (d sends Collect)
+        collect-alike : (m d : ℕ) → inRange d (H .desks) ≡ true → SameView H A B ((d sends Collect) numbered m)
             → collect (allScreens H) (A .shown) (deskOf A d) ≡ collect (allScreens H) (B .shown) (deskOf B d)
-        collect-alike d hd view =
+        collect-alike m d hd view =
             let same = same-desk d (view .desk) hd in
             let reads : collectReads (A .shown) (deskOf A d) ≡ collectReads (B .shown) (deskOf B d) =
             ap (λ (b : Bool). collectReads (A .shown) (cond b (deskOf A d) emptyDesk)) (sym hd)
@@ -181,13 +202,13 @@ module _ (limits : Limits) (H : Hall) (A B : State) where
             ∙ ap (collect (allScreens H) (B .shown)) same
 
         -- a swap that both states find to be a repeat, or both find to be a change
-        swap-alike : (d p v : ℕ) → SameView H A B (d sends Swap p v) → SwapAsked H A d p
+        swap-alike : (m d p v : ℕ) → SameView H A B ((d sends Swap p v) numbered m) → SwapAsked H A d p
             → let left = getD (A .held) (p - 1) 0 in
             let right = getD (B .held) (p - 1) 0 in
             left ≡ right → (b : Bool)
-            → StepsAlike H (d sends Swap p v) (accept left (cond b A (changePosition A d p v))) (accept right (cond b B (changePosition B d p v)))
-        swap-alike d p v view asked old true = record { answer = accepted old; desk = view .desk; named = view .named }
-        swap-alike d p v view asked old false =
+            → StepsAlike H ((d sends Swap p v) numbered m) (accept left (cond b A (changePosition A d p v))) (accept right (cond b B (changePosition B d p v)))
+        swap-alike m d p v view asked old true = record { answer = accepted old; desk = view .desk; named = view .named }
+        swap-alike m d p v view asked old false =
             let same = same-desk d (view .desk) (range-holds d (H .desks) (asked .desk)) in
             record {
               answer = accepted old;
@@ -195,42 +216,70 @@ module _ (limits : Limits) (H : Hall) (A B : State) where
               named = λ i. position-stored p v (asked .position) i ∷ [];
             }
 
-        by-number : (n d : ℕ) (s : Step) → SameView H A B (d sends s) → firstNo (questions limits H A (d sends s)) ≡ n
-            → let left = performStep H A d s in
-            let right = performStep H B d s in
-            StepsAlike H (d sends s) (decide n A (left .session) (left .after)) (decide n B (right .session) (right .after))
-        by-number zero d (Take c p) view e =
-            let asked = take-asked limits H A d c p e in
+        by-number : (n m d : ℕ) (s : Step) → SameView H A B ((d sends s) numbered m) → firstNo (questions limits H A ((d sends s) numbered m)) ≡ n
+            → StepsAlike H ((d sends s) numbered m) (unmoved limits H A n d s) (unmoved limits H B n d s)
+        by-number zero m d (Take c p) view e =
+            let asked = take-asked limits H A m d c p e in
             let session = same-position p (second-same (view .named)) (range-holds p (H .positions) (asked .position)) in
             record {
               answer = accepted session;
               desk = view .desk;
               named = λ i. screen-stored-alike d c _ _ (asked .desk) (asked .screen) session i ∷ second-same (view .named) i ∷ [];
             }
-        by-number zero d (Drop c) view e =
-            let asked = drop-asked limits H A d c e in
+        by-number zero m d (Drop c) view e =
+            let asked = drop-asked limits H A m d c e in
             record {
               answer = accepted (same-screen d c (first-same (view .named)) (range-holds d (H .desks) (asked .desk)) (range-holds c (H .screens) (asked .screen)));
               desk = view .desk;
               named = λ i. screen-stored-alike d c 0 0 (asked .desk) (asked .screen) refl i ∷ [];
             }
-        by-number zero d (Swap p v) view e =
-            let asked = swap-asked limits H A d p v e in
+        by-number zero m d (Swap p v) view e =
+            let asked = swap-asked limits H A m d p v e in
             let old = same-position p (first-same (view .named)) (range-holds p (H .positions) (asked .position)) in
-            rw (ap (λ (session : ℕ). isRepeat session v) old) (swap-alike d p v view asked old (isRepeat (getD (B .held) (p - 1) 0) v))
-        by-number zero d Retire view e =
-            let hd = desk-asked limits H A (d sends Retire) e in
+            rw (ap (λ (session : ℕ). isRepeat session v) old) (swap-alike m d p v view asked old (isRepeat (getD (B .held) (p - 1) 0) v))
+        by-number zero m d Retire view e =
+            let hd = desk-asked limits H A ((d sends Retire) numbered m) e in
             let same = same-desk d (view .desk) (range-holds d (H .desks) hd) in
             record { answer = accepted (ap (λ (D : Desk). D .owed) same); desk = desk-stored d _ _ (A .held) (B .held) hd (ap retire same); named = refl }
-        by-number zero d Collect view e =
-            let hd = desk-asked limits H A (d sends Collect) e in
-            let same = collect-alike d (range-holds d (H .desks) hd) view in
+        by-number zero m d Collect view e =
+            let hd = desk-asked limits H A ((d sends Collect) numbered m) e in
+            let same = collect-alike m d (range-holds d (H .desks) hd) view in
             record {
               answer = accepted (ap (λ (collected : Collected). collected .session) same);
               desk = desk-stored d _ _ (A .held) (B .held) hd (ap (λ (collected : Collected). collected .after) same);
               named = refl;
             }
-        by-number (suc n) d s view e = record { answer = refl; desk = view .desk; named = view .named }
+        by-number (suc n) m d s view e = record { answer = refl; desk = view .desk; named = view .named }
+
+        -- the message number, which is in the desk's record, moves on in both
+        named-moved : (st : State) (number : ℕ) (s : Step) → stepNamedWords H (withNext st (call .desk) number) (call .desk) s ≡ stepNamedWords H st (call .desk) s
+        named-moved st number (Take c p) = refl
+        named-moved st number (Drop c) = refl
+        named-moved st number (Swap p v) = refl
+        named-moved st number Retire = refl
+        named-moved st number Collect = refl
+
+        moved : (n : ℕ) → firstNo (questions limits H A call) ≡ n → firstNo (questions limits H B call) ≡ n
+            → StepsAlike H call (unmoved limits H A n (call .desk) (call .step)) (unmoved limits H B n (call .desk) (call .step))
+            → StepsAlike H call (decide n A (perform H A call .session) (perform H A call .after)) (decide n B (perform H B call .session) (perform H B call .after))
+        moved zero e f alike =
+            let d : ℕ = call .desk in
+            let hd = range-holds d (H .desks) (desk-asked limits H A call e) in
+            let there = desk-asked limits H A call e in
+            let before = same-desk d (view .desk) hd in
+            let left : State = performStep H A d (call .step) .after in
+            let right : State = performStep H B d (call .step) .after in
+            let after : deskOf left d ≡ deskOf right d = cond-true-injective (inRange d (H .desks)) _ _ emptyDesk hd (alike .desk) in
+            record {
+              answer = alike .answer;
+              desk =
+                  cond-cong (inRange d (H .desks)) _ _ emptyDesk (λ h.
+                  getD-set-same (left .desks) (d - 1) _ emptyDesk (omega (arith, formed-performed limits H A formedA call e .desks, there))
+                  ∙ (λ i. renumber (after i) (advance (before i .next)))
+                  ∙ sym (getD-set-same (right .desks) (d - 1) _ emptyDesk (omega (arith, formed-performed limits H B formedB call f .desks, there))));
+              named = named-moved left _ (call .step) ∙ alike .named ∙ sym (named-moved right _ (call .step));
+            }
+        moved (suc n) e f alike = alike
 
         from : (n : ℕ) → firstNo (questions limits H A call) ≡ n → firstNo (questions limits H B call) ≡ n → StepsAlike H call (step limits H A call) (step limits H B call)
-        from n e f = rw (e, f) (by-number n (call .desk) (call .step) view e)
+        from n e f = rw (e, f) (moved n e f (by-number n (call .message) (call .desk) (call .step) view e))

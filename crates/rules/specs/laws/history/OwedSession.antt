@@ -7,9 +7,9 @@ use lib.ListN.{getD, set}
 use lib.Seq.{getD-set-same, getD-set-other}
 use Rattle.rules.specs.Hall.{Desk, Formed, Hall, State, allScreens, deskOf, emptyDesk}
 use Rattle.rules.specs.History.{Action, collects, drops, handsBack, noAction, outOfRoom, retires, swaps, takes}
-use Rattle.rules.specs.Steps.{collect}
+use Rattle.rules.specs.Steps.{collect, withNext}
 use Rattle.rules.specs.laws.desk.Collect.{owed-collect}
-use Rattle.rules.specs.laws.history.StepEffects.{IsDesk, StateChange, Swapped}
+use Rattle.rules.specs.laws.history.StepEffects.{IsDesk, StateChange, Swapped, desk-renumbered}
 
 module _ (H : Hall) (st : State) where
   pub held-kept : (d : ℕ) (a : Action) (after : State) → StateChange H st d a after → (p : ℕ) → 1 ≤ p → (a ≡ swaps p → ⊥)
@@ -24,6 +24,10 @@ module _ (H : Hall) (st : State) where
   held-kept d collects after k p hp no-swap = rw (k .state)
   held-kept d (handsBack v) after k p hp no-swap = rw (k .state)
   held-kept d noAction after k p hp no-swap = rw k
+
+-- the message number is nothing that a desk owes
+pub owed-moved : (d n e : ℕ) (after : State) → deskOf (withNext after d n) e .owed ≡ deskOf after e .owed
+owed-moved d n e after = ap (λ (E : Desk). E .owed) (desk-renumbered after d n e .is)
 
 module _ (H : Hall) (st : State) (formed : Formed H st) where
   -- a desk that becomes `new`, and another

@@ -13,7 +13,8 @@ use Rattle.rules.specs.Closing.{putAt, stepPuts}
 use Rattle.rules.specs.Hall.{Desk, Formed, Hall, Limits, State, allScreens, deskOf, emptyDesk}
 use Rattle.rules.specs.History.{Effect, _by_, actionOf, collects, effectAt, handsBack, isHandBackOf, noAction, outOfRoom, swaps}
 use Rattle.rules.specs.Lists.{occurrences, toNat}
-use Rattle.rules.specs.Steps.{Call, Collect, Drop, Retire, Step, Swap, Take, _sends_, changePosition, collect, decide, end, firstNo, isRepeat, owe, performStep, questions, retire, run, step}
+use Rattle.rules.specs.Steps.{Call, Collect, Drop, Retire, Step, Swap, Take, _numbered_, _sends_, advance, changePosition, collect, decide, end, firstNo, isRepeat, owe}
+use Rattle.rules.specs.Steps.{perform, questions, renumber, retire, run, step, withNext}
 use Rattle.rules.specs.laws.desk.Collect.{Orderly, collect-copies, copiesOn, owed-collect, retire-copies}
 use Rattle.rules.specs.laws.desk.Sound.{Sound, sound-orderly}
 use Rattle.rules.specs.laws.history.Actions.{same-action}
@@ -63,6 +64,11 @@ module _ (s : ℕ) (hs : s ≡ 0 → ⊥) where
   references-set (D ∷ Ds) zero E h = omega arith
   references-set (D ∷ Ds) (suc i) E h = omega (arith, references-set Ds i E (omega arith))
 
+  references-renumbered : (n : ℕ) (Ds : List Desk) (i : ℕ) → desksReferences s (set Ds i (renumber (getD Ds i emptyDesk) n)) ≡ desksReferences s Ds
+  references-renumbered n [] i = refl
+  references-renumbered n (D ∷ Ds) zero = refl
+  references-renumbered n (D ∷ Ds) (suc i) = ap (λ (m : ℕ). deskReferences s D + m) (references-renumbered n Ds i)
+
   -- ---- One call.
   module _ (limits : Limits) (H : Hall) (some : 1 ≤ allScreens H) where
     hand-back-counted : (v : ℕ) (b : Bool) → eqb v 0 ≡ b → toNat (isHandBackOf s (cond b collects (handsBack v))) ≡ indicator s v
@@ -74,51 +80,54 @@ module _ (s : ℕ) (hs : s ≡ 0 → ⊥) where
     refused-retire-counted false = refl
 
     -- what was there and what was put is what is there and what was handed back
-    references-balance : (st : State) → Formed H st → ((d : ℕ) → 1 ≤ d → Orderly (allScreens H) (deskOf st d)) → (n d : ℕ) (w : Step) → firstNo (questions limits H st (d sends w)) ≡ n
-        → let outcome = performStep H st d w in
+    references-balance : (st : State) → Formed H st → ((d : ℕ) → 1 ≤ d → Orderly (allScreens H) (deskOf st d)) → (n m d : ℕ) (w : Step) → firstNo (questions limits H st ((d sends w) numbered m)) ≡ n
+        → let outcome = perform H st ((d sends w) numbered m) in
         let r = decide n st (outcome .session) (outcome .after) in
         references s (r .after) + toNat (isHandBackOf s (actionOf w (r .answer .number) (r .answer .session))) ≡ references s st + indicator s (stepPuts w (r .answer .number) (r .answer .session))
-    references-balance st formed ok zero d (Take c p) e = omega (arith, indicator-other s 0 hs)
-    references-balance st formed ok zero d (Drop c) e = omega (arith, indicator-other s 0 hs)
-    references-balance st formed ok zero d (Swap p v) e = by-repeat (isRepeat (getD (st .held) (p - 1) 0) v)
+    references-balance st formed ok zero m d (Take c p) e = omega (arith, indicator-other s 0 hs, references-renumbered (advance (deskOf st d .next)) (st .desks) (d - 1))
+    references-balance st formed ok zero m d (Drop c) e = omega (arith, indicator-other s 0 hs, references-renumbered (advance (deskOf st d .next)) (st .desks) (d - 1))
+    references-balance st formed ok zero m d (Swap p v) e = by-repeat (isRepeat (getD (st .held) (p - 1) 0) v)
       where
         by-repeat : (b : Bool)
-            → references s (cond b st (changePosition st d p v)) + toNat (isHandBackOf s (cond b noAction (swaps p))) ≡ references s st + indicator s (cond b 0 v)
-        by-repeat true = omega (arith, indicator-other s 0 hs)
+            → references s (withNext (cond b st (changePosition st d p v)) d (advance (deskOf st d .next))) + toNat (isHandBackOf s (cond b noAction (swaps p))) ≡ references s st + indicator s (cond b 0 v)
+        by-repeat true = omega (arith, indicator-other s 0 hs, references-renumbered (advance (deskOf st d .next)) (st .desks) (d - 1))
         by-repeat false =
-            let t = swap-asked limits H st d p v e in
+            let t = swap-asked limits H st m d p v e in
             omega (
               arith,
               occurs-set (st .held) (p - 1) v (omega (arith, formed .positions)),
               references-set (st .desks) (d - 1) (owe (deskOf st d) (getD (st .held) (p - 1) 0)) (omega (arith, formed .desks)),
+              references-renumbered (advance (deskOf st d .next)) (changePosition st d p v .desks) (d - 1),
               ap (indicator s) (t .owesNothing),
               indicator-other s 0 hs,
             )
-    references-balance st formed ok zero d Retire e =
-        let t = retire-asked limits H st d e in
+    references-balance st formed ok zero m d Retire e =
+        let t = retire-asked limits H st m d e in
         omega (
           arith,
           references-set (st .desks) (d - 1) (retire (deskOf st d)) (omega (arith, formed .desks)),
+          references-renumbered (advance (deskOf st d .next)) (set (st .desks) (d - 1) (retire (deskOf st d))) (d - 1),
           retire-copies s (deskOf st d .owed) (deskOf st d) refl,
           indicator-other s 0 hs,
         )
-    references-balance st formed ok zero d Collect e =
-        let r = desk-asked limits H st (d sends Collect) e in
+    references-balance st formed ok zero m d Collect e =
+        let r = desk-asked limits H st ((d sends Collect) numbered m) e in
         let after = collect (allScreens H) (st .shown) (deskOf st d) .after in
         let session = collect (allScreens H) (st .shown) (deskOf st d) .session in
         omega (
           arith,
           references-set (st .desks) (d - 1) after (omega (arith, formed .desks)),
+          references-renumbered (advance (deskOf st d .next)) (set (st .desks) (d - 1) after) (d - 1),
           collect-copies s (allScreens H) (st .shown) (deskOf st d) some (formed .screens) (ok d (r .0)) hs,
           ap (indicator s) (owed-collect (allScreens H) (st .shown) (deskOf st d)),
           hand-back-counted session (eqb session 0) refl,
           indicator-other s 0 hs,
         )
-    references-balance st formed ok (suc n) d (Take c p) e = omega (arith, indicator-other s 0 hs)
-    references-balance st formed ok (suc n) d (Drop c) e = omega (arith, indicator-other s 0 hs)
-    references-balance st formed ok (suc n) d (Swap p v) e = omega (arith, indicator-other s 0 hs)
-    references-balance st formed ok (suc n) d Retire e = omega (arith, refused-retire-counted (eqb (suc n) 14), indicator-other s 0 hs)
-    references-balance st formed ok (suc n) d Collect e = omega (arith, indicator-other s 0 hs)
+    references-balance st formed ok (suc n) m d (Take c p) e = omega (arith, indicator-other s 0 hs)
+    references-balance st formed ok (suc n) m d (Drop c) e = omega (arith, indicator-other s 0 hs)
+    references-balance st formed ok (suc n) m d (Swap p v) e = omega (arith, indicator-other s 0 hs)
+    references-balance st formed ok (suc n) m d Retire e = omega (arith, refused-retire-counted (eqb (suc n) 14), indicator-other s 0 hs)
+    references-balance st formed ok (suc n) m d Collect e = omega (arith, indicator-other s 0 hs)
 
     -- no call both puts a session and hands one back
     put-or-back : (w : Step) (n v : ℕ) → toNat (isHandBackOf s (actionOf w n v)) + indicator s (stepPuts w n v) ≤ 1
@@ -144,7 +153,7 @@ module _ (s : ℕ) (hs : s ≡ 0 → ⊥) where
     none-after-hand-back (c ∷ cs) st formed ok single zero d back fresh =
         omega (
           arith,
-          references-balance st formed (λ e he. sound-orderly (allScreens H) (deskOf st e) (ok e he)) (firstNo (questions limits H st c)) (c .desk) (c .step) refl,
+          references-balance st formed (λ e he. sound-orderly (allScreens H) (deskOf st e) (ok e he)) (firstNo (questions limits H st c)) (c .message) (c .desk) (c .step) refl,
           put-or-back (c .step) (step limits H st c .answer .number) (step limits H st c .answer .session),
           ap (λ (e : Effect). toNat (isHandBackOf s (e .action))) back,
           indicator-same s,
@@ -159,7 +168,7 @@ module _ (s : ℕ) (hs : s ≡ 0 → ⊥) where
             after-bounded : references s (step limits H st c .after) ≤ references s st + indicator s (putAt (run (step limits H) st (c ∷ cs)) 0)
             after-bounded =
                 omega
-                (arith, references-balance st formed (λ e he. sound-orderly (allScreens H) (deskOf st e) (ok e he)) (firstNo (questions limits H st c)) (c .desk) (c .step) refl)
+                (arith, references-balance st formed (λ e he. sound-orderly (allScreens H) (deskOf st e) (ok e he)) (firstNo (questions limits H st c)) (c .message) (c .desk) (c .step) refl)
 
             by-put : Dec (putAt (run (step limits H) st (c ∷ cs)) 0 ≡ s) → references s (step limits H st c .after) ≤ 1
             by-put (yes t) = omega (arith, after-bounded, fresh 0 (omega arith) t, indicator-at-most-one s (putAt (run (step limits H) st (c ∷ cs)) 0))

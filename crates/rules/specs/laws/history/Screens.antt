@@ -82,7 +82,7 @@ module _ (limits : Limits) (H : Hall) (f : ℕ → Effect) (n : ℕ) (st : State
               eqb-false (screenIndex H d c) x t ((λ i. screenIndex H (same-desk q u i) (screens i)) ∙ before x nz .index)
 
   pub all-shown-step : (c : Call) → f n ≡ effectIn limits H st c → AllShown H f (suc n) (step limits H st c .after)
-  all-shown-step c q = at (f n .desk) (f n .action) (step limits H st c .after) refl (state-change-as limits H st c (f n) (sym q))
+  all-shown-step c q = let k = state-change-as limits H st c (f n) (sym q) in rw (k .moved) (at (f n .desk) (f n .action) (k .state) refl (k .change))
     where
       -- an action that is no drop, and no screen changes
       unchanged : (d : ℕ) (a : Action) (after : State) → f n ≡ a by d → isDrop a ≡ false → after .shown ≡ st .shown → AllShown H f (suc n) after

@@ -11,8 +11,8 @@ use lib.Dec.{leb, ltb, eqb}
 use borrow.Author.Tests.{eqb-true, eqb-false, ltb-true, ltb-false, leb-true, not-true, le-leb}
 use Rattle.rules.specs.Hall.{Desk, Formed, Hall, Limits, State, allScreens, deskOf, emptyDesk, screenIndex, usedSlots, withDesk, withShown}
 use Rattle.rules.specs.History.{Action, Effect, _by_, actionOf, byDesk, collects, drops, handsBack, noAction, outOfRoom, retires, swaps, takes}
-use Rattle.rules.specs.Steps.{Call, Collect, Drop, Question, Retire, Step, Swap, Take, _sends_, ask, changePosition, collect, decide, firstNo, inRange, isRepeat, owe, performStep}
-use Rattle.rules.specs.Steps.{questions, retire, step}
+use Rattle.rules.specs.Steps.{Answer, Call, Collect, Drop, Question, Result, Retire, Step, Swap, Take, _numbered_, _sends_, advance, ask, changePosition, collect, decide, firstNo}
+use Rattle.rules.specs.Steps.{inRange, isRepeat, owe, perform, performStep, questions, renumber, retire, step, withNext}
 use Rattle.rules.specs.laws.lists.Bools.{and-left, and-right, and-true}
 
 abbrev pub IsDesk : Hall → ℕ → Type 0
@@ -47,25 +47,26 @@ holds true m n e = (refl, e)
 holds false m n e = absurd (omega arith)
 
 -- each question of a list in which none has the number 0
-abbrev numbered : List Question → Bool
-numbered [] = true
-numbered (first ∷ others) = not (eqb (first .number) 0) && numbered others
+abbrev hasNumbers : List Question → Bool
+hasNumbers [] = true
+hasNumbers (first ∷ others) = not (eqb (first .number) 0) && hasNumbers others
 
-all-yes : (asked : List Question) → numbered asked ≡ true → firstNo asked ≡ 0 → (i : ℕ) → getD asked i (ask true 0) .yes? ≡ true
+all-yes : (asked : List Question) → hasNumbers asked ≡ true → firstNo asked ≡ 0 → (i : ℕ) → getD asked i (ask true 0) .yes? ≡ true
 all-yes [] n e = λ i. refl
-all-yes (first ∷ others) n e = by-answer (first .yes?) refl e (all-yes others (and-right (not (eqb (first .number) 0)) (numbered others) n))
+all-yes (first ∷ others) n e = by-answer (first .yes?) refl e (all-yes others (and-right (not (eqb (first .number) 0)) (hasNumbers others) n))
   where
     by-answer : (b : Bool) → first .yes? ≡ b → cond b (firstNo others) (first .number) ≡ 0
         → (firstNo others ≡ 0 → (i : ℕ) → getD others i (ask true 0) .yes? ≡ true) → (i : ℕ) → getD (first ∷ others) i (ask true 0) .yes? ≡ true
     by-answer true y e rest zero = y
     by-answer true y e rest (suc i) = rest e i
-    by-answer false y e rest i = absurd (eqb-false (first .number) 0 (not-true _ (and-left (not (eqb (first .number) 0)) (numbered others) n)) e)
+    by-answer false y e rest i = absurd (eqb-false (first .number) 0 (not-true _ (and-left (not (eqb (first .number) 0)) (hasNumbers others) n)) e)
 
-retire-refused-full : (a b c : Bool) → cond {A = ℕ} a (cond {A = ℕ} b (cond {A = ℕ} c 0 14) 13) 6 ≡ 14 → (a ≡ true) × (c ≡ false)
-retire-refused-full true true true e = absurd (omega arith)
-retire-refused-full true true false e = (refl, refl)
-retire-refused-full true false c e = absurd (omega arith)
-retire-refused-full false b c e = absurd (omega arith)
+retire-refused-full : (a n b c : Bool) → cond {A = ℕ} a (cond {A = ℕ} n (cond {A = ℕ} b (cond {A = ℕ} c 0 14) 13) 23) 6 ≡ 14 → (a ≡ true) × (c ≡ false)
+retire-refused-full true true true true e = absurd (omega arith)
+retire-refused-full true true true false e = (refl, refl)
+retire-refused-full true true false c e = absurd (omega arith)
+retire-refused-full true false b c e = absurd (omega arith)
+retire-refused-full false n b c e = absurd (omega arith)
 
 pub record TakeAsked (H : Hall) (st : State) (d c p : ℕ) : Type 0 where
   pub desk : IsDesk H d
@@ -89,35 +90,40 @@ pub record RetireAsked (H : Hall) (st : State) (d : ℕ) : Type 0 where
   pub room : usedSlots (deskOf st d) < 2 * allScreens H
 
 module _ (limits : Limits) (H : Hall) (st : State) where
-  -- the desk of any call
+  -- the desk of any call, and its message number
   pub desk-asked : (call : Call) → firstNo (questions limits H st call) ≡ 0 → IsDesk H (call .desk)
   desk-asked call e = in-range (call .desk) (H .desks) (holds (inRange (call .desk) (H .desks)) _ 5 e .0)
 
-  pub take-asked : (d c p : ℕ) → firstNo (questions limits H st (d sends Take c p)) ≡ 0 → TakeAsked H st d c p
-  take-asked d c p e =
-      let y = all-yes (questions limits H st (d sends Take c p)) refl e in
+  pub number-asked : (call : Call) → firstNo (questions limits H st call) ≡ 0 → call .message ≡ deskOf st (call .desk) .next
+  number-asked call e =
+      eqb-true (call .message) (deskOf st (call .desk) .next)
+      (holds (eqb (call .message) (deskOf st (call .desk) .next)) _ 22 (holds (inRange (call .desk) (H .desks)) _ 5 e .1) .0)
+
+  pub take-asked : (m d c p : ℕ) → firstNo (questions limits H st ((d sends Take c p) numbered m)) ≡ 0 → TakeAsked H st d c p
+  take-asked m d c p e =
+      let y = all-yes (questions limits H st ((d sends Take c p) numbered m)) refl e in
       record {
         desk = in-range d (H .desks) (y 0);
-        screen = in-range c (H .screens) (y 1);
-        position = in-range p (H .positions) (y 2);
-        empty = eqb-true _ 0 (y 3);
-        some = eqb-false _ 0 (not-true _ (y 4));
+        screen = in-range c (H .screens) (y 2);
+        position = in-range p (H .positions) (y 3);
+        empty = eqb-true _ 0 (y 4);
+        some = eqb-false _ 0 (not-true _ (y 5));
       }
 
-  pub drop-asked : (d c : ℕ) → firstNo (questions limits H st (d sends Drop c)) ≡ 0 → DropAsked H d c
-  drop-asked d c e =
-      let y = all-yes (questions limits H st (d sends Drop c)) refl e in
-      record { desk = in-range d (H .desks) (y 0); screen = in-range c (H .screens) (y 1) }
+  pub drop-asked : (m d c : ℕ) → firstNo (questions limits H st ((d sends Drop c) numbered m)) ≡ 0 → DropAsked H d c
+  drop-asked m d c e =
+      let y = all-yes (questions limits H st ((d sends Drop c) numbered m)) refl e in
+      record { desk = in-range d (H .desks) (y 0); screen = in-range c (H .screens) (y 2) }
 
-  pub swap-asked : (d p v : ℕ) → firstNo (questions limits H st (d sends Swap p v)) ≡ 0 → SwapAsked H st d p
-  swap-asked d p v e =
-      let y = all-yes (questions limits H st (d sends Swap p v)) refl e in
-      record { desk = in-range d (H .desks) (y 0); position = in-range p (H .positions) (y 1); owesNothing = eqb-true _ 0 (y 3) }
+  pub swap-asked : (m d p v : ℕ) → firstNo (questions limits H st ((d sends Swap p v) numbered m)) ≡ 0 → SwapAsked H st d p
+  swap-asked m d p v e =
+      let y = all-yes (questions limits H st ((d sends Swap p v) numbered m)) refl e in
+      record { desk = in-range d (H .desks) (y 0); position = in-range p (H .positions) (y 2); owesNothing = eqb-true _ 0 (y 4) }
 
-  pub retire-asked : (d : ℕ) → firstNo (questions limits H st (d sends Retire)) ≡ 0 → RetireAsked H st d
-  retire-asked d e =
-      let y = all-yes (questions limits H st (d sends Retire)) refl e in
-      record { desk = in-range d (H .desks) (y 0); owes = eqb-false _ 0 (not-true _ (y 1)); room = ltb-true _ _ (y 2) }
+  pub retire-asked : (m d : ℕ) → firstNo (questions limits H st ((d sends Retire) numbered m)) ≡ 0 → RetireAsked H st d
+  retire-asked m d e =
+      let y = all-yes (questions limits H st ((d sends Retire) numbered m)) refl e in
+      record { desk = in-range d (H .desks) (y 0); owes = eqb-false _ 0 (not-true _ (y 2)); room = ltb-true _ _ (y 3) }
 
 -- ---- What becomes of a desk D, by its own action.
 
@@ -154,7 +160,18 @@ DeskChange S shown D E noAction = Same D E
 abbrev pub DeskChangeIn : Hall → State → ℕ → Desk → Action → Type 0
 DeskChangeIn H st d E action = DeskChange (allScreens H) (st .shown) (deskOf st d) E action
 
--- ---- What an action of desk d found, and the state after it.
+-- A desk with another next message number, or the same.
+pub record Renumbered (before after : Desk) : Type 0 where
+  pub number : ℕ
+  pub is : after ≡ renumber before number
+
+-- What became of desk d, and then of its next message number.
+pub record DeskChanged (H : Hall) (st : State) (d : ℕ) (after : Desk) (action : Action) : Type 0 where
+  pub desk : Desk
+  pub change : DeskChangeIn H st d desk action
+  pub moved : Renumbered desk after
+
+-- ---- What an action of desk d found, and the state after it, but for the message number.
 pub record Took (H : Hall) (st : State) (d c p v : ℕ) (after : State) : Type 0 where
   pub desk : IsDesk H d
   pub screen : IsScreen H c
@@ -193,6 +210,13 @@ StateChange H st d collects after = OnDesk H st d collects after
 StateChange H st d (handsBack v) after = OnDesk H st d (handsBack v) after
 StateChange H st d noAction after = after ≡ st
 
+-- A call of desk d: its action, and then the desk's next message number, moved on if the call was accepted and as it was otherwise.
+pub record StateChanged (H : Hall) (st : State) (d : ℕ) (action : Action) (after : State) : Type 0 where
+  pub state : State
+  pub change : StateChange H st d action state
+  pub number : ℕ
+  pub moved : after ≡ withNext state d number
+
 -- What an action has in range, and that a session retired or handed back is not 0.
 abbrev pub Range : Hall → ℕ → Action → Type 0
 Range H d (takes c p v) = IsDesk H d × IsScreen H c
@@ -207,10 +231,32 @@ Range H d noAction = Unit {0}
 abbrev pub InHall : Hall → Effect → Type 0
 InHall H effect = Range H (effect .desk) (effect .action)
 
+-- Any desk, where one has moved its number.
+pub desk-renumbered : (st : State) (d n e : ℕ) → Renumbered (deskOf st e) (deskOf (withNext st d n) e)
+desk-renumbered st d n e = at (st .desks) (d - 1) (e - 1)
+  where
+    at : (Ds : List Desk) (i j : ℕ) → Renumbered (getD Ds j emptyDesk) (getD (set Ds i (renumber (getD Ds i emptyDesk) n)) j emptyDesk)
+    at [] i j = record { number = 0; is = refl }
+    at (D ∷ Ds) zero zero = record { number = n; is = refl }
+    at (D ∷ Ds) zero (suc j) = record { number = getD Ds j emptyDesk .next; is = refl }
+    at (D ∷ Ds) (suc i) zero = record { number = D .next; is = refl }
+    at (D ∷ Ds) (suc i) (suc j) = at Ds i j
+
 module _ (limits : Limits) (H : Hall) (st : State) where
-  pub state-change : (call : Call) → StateChange H st (call .desk) (actionIn limits H st call) (step limits H st call .after)
-  state-change call = by-number (firstNo (questions limits H st call)) (call .desk) (call .step) refl
+  -- the state, if the message number did not move
+  abbrev pub unmoved : ℕ → ℕ → Step → Result State
+  unmoved n d s = let outcome = performStep H st d s in decide n st (outcome .session) (outcome .after)
+
+  pub action-change : (call : Call) → StateChange H st (call .desk) (actionIn limits H st call) (unmoved (firstNo (questions limits H st call)) (call .desk) (call .step) .after)
+  action-change call =
+      subst
+      (λ (answer : Answer). StateChange H st (call .desk) (actionOf (call .step) (answer .number) (answer .session)) (unmoved (firstNo (questions limits H st call)) (call .desk) (call .step) .after))
+      (same-answer (firstNo (questions limits H st call))) (by-number (firstNo (questions limits H st call)) (call .message) (call .desk) (call .step) refl)
     where
+      same-answer : (n : ℕ) → unmoved n (call .desk) (call .step) .answer ≡ decide n st (perform H st call .session) (perform H st call .after) .answer
+      same-answer zero = refl
+      same-answer (suc n) = refl
+
       collected : (d v : ℕ) (b : Bool) → eqb v 0 ≡ b → IsDesk H d → collect (allScreens H) (st .shown) (deskOf st d) .session ≡ v
           → StateChange H st d (cond b collects (handsBack v)) (withDesk st d (collect (allScreens H) (st .shown) (deskOf st d) .after))
       collected d v true q r e = record { desk = r; new = _; done = record { session = e ∙ eqb-true v 0 q; after = refl }; state = refl }
@@ -221,10 +267,10 @@ module _ (limits : Limits) (H : Hall) (st : State) where
       swapped d p v true t = refl
       swapped d p v false t = record { desk = t .desk; position = t .position .0; owesNothing = t .owesNothing; session = v; state = refl }
 
-      full : (d n : ℕ) (b : Bool) → eqb n 14 ≡ b → firstNo (questions limits H st (d sends Retire)) ≡ n → StateChange H st d (cond b outOfRoom noAction) st
-      full d n true q e =
+      full : (m d n : ℕ) (b : Bool) → eqb n 14 ≡ b → firstNo (questions limits H st ((d sends Retire) numbered m)) ≡ n → StateChange H st d (cond b outOfRoom noAction) st
+      full m d n true q e =
           let y =
-          retire-refused-full (inRange d (H .desks)) (not (eqb (deskOf st d .owed) 0)) (ltb (usedSlots (deskOf st d)) (2 * allScreens H))
+          retire-refused-full (inRange d (H .desks)) (eqb m (deskOf st d .next)) (not (eqb (deskOf st d .owed) 0)) (ltb (usedSlots (deskOf st d)) (2 * allScreens H))
           (e ∙ eqb-true n 14 q) in
           record {
             desk = in-range d (H .desks) (y .0);
@@ -232,54 +278,77 @@ module _ (limits : Limits) (H : Hall) (st : State) where
             done = record { room = ltb-false _ _ (y .1); after = refl };
             state = λ i. record { held = st .held; shown = st .shown; desks = sym (set-getD (st .desks) (d - 1) emptyDesk) i };
           }
-      full d n false q e = refl
+      full m d n false q e = refl
 
-      by-number : (n d : ℕ) (s : Step) → firstNo (questions limits H st (d sends s)) ≡ n
-          → let outcome = performStep H st d s in
-          let r = decide n st (outcome .session) (outcome .after) in
+      by-number : (n m d : ℕ) (s : Step) → firstNo (questions limits H st ((d sends s) numbered m)) ≡ n
+          → let r = unmoved n d s in
           StateChange H st d (actionOf s (r .answer .number) (r .answer .session)) (r .after)
-      by-number zero d (Take c p) e =
-          let t = take-asked limits H st d c p e in
+      by-number zero m d (Take c p) e =
+          let t = take-asked limits H st m d c p e in
           record { desk = t .desk; screen = t .screen; position = t .position .0; empty = t .empty; session = refl; some = t .some; state = refl }
-      by-number zero d (Drop c) e = let t = drop-asked limits H st d c e in record { desk = t .desk; screen = t .screen; state = refl }
-      by-number zero d (Swap p v) e = swapped d p v (isRepeat (getD (st .held) (p - 1) 0) v) (swap-asked limits H st d p v e)
-      by-number zero d Retire e =
-          let t = retire-asked limits H st d e in
+      by-number zero m d (Drop c) e = let t = drop-asked limits H st m d c e in record { desk = t .desk; screen = t .screen; state = refl }
+      by-number zero m d (Swap p v) e = swapped d p v (isRepeat (getD (st .held) (p - 1) 0) v) (swap-asked limits H st m d p v e)
+      by-number zero m d Retire e =
+          let t = retire-asked limits H st m d e in
           record {
             desk = t .desk;
             new = retire (deskOf st d);
             done = record { owed = refl; some = t .owes; room = t .room; after = refl };
             state = refl;
           }
-      by-number zero d Collect e =
+      by-number zero m d Collect e =
           let session = collect (allScreens H) (st .shown) (deskOf st d) .session in
-          collected d session (eqb session 0) refl (desk-asked limits H st (d sends Collect) e) refl
-      by-number (suc n) d (Take c p) e = refl
-      by-number (suc n) d (Drop c) e = refl
-      by-number (suc n) d (Swap p v) e = refl
-      by-number (suc n) d Retire e = full d (suc n) (eqb (suc n) 14) refl e
-      by-number (suc n) d Collect e = refl
+          collected d session (eqb session 0) refl (desk-asked limits H st ((d sends Collect) numbered m) e) refl
+      by-number (suc n) m d (Take c p) e = refl
+      by-number (suc n) m d (Drop c) e = refl
+      by-number (suc n) m d (Swap p v) e = refl
+      by-number (suc n) m d Retire e = full m d (suc n) (eqb (suc n) 14) refl e
+      by-number (suc n) m d Collect e = refl
+
+  pub state-change : (call : Call) → StateChanged H st (call .desk) (actionIn limits H st call) (step limits H st call .after)
+  state-change call = record {
+    state = unmoved (firstNo (questions limits H st call)) (call .desk) (call .step) .after;
+    change = action-change call;
+    number = numberAfter (firstNo (questions limits H st call));
+    moved = moved (firstNo (questions limits H st call));
+  }
+    where
+      numberAfter : ℕ → ℕ
+      numberAfter zero = advance (deskOf st (call .desk) .next)
+      numberAfter (suc n) = deskOf st (call .desk) .next
+
+      moved : (n : ℕ) → decide n st (perform H st call .session) (perform H st call .after) .after ≡ withNext (unmoved n (call .desk) (call .step) .after) (call .desk) (numberAfter n)
+      moved zero = refl
+      moved (suc n) = λ i. record { held = st .held; shown = st .shown; desks = sym (set-getD (st .desks) (call .desk - 1) emptyDesk) i }
 
   -- of an effect that the call's is known to be
-  pub state-change-as : (call : Call) (e : Effect) → effectIn limits H st call ≡ e → StateChange H st (e .desk) (e .action) (step limits H st call .after)
-  state-change-as call e q = subst (λ (x : Effect). StateChange H st (x .desk) (x .action) (step limits H st call .after)) q (state-change call)
+  pub state-change-as : (call : Call) (e : Effect) → effectIn limits H st call ≡ e → StateChanged H st (e .desk) (e .action) (step limits H st call .after)
+  state-change-as call e q = subst (λ (x : Effect). StateChanged H st (x .desk) (x .action) (step limits H st call .after)) q (state-change call)
 
   pub range-step : (call : Call) → InHall H (effectIn limits H st call)
-  range-step call = at (call .desk) (actionIn limits H st call) (state-change call)
+  range-step call = at (call .desk) (actionIn limits H st call) _ (action-change call)
     where
-      at : (d : ℕ) (a : Action) → StateChange H st d a (step limits H st call .after) → Range H d a
-      at d (takes c p v) k = (k .desk, k .screen)
-      at d (drops c) k = (k .desk, k .screen)
-      at d (swaps p) k = k .desk
-      at d (retires v) k = (k .desk, k .done .some)
-      at d outOfRoom k = k .desk
-      at d collects k = k .desk
-      at d (handsBack v) k = (k .desk, k .done .0)
-      at d noAction k = tt
+      at : (d : ℕ) (a : Action) (after : State) → StateChange H st d a after → Range H d a
+      at d (takes c p v) after k = (k .desk, k .screen)
+      at d (drops c) after k = (k .desk, k .screen)
+      at d (swaps p) after k = k .desk
+      at d (retires v) after k = (k .desk, k .done .some)
+      at d outOfRoom after k = k .desk
+      at d collects after k = k .desk
+      at d (handsBack v) after k = (k .desk, k .done .0)
+      at d noAction after k = tt
+
+-- Every state after a call has the hall's positions, screens and desks.
+pub formed-numbered : (H : Hall) (st : State) (d n : ℕ) → Formed H st → Formed H (withNext st d n)
+formed-numbered H st d n f = record {
+  positions = f .positions;
+  screens = f .screens;
+  desks = length-set (st .desks) (d - 1) (renumber (deskOf st d) n) ∙ f .desks;
+}
 
 module _ (limits : Limits) (H : Hall) (st : State) (formed : Formed H st) where
-  pub formed-step : (call : Call) → Formed H (step limits H st call .after)
-  formed-step call = at (call .desk) (actionIn limits H st call) (step limits H st call .after) (state-change limits H st call)
+  pub formed-action : (d : ℕ) (a : Action) (after : State) → StateChange H st d a after → Formed H after
+  formed-action = at
     where
       screen : (index v : ℕ) → Formed H (withShown st index v)
       screen index v = record { positions = formed .positions; screens = length-set (st .shown) index v ∙ formed .screens; desks = formed .desks }
@@ -297,6 +366,17 @@ module _ (limits : Limits) (H : Hall) (st : State) (formed : Formed H st) where
       at d collects after k = rw (k .state) (desk (st .held) d (k .new) (formed .positions))
       at d (handsBack v) after k = rw (k .state) (desk (st .held) d (k .new) (formed .positions))
       at d noAction after k = rw k formed
+
+  -- after an accepted step, but for the message number
+  pub formed-performed : (call : Call) → firstNo (questions limits H st call) ≡ 0 → Formed H (performStep H st (call .desk) (call .step) .after)
+  formed-performed call e =
+      subst (λ (n : ℕ). Formed H (unmoved limits H st n (call .desk) (call .step) .after)) e
+      (formed-action (call .desk) (actionIn limits H st call) _ (action-change limits H st call))
+
+  pub formed-step : (call : Call) → Formed H (step limits H st call .after)
+  formed-step call =
+      let k = state-change limits H st call in
+      rw (k .moved) (formed-numbered H (k .state) (call .desk) (k .number) (formed-action (call .desk) (actionIn limits H st call) (k .state) (k .change)))
 
   module _ (d : ℕ) (hd : 1 ≤ d) where
     -- an action that changes no desk
@@ -319,8 +399,14 @@ module _ (limits : Limits) (H : Hall) (st : State) (formed : Formed H st) where
             rw (getD-set-other (st .desks) (actor - 1) (d - 1) new emptyDesk (λ m. other (omega arith)))
             (record { owed = deskOf st d .owed; after = refl })
 
-    pub desk-change : (call : Call) → DeskChangeIn H st d (deskOf (step limits H st call .after) d) (byDesk d (effectIn limits H st call))
-    desk-change call = at (call .desk) (actionIn limits H st call) (step limits H st call .after) (state-change limits H st call)
+    pub desk-change : (call : Call) → DeskChanged H st d (deskOf (step limits H st call .after) d) (byDesk d (effectIn limits H st call))
+    desk-change call =
+        let k = state-change limits H st call in
+        record {
+          desk = deskOf (k .state) d;
+          change = at (call .desk) (actionIn limits H st call) (k .state) (k .change);
+          moved = subst (λ (after : State). Renumbered (deskOf (k .state) d) (deskOf after d)) (sym (k .moved)) (desk-renumbered (k .state) (call .desk) (k .number) d);
+        }
       where
         at : (actor : ℕ) (a : Action) (after : State) → StateChange H st actor a after → DeskChangeIn H st d (deskOf after d) (cond (eqb actor d) a noAction)
         at actor (takes c p v) after k = rw (k .state) (unchanged (takes c p v) (record { owed = deskOf st d .owed; after = refl }) (eqb actor d))

@@ -10,19 +10,25 @@ use Rattle.rules.specs.Hall.{Formed, Hall, Limits, State, deskOf}
 use Rattle.rules.specs.History.{Linked, _by_, effectAt, retires, swaps, takes}
 use Rattle.rules.specs.Steps.{Call, run, step}
 use Rattle.rules.specs.laws.history.Actions.{effect-is, same-action}
-use Rattle.rules.specs.laws.history.OwedSession.{held-kept, owed-kept, swap-owes}
+use Rattle.rules.specs.laws.history.OwedSession.{held-kept, owed-kept, owed-moved, swap-owes}
 use Rattle.rules.specs.laws.history.StepEffects.{actionIn, formed-step, state-change, state-change-as}
 
 -- The desk owes v: its next retirement is of v.
 owed-run : (limits : Limits) (H : Hall) (e v s : ℕ) → 1 ≤ e → (v ≡ 0 → ⊥) → (cs : List Call) (st : State) (r : ℕ) → Formed H st → deskOf st e .owed ≡ v
     → effectAt (run (step limits H) st cs) r ≡ retires s by e → ((m w : ℕ) → m < r → effectAt (run (step limits H) st cs) m ≡ retires w by e → ⊥) → v ≡ s
 owed-run limits H e v s he nz [] st r formed owes retire no-retire = absurd (let differ = same-action refl retire in true≢false (cc))
-owed-run limits H e v s he nz (c ∷ cs) st zero formed owes retire no-retire = sym owes ∙ state-change-as limits H st c (retires s by e) retire .done .owed
+owed-run limits H e v s he nz (c ∷ cs) st zero formed owes retire no-retire = sym owes ∙ state-change-as limits H st c (retires s by e) retire .change .done .owed
 owed-run limits H e v s he nz (c ∷ cs) st (suc r) formed owes retire no-retire =
     owed-run limits H e v s he nz cs (step limits H st c .after) r (formed-step limits H st formed c)
-    (owed-kept H st formed (c .desk) (actionIn limits H st c) (step limits H st c .after) (state-change limits H st c) e he (λ z. nz (sym owes ∙ z))
-    (λ w q same. no-retire 0 w (omega arith) (effect-is q same)) ∙ owes) retire
+    (owes-still ∙ owes) retire
     (λ m w h. no-retire (suc m) w (omega arith))
+  where
+    owes-still : deskOf (step limits H st c .after) e .owed ≡ deskOf st e .owed
+    owes-still =
+        let k = state-change limits H st c in
+        rw (k .moved)
+        (owed-moved (c .desk) (k .number) e (k .state)
+        ∙ owed-kept H st formed (c .desk) (actionIn limits H st c) (k .state) (k .change) e he (λ z. nz (sym owes ∙ z)) (λ w q same. no-retire 0 w (omega arith) (effect-is q same)))
 
 -- v stands at the position: the desk that changes it next retires v next.
 held-run : (limits : Limits) (H : Hall) (p v d s : ℕ) → 1 ≤ p → (v ≡ 0 → ⊥) → (cs : List Call) (st : State) (j r : ℕ) → Formed H st → getD (st .held) (p - 1) 0 ≡ v
@@ -33,12 +39,13 @@ held-run limits H p v d s hp nz [] st j r formed stands swap no-swap after retir
 held-run limits H p v d s hp nz (c ∷ cs) st j zero formed stands swap no-swap after retire no-retire = absurd (omega arith)
 held-run limits H p v d s hp nz (c ∷ cs) st zero (suc r) formed stands swap no-swap after retire no-retire =
     let w = state-change-as limits H st c (swaps p by d) swap in
-    owed-run limits H d v s (w .desk .0) nz cs (step limits H st c .after) r (formed-step limits H st formed c) (swap-owes H st formed d p (step limits H st c .after) w ∙ stands) retire
+    owed-run limits H d v s (w .change .desk .0) nz cs (step limits H st c .after) r (formed-step limits H st formed c)
+    (rw (w .moved) (owed-moved d (w .number) d (w .state) ∙ swap-owes H st formed d p (w .state) (w .change) ∙ stands)) retire
     (λ m y h. no-retire (suc m) y (omega arith) (omega arith))
 held-run limits H p v d s hp nz (c ∷ cs) st (suc j) (suc r) formed stands swap no-swap after retire no-retire =
+    let k = state-change limits H st c in
     held-run limits H p v d s hp nz cs (step limits H st c .after) j r (formed-step limits H st formed c)
-    (held-kept H st (c .desk) (actionIn limits H st c) (step limits H st c .after) (state-change limits H st c) p hp
-    (λ q. no-swap 0 (c .desk) (omega arith) (effect-is q refl)) ∙ stands) swap
+    (rw (k .moved) (held-kept H st (c .desk) (actionIn limits H st c) (k .state) (k .change) p hp (λ q. no-swap 0 (c .desk) (omega arith) (effect-is q refl)) ∙ stands)) swap
     (λ m x h. no-swap (suc m) x (omega arith)) (omega arith) retire (λ m y h h′. no-retire (suc m) y (omega arith) (omega arith))
 
 -- The retirement to which a take is linked is of the session that the take replied.
@@ -51,8 +58,9 @@ take-run limits H x y p v d s (c ∷ cs) st i zero r formed take before swap no-
 take-run limits H x y p v d s (c ∷ cs) st i (suc j) zero formed take before swap no-swap after retire no-retire = absurd (omega arith)
 take-run limits H x y p v d s (c ∷ cs) st zero (suc j) (suc r) formed take before swap no-swap after retire no-retire =
     let w = state-change-as limits H st c (takes y p v by x) take in
-    held-run limits H p v d s (w .position) (w .some) cs (step limits H st c .after) j r (formed-step limits H st formed c)
-    (held-kept H st x (takes y p v) (step limits H st c .after) w p (w .position) (λ q. true≢false (cc)) ∙ sym (w .session))
+    let k = w .change in
+    held-run limits H p v d s (k .position) (k .some) cs (step limits H st c .after) j r (formed-step limits H st formed c)
+    (rw (w .moved) (held-kept H st x (takes y p v) (w .state) k p (k .position) (λ q. true≢false (cc)) ∙ sym (k .session)))
     swap (λ m x h. no-swap (suc m) x (omega arith) (omega arith)) (omega arith) retire (λ m y h h′. no-retire (suc m) y (omega arith) (omega arith))
 take-run limits H x y p v d s (c ∷ cs) st (suc i) (suc j) (suc r) formed take before swap no-swap after retire no-retire =
     take-run limits H x y p v d s cs (step limits H st c .after) i j r (formed-step limits H st formed c) take (omega arith) swap

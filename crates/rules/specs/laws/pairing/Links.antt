@@ -9,9 +9,9 @@ use lib.Dec.{eqb}
 use borrow.Author.Tests.{eqb-true, eqb-false}
 use Rattle.rules.specs.Hall.{Formed, Hall, Limits, State, allScreens, deskOf, screenIndex}
 use Rattle.rules.specs.History.{Action, Effect, _by_, collects, drops, handsBack, isRetirement, noAction, outOfRoom, retires, swaps, takes}
-use Rattle.rules.specs.Steps.{Call, step}
+use Rattle.rules.specs.Steps.{Call, step, withNext}
 use Rattle.rules.specs.laws.history.Actions.{isSwap}
-use Rattle.rules.specs.laws.history.OwedSession.{held-kept, owed-kept, swap-owes}
+use Rattle.rules.specs.laws.history.OwedSession.{held-kept, owed-kept, owed-moved, swap-owes}
 use Rattle.rules.specs.laws.history.ScreenIndex.{screen-in, screen-stored}
 use Rattle.rules.specs.laws.history.StepEffects.{Dropped, StateChange, Swapped, Took, effectIn, state-change-as}
 
@@ -101,6 +101,12 @@ module _ (limits : Limits) (H : Hall) (st : State) (formed : Formed H st) (f : �
       before-retire-kept d a after k v e (λ s q same. true≢false (sym (ap isRetirement q) ∙ no-retire)) ag
   agree-kept d a after k no-swap no-retire v (linkedTo r) ag = ag
 
+  agree-moved : (d number : ℕ) (after : State) (v : ℕ) (l : Link) → Agree f after v l → Agree f (withNext after d number) v l
+  agree-moved d number after v unlinked ag = ag
+  agree-moved d number after v (beforeSwap p) ag = ag
+  agree-moved d number after v (beforeRetire e) ag = (ag .0, ag .1, ag .2 ∙ sym (owed-moved d number e after))
+  agree-moved d number after v (linkedTo r) ag = ag
+
   take-agree : (d c p w : ℕ) (after : State) → Took H st d c p w after → (v : ℕ) (b : Bool) (l : Link) → (b ≡ true → v ≡ 0) → Agree f st v l
       → Agree f after (cond b w v) (onTake b p l)
   take-agree d c p w after k v true unlinked z a = (k .some, k .position, rw (k .state) (k .session))
@@ -146,7 +152,9 @@ module _ (limits : Limits) (H : Hall) (st : State) (formed : Formed H st) (f : �
 
   module _ (ag : ScreensAgree H f n st) where
     pub agree-step : (c : Call) → f n ≡ effectIn limits H st c → ScreensAgree H f (suc n) (step limits H st c .after)
-    agree-step c q x hx = at (f n .desk) (f n .action) (step limits H st c .after) refl (state-change-as limits H st c (f n) (sym q))
+    agree-step c q x hx =
+        let k = state-change-as limits H st c (f n) (sym q) in
+        rw (k .moved) (agree-moved (f n .desk) (k .number) (k .state) _ (link H f x (suc n)) (at (f n .desk) (f n .action) (k .state) refl (k .change)))
       where
         -- the screen shows what it showed
         shown : (after : State) (l : Link) → after .shown ≡ st .shown → Agree f after (getD (st .shown) x 0) l → Agree f after (getD (after .shown) x 0) l
@@ -183,6 +191,6 @@ module _ (limits : Limits) (H : Hall) (st : State) (formed : Formed H st) (f : �
     pub take-finds-unlinked : (c : Call) → f n ≡ effectIn limits H st c → (d s p v : ℕ)
         → f n ≡ takes s p v by d → link H f (screenIndex H d s) n ≡ unlinked
     take-finds-unlinked c q d s p v t =
-        let k = state-change-as limits H st c (takes s p v by d) (sym q ∙ t) in
+        let k = state-change-as limits H st c (takes s p v by d) (sym q ∙ t) .change in
         let there = screen-in H d s (k .desk .0) (k .desk .1) (k .screen .0) (k .screen .1) in
         empty-unlinked f st _ (link H f (screenIndex H d s) n) (ag (screenIndex H d s) there) (k .empty)

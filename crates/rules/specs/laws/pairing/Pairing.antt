@@ -13,14 +13,14 @@ use Rattle.rules.specs.Hall.{Desk, Formed, Hall, Limits, State, allScree
 use Rattle.rules.specs.History.{Action, DroppedBefore, Effect, Linked, _by_, byDesk, collects, drops, handsBack, isHandBack}
 use Rattle.rules.specs.History.{isRetirement, noAction, outOfRoom, retires, swaps, takes}
 use Rattle.rules.specs.Lists.{occurrences}
-use Rattle.rules.specs.Steps.{Call, begin, collect, end, owe, retire, run, step}
+use Rattle.rules.specs.Steps.{Call, begin, collect, end, owe, renumber, retire, run, step}
 use Rattle.rules.specs.laws.desk.Collect.{Orderly, beforeHandBack, begin-keeps}
 use Rattle.rules.specs.laws.desk.Sound.{Sound, sound-orderly}
 use Rattle.rules.specs.laws.history.Actions.{by-own-desk, own-action, same-action}
 use Rattle.rules.specs.laws.history.DeskInvariants.{sound-step}
 use Rattle.rules.specs.laws.history.RunSplitting.{Gives, gives-first, gives-rest}
 use Rattle.rules.specs.laws.history.ScreenIndex.{screen-in}
-use Rattle.rules.specs.laws.history.StepEffects.{DeskChangeIn, InHall, desk-change, effectIn, formed-step}
+use Rattle.rules.specs.laws.history.StepEffects.{DeskChangeIn, DeskChanged, InHall, desk-change, effectIn, formed-step}
 use Rattle.rules.specs.laws.lists.Lists.{indicator, indicator-at-most-one, indicator-other, indicator-same, occurrences-append}
 use Rattle.rules.specs.laws.pairing.LinkedTakes.{linked-dropped}
 use Rattle.rules.specs.laws.pairing.Links.{ScreensAgree, agree-step, link, linkedTo, take-finds-unlinked, unlinked}
@@ -45,6 +45,22 @@ pub record Guard (H : Hall) (f : ℕ → Effect) (d s n : ℕ) (D : Desk) : Type
   pub unused : (a r : ℕ) → a < n → f a ≡ handsBack s by d → 1 ≤ count r → pair a ≡ r → ⊥
   -- a retirement that a screen is linked to is not paired yet
   pub covers : (r : ℕ) → r < n → f r ≡ retires s by d → live H f n (allScreens H) r ≤ count r
+
+-- the message number is not guarded
+guard-renumbered : (H : Hall) (f : ℕ → Effect) (d s n number : ℕ) (D : Desk) → Guard H f d s n D → Guard H f d s n (renumber D number)
+guard-renumbered H f d s n number D g =
+    let h = g .tokens .held in
+    record {
+      count = g .count;
+      tokens = tokens-with (g .tokens) (record { sum = h .sum; tests = h .tests; marks = h .marks; waits = h .waits });
+      single = g .single;
+      mine = g .mine;
+      pair = g .pair;
+      good = g .good;
+      once = g .once;
+      unused = g .unused;
+      covers = g .covers;
+    }
 
 -- the indices before n + 1 with such a hand-back, where it is not at n
 before-last : (f : ℕ → Effect) (d s n : ℕ) → (f n ≡ handsBack s by d → ⊥) → (a : ℕ) → a < suc n → f a ≡ handsBack s by d → a < n
@@ -207,9 +223,13 @@ module _ (limits : Limits) (H : Hall) (f : ℕ → Effect) (in-hall : (m : ℕ) 
       → f n ≡ effectIn limits H st c
       → Guard H f d s n (deskOf st d) → Guard H f d s (suc n) (deskOf (step limits H st c .after) d)
   guard-step n st c formed ok ag q g =
-      by-action (byDesk d (f n)) refl
-      (subst (λ (e : Effect). DeskChangeIn H st d (deskOf (step limits H st c .after) d) (byDesk d e)) (sym q) (desk-change limits H st formed d hd c))
+      rw (k .moved .is)
+      (guard-renumbered H f d s (suc n) (k .moved .number) (k .desk)
+      (by-action (byDesk d (f n)) refl (subst (λ (e : Effect). DeskChangeIn H st d (k .desk) (byDesk d e)) (sym q) (k .change))))
     where
+      k : DeskChanged H st d (deskOf (step limits H st c .after) d) (byDesk d (effectIn limits H st c))
+      k = desk-change limits H st formed d hd c
+
       below : (r : ℕ) → 1 ≤ g .count r → r < n
       below r h = g .mine r h .0
 
@@ -223,8 +243,8 @@ module _ (limits : Limits) (H : Hall) (f : ℕ → Effect) (in-hall : (m : ℕ) 
           true≢false (ap isRetirement (sym (by-own-desk d (retires s)) ∙ ap (byDesk d) (sym t) ∙ own) ∙ other)
 
       -- the list stays as it is
-      same-list : (a : Action) → byDesk d (f n) ≡ a → isHandBack a ≡ false → isRetirement a ≡ false → (o : ℕ) → deskOf (step limits H st c .after) d ≡ owe (deskOf st d) o
-          → Guard H f d s (suc n) (deskOf (step limits H st c .after) d)
+      same-list : (a : Action) → byDesk d (f n) ≡ a → isHandBack a ≡ false → isRetirement a ≡ false → (o : ℕ) → k .desk ≡ owe (deskOf st d) o
+          → Guard H f d s (suc n) (k .desk)
       same-list a own no-back no-retire o e =
           rw e (guard-kept H f d s n (deskOf st d) (owe (deskOf st d) o) (no-hand-back a own no-back) (no-retirement a own no-retire) g
           (tokens-later H f s n (g .count) (deskOf st d) o below (g .tokens)))
@@ -267,8 +287,8 @@ module _ (limits : Limits) (H : Hall) (f : ℕ → Effect) (in-hall : (m : ℕ) 
       handing v e y (no t) =
           collecting v e t (λ u. let same = same-action y u in t (cc)) (λ u. let differ = same-action y u in true≢false (cc))
 
-      by-action : (a : Action) → byDesk d (f n) ≡ a → DeskChangeIn H st d (deskOf (step limits H st c .after) d) a
-          → Guard H f d s (suc n) (deskOf (step limits H st c .after) d)
+      by-action : (a : Action) → byDesk d (f n) ≡ a → DeskChangeIn H st d (k .desk) a
+          → Guard H f d s (suc n) (k .desk)
       by-action (takes x p v) o e = same-list (takes x p v) o refl refl (e .owed) (e .after)
       by-action (drops x) o e = same-list (drops x) o refl refl (e .owed) (e .after)
       by-action (swaps p) o e = same-list (swaps p) o refl refl (e .owed) (e .after)

@@ -15,13 +15,12 @@ use Rattle.rules.specs.Demands.{Demand1, footprint, openingFootprint, op
 use Rattle.rules.specs.Hall.{Desk, Hall, Limits, State, allScreens, usedSlots}
 use Rattle.rules.specs.History.{numberAt}
 use Rattle.rules.specs.Lists.{occurrences}
-use Rattle.rules.specs.Steps.{Call, Collect, Drop, Result, Retire, Step, Swap, Take, _sends_, collect, decide, end, firstNo, isRepeat, isSession, perform}
-use Rattle.rules.specs.Steps.{questions, retire, run}
-use Rattle.rules.specs.Table.{allMarks, decode, decodeDesk, encodeDesk, encodeTail, hallIn, headerWords, listOf, listOffset, markWords, marksOf, need}
+use Rattle.rules.specs.Steps.{Call, Collect, Drop, Result, Retire, Step, Swap, Take, _numbered_, _sends_, advance, collect, decide, end, firstNo, isRepeat}
+use Rattle.rules.specs.Steps.{isSession, perform, questions, retire, run}
+use Rattle.rules.specs.Table.{allMarks, decode, decodeDesk, encodeDesk, encodeTail, hallIn, headerWords, listOf, listOffset, markWords, marksOf, need, nextWord}
 use Rattle.rules.specs.Table.{openQuestions, openTable, openedTable, owedOffset, positionWord, putRecord, recordOf, recordSound, recordStart, recordWidth}
-use Rattle.rules.specs.Table.{screenWord, sessionsOf, slotsFor, sound, stepTable, tableAfter, tableAfterStep, tailOffset, usedIn, waitingOffset}
-use Rattle.rules.specs.Table.{wordsOfBits}
-use Rattle.rules.specs.laws.desk.Collect.{owed-collect, retire-slots}
+use Rattle.rules.specs.Table.{screenWord, sessionsOf, slotsFor, sound, stepTable, tableAfter, tableAfterStep, tailOffset, usedIn, waitingOffset, wordsOfBits}
+use Rattle.rules.specs.laws.desk.Collect.{next-collect, owed-collect, retire-slots}
 use Rattle.rules.specs.laws.desk.Decoding.{record-again, small-drop, small-take}
 use Rattle.rules.specs.laws.desk.Encoding.{length-list, length-slots-for, tail-word}
 use Rattle.rules.specs.laws.desk.Sound.{Sound, collect-sound, retire-sound}
@@ -79,7 +78,7 @@ tail-retire : (D : Desk) → encodeTail (retire D) ≡ encodeTail D
 tail-retire D = refl
 
 tail-collect : (S : ℕ) (shown : List ℕ) (D : Desk) → encodeTail (collect S shown D .after) ≡ encodeTail D
-tail-collect S shown D = refl
+tail-collect S shown D = ap (λ (number : ℕ). number ∷ []) (next-collect S shown D)
 
 retire-keeps : (S : ℕ) (D : Desk) (j : ℕ) → usedSlots D < 2 * S → (j ≡ owedOffset → ⊥) → (j ≡ waitingOffset → ⊥) → (j ≡ listOffset + usedSlots D → ⊥)
     → getD (encodeDesk S (retire D)) j 0 ≡ getD (encodeDesk S D) j 0
@@ -156,12 +155,12 @@ module _ (limits : Limits) (t : List ℕ) (small : Words16 t) (s : sound limits 
         (λ j l e. h j l e ∙ word-inside j l ∙ ap (λ (n : ℕ). getD t n 0) e) (λ _. refl)
 
   -- a swap writes the owed word only where the old session is not 0; a repeat writes nothing
-  swap-keeps : (d p new : ℕ) → asked limits t (d sends Swap p new) ≡ 0 → (i : ℕ) → stepFootprint t d (Swap p new) i ≡ false
+  swap-keeps : (m d p new : ℕ) → asked limits t ((d sends Swap p new) numbered m) ≡ 0 → (i : ℕ) → stepFootprint t d (Swap p new) i ≡ false
       → getD (tableAfterStep t d (Swap p new)) i 0 ≡ getD t i 0
-  swap-keeps d p new e i q = by-repeat (isRepeat (getD t (positionWord p) 0) new) q
+  swap-keeps m d p new e i q = by-repeat (isRepeat (getD t (positionWord p) 0) new) q
     where
       asks : SwapAsked (hallIn t) (decode (hallIn t) t) d p
-      asks = swap-asked limits (hallIn t) (decode (hallIn t) t) d p new e
+      asks = swap-asked limits (hallIn t) (decode (hallIn t) t) m d p new e
 
       none : (b : Bool) → eqb (getD t (positionWord p) 0) 0 ≡ b → not b ≡ false → getD t (positionWord p) 0 ≡ 0
       none true t0 z = eqb-true (getD t (positionWord p) 0) 0 t0
@@ -189,10 +188,10 @@ module _ (limits : Limits) (t : List ℕ) (small : Words16 t) (s : sound limits 
           let parts = or-no (eqb i (positionWord p)) (eqb i (recordStart (hallIn t) d) && isSession (getD t (positionWord p) 0)) q in
           by-word (parts .0) (eqb i (recordStart (hallIn t) d)) refl (parts .1)
 
-  retire-keeps-words : (d : ℕ) → asked limits t (d sends Retire) ≡ 0 → (i : ℕ) → stepFootprint t d Retire i ≡ false
+  retire-keeps-words : (m d : ℕ) → asked limits t ((d sends Retire) numbered m) ≡ 0 → (i : ℕ) → stepFootprint t d Retire i ≡ false
       → getD (tableAfterStep t d Retire) i 0 ≡ getD t i 0
-  retire-keeps-words d e i q =
-      let asks = retire-asked limits (hallIn t) (decode (hallIn t) t) d e in
+  retire-keeps-words m d e i q =
+      let asks = retire-asked limits (hallIn t) (decode (hallIn t) t) m d e in
       let r = asks .desk in
       let same = desk-word t d (r .0) (r .1) in
       let room : usedSlots (deskAt d) < 2 * allScreens (hallIn t) = subst (λ (X : Desk). usedSlots X < 2 * allScreens (hallIn t)) same (asks .room) in
@@ -207,9 +206,9 @@ module _ (limits : Limits) (t : List ℕ) (small : Words16 t) (s : sound limits 
       record-kept d r (retire (deskAt d)) (retire-sound (allScreens (hallIn t)) (deskAt d) owes room (desk-is-sound d r)) i
       (λ j l a. retire-keeps (allScreens (hallIn t)) (deskAt d) j room (λ z. x0 (omega arith)) (λ z. x4 (omega arith)) (λ z. xl (omega arith)))
 
-  collect-keeps-words : (d : ℕ) → asked limits t (d sends Collect) ≡ 0 → (i : ℕ) → stepFootprint t d Collect i ≡ false
+  collect-keeps-words : (m d : ℕ) → asked limits t ((d sends Collect) numbered m) ≡ 0 → (i : ℕ) → stepFootprint t d Collect i ≡ false
       → getD (tableAfterStep t d Collect) i 0 ≡ getD t i 0
-  collect-keeps-words d e i q = record-kept d r after after-sound i (λ j l a. by-word j a (decLt 0 j) (decLt j (tailOffset S)))
+  collect-keeps-words m d e i q = record-kept d r after after-sound i (λ j l a. by-word j a (decLt 0 j) (decLt j (tailOffset S)))
     where
       S : ℕ
       S = allScreens (hallIn t)
@@ -221,40 +220,44 @@ module _ (limits : Limits) (t : List ℕ) (small : Words16 t) (s : sound limits 
       after = collect (allScreens (hallIn t)) (decode (hallIn t) t .shown) (deskAt d) .after
 
       r : IsDesk (hallIn t) d
-      r = desk-asked limits (hallIn t) (decode (hallIn t) t) (d sends Collect) e
+      r = desk-asked limits (hallIn t) (decode (hallIn t) t) ((d sends Collect) numbered m) e
 
       after-sound : Sound (allScreens (hallIn t)) (collect (allScreens (hallIn t)) (decode (hallIn t) t .shown) (deskAt d) .after)
       after-sound =
           collect-sound (allScreens (hallIn t)) (decode (hallIn t) t .shown) (deskAt d) (some-screens (hallIn t) (k .fits)) (v .formed .screens)
-          (desk-is-sound d (desk-asked limits (hallIn t) (decode (hallIn t) t) (d sends Collect) e))
+          (desk-is-sound d (desk-asked limits (hallIn t) (decode (hallIn t) t) ((d sends Collect) numbered m) e))
 
       -- of the record only its first word, the owed session, and its tail are not named, and a collect keeps them
       by-word : (j : ℕ) → recordStart (hallIn t) d + j ≡ i → Dec (0 < j) → Dec (j < tailOffset (allScreens (hallIn t)))
           → getD (encodeDesk (allScreens (hallIn t)) (collect (allScreens (hallIn t)) (decode (hallIn t) t .shown) (deskAt d) .after)) j 0
           ≡ getD (encodeDesk (allScreens (hallIn t)) (deskAt d)) j 0
-      by-word j a (no z) m =
+      by-word j a (no z) inside =
           let first : j ≡ 0 = omega arith in
           rw first
           (owed-first (allScreens (hallIn t)) _ ∙ owed-collect (allScreens (hallIn t)) (decode (hallIn t) t .shown) (deskAt d)
           ∙ sym (owed-first (allScreens (hallIn t)) (deskAt d)))
-      by-word j a (yes z) (no m) =
-          let there = desk-is-sound d (desk-asked limits (hallIn t) (decode (hallIn t) t) (d sends Collect) e) in
+      by-word j a (yes z) (no inside) =
+          let there = desk-is-sound d (desk-asked limits (hallIn t) (decode (hallIn t) t) ((d sends Collect) numbered m) e) in
           tail-word (allScreens (hallIn t)) _ (after-sound .total) j (omega arith)
           ∙ ap (λ (l : List ℕ). getD l (j - tailOffset (allScreens (hallIn t))) 0) (tail-collect (allScreens (hallIn t)) (decode (hallIn t) t .shown) (deskAt d))
           ∙ sym (tail-word (allScreens (hallIn t)) (deskAt d) (there .total) j (omega arith))
-      by-word j a (yes z) (yes m) =
+      by-word j a (yes z) (yes inside) =
           absurd (true≢false (sym (and-true _ _ (lt-ltb (recordStart (hallIn t) d) i (omega arith)) (lt-ltb i (recordStart (hallIn t) d + tailOffset (allScreens (hallIn t))) (omega arith))) ∙ q))
 
   after-keeps : (c : Call) → asked limits t c ≡ 0 → (i : ℕ) → footprint t c i ≡ false → getD (tableAfter t c) i 0 ≡ getD t i 0
-  after-keeps c e = by-step (c .desk) (c .step) e
+  after-keeps c e i q =
+      let number = nextWord (hallIn t) (c .desk) in
+      let parts = or-no (stepFootprint t (c .desk) (c .step) i) (eqb i number) q in
+      getD-set-other (tableAfterStep t (c .desk) (c .step)) number i (advance (getD t number 0)) 0 (λ same. eqb-false i number (parts .1) same)
+      ∙ by-step (c .message) (c .desk) (c .step) e i (parts .0)
     where
-      by-step : (d : ℕ) (s : Step) → asked limits t (d sends s) ≡ 0 → (i : ℕ) → stepFootprint t d s i ≡ false → getD (tableAfterStep t d s) i 0 ≡ getD t i 0
-      by-step d (Take c p) e i q =
+      by-step : (m d : ℕ) (s : Step) → asked limits t ((d sends s) numbered m) ≡ 0 → (i : ℕ) → stepFootprint t d s i ≡ false → getD (tableAfterStep t d s) i 0 ≡ getD t i 0
+      by-step m d (Take c p) e i q =
           getD-set-other t (screenWord (hallIn t) d c) i (getD t (positionWord p) 0) 0 (λ z. eqb-false i (screenWord (hallIn t) d c) q z)
-      by-step d (Drop c) e i q = getD-set-other t (screenWord (hallIn t) d c) i 0 0 (λ z. eqb-false i (screenWord (hallIn t) d c) q z)
-      by-step d (Swap p new) e i q = swap-keeps d p new e i q
-      by-step d Retire e i q = retire-keeps-words d e i q
-      by-step d Collect e i q = collect-keeps-words d e i q
+      by-step m d (Drop c) e i q = getD-set-other t (screenWord (hallIn t) d c) i 0 0 (λ z. eqb-false i (screenWord (hallIn t) d c) q z)
+      by-step m d (Swap p new) e i q = swap-keeps m d p new e i q
+      by-step m d Retire e i q = retire-keeps-words m d e i q
+      by-step m d Collect e i q = collect-keeps-words m d e i q
 
   -- what an accepted call writes is the table of a valid state
   after-valid : (c : Call) → asked limits t c ≡ 0 → Valid (hallIn t) (perform (hallIn t) (decode (hallIn t) t) c .after)
@@ -287,12 +290,12 @@ step-stays-sound limits t small c =
 not-five : (limits : Limits) (H : Hall) (st : State) (c : Call) → firstNo (questions limits H st c) ≡ 5 → ⊥
 not-five limits H st c e = by-step (c .step) e
   where
-    by-step : (s : Step) → firstNo (questions limits H st (c .desk sends s)) ≡ 5 → ⊥
-    by-step (Take x p) e = omega (arith, first-no-is-asked (questions limits H st (c .desk sends Take x p)) 4 e)
-    by-step (Drop x) e = omega (arith, first-no-is-asked (questions limits H st (c .desk sends Drop x)) 4 e)
-    by-step (Swap p new) e = omega (arith, first-no-is-asked (questions limits H st (c .desk sends Swap p new)) 4 e)
-    by-step Retire e = omega (arith, first-no-is-asked (questions limits H st (c .desk sends Retire)) 4 e)
-    by-step Collect e = omega (arith, first-no-is-asked (questions limits H st (c .desk sends Collect)) 4 e)
+    by-step : (s : Step) → firstNo (questions limits H st ((c .desk sends s) numbered c .message)) ≡ 5 → ⊥
+    by-step (Take x p) e = omega (arith, first-no-is-asked (questions limits H st ((c .desk sends Take x p) numbered c .message)) 4 e)
+    by-step (Drop x) e = omega (arith, first-no-is-asked (questions limits H st ((c .desk sends Drop x) numbered c .message)) 4 e)
+    by-step (Swap p new) e = omega (arith, first-no-is-asked (questions limits H st ((c .desk sends Swap p new) numbered c .message)) 4 e)
+    by-step Retire e = omega (arith, first-no-is-asked (questions limits H st ((c .desk sends Retire) numbered c .message)) 4 e)
+    by-step Collect e = omega (arith, first-no-is-asked (questions limits H st ((c .desk sends Collect) numbered c .message)) 4 e)
 
 never-five-step : (limits : Limits) (t : List ℕ) (c : Call) → sound limits t ≡ true → stepTable limits t c .answer .number ≡ 5 → ⊥
 never-five-step limits t c s e = by-number (asked limits t c) refl

@@ -2,7 +2,7 @@
 use Prim.Native.Nat.{ℕ, zero, suc, _+_, _*_, _-_, _≤_, _<_}
 use native.Mathlib.Omega.{arith}
 use native.Mathlib.Nat.{mul-pos, mul-le-mul}
-use mathlib.Core.Path.{_≡_, refl, sym, ap, ap₂, _∙_}
+use mathlib.Core.Path.{_≡_, refl, sym, ap, ap₂, _∙_, subst}
 use mathlib.Core.Bool.{Bool, true, false, cond, _&&_}
 use mathlib.Core.List.{List, [], _∷_, _++_, map, append-assoc}
 use lib.ListN.{length, getD, take, drop, set, replicate, length-append, length-set, replicate-append-replicate}
@@ -12,17 +12,17 @@ use borrow.Author.Tests.{le-leb, leb-true}
 use Rattle.rules.specs.Hall.{Desk, Formed, Hall, Limits, State, allScreens, deskOf, emptyDesk, fresh, maxAllScreens, maxDesks, maxPositions, maxScreens}
 use Rattle.rules.specs.Hall.{screenIndex, usedSlots, withDesk, withHeld, withShown}
 use Rattle.rules.specs.Lists.{chunks, concat, every}
-use Rattle.rules.specs.Steps.{Call, Collect, Drop, Event, Result, Retire, Step, Swap, Take, _sends_, accept, changePosition, collect, decide, end, firstNo, inRange, isRepeat, owe}
-use Rattle.rules.specs.Steps.{perform, performStep, questions, retire, run, step}
-use Rattle.rules.specs.Table.{decode, decodeDesk, encode, encodeDesk, encodeTail, headerWords, inHall, inLimits, listOffset, need, openQuestions, openedTable}
-use Rattle.rules.specs.Table.{positionWord, putRecord, recordOf, recordSound, recordStart, recordWidth, recordsIn, screenWord, slotsFor, sound, stepIf}
-use Rattle.rules.specs.Table.{stepTable, tableAfter, tableAfterStep, tailWords, within}
-use Rattle.rules.specs.laws.desk.Encoding.{desk-read-back, length-slots-for, length-tail}
-use Rattle.rules.specs.laws.desk.Sound.{Sound, collect-sound, encoded-sound, retire-sound, sound-owe}
+use Rattle.rules.specs.Steps.{Call, Collect, Drop, Event, Result, Retire, Step, Swap, Take, _numbered_, _sends_, accept, advance, changePosition, collect, decide}
+use Rattle.rules.specs.Steps.{end, firstNo, inRange, isRepeat, owe, perform, performStep, questions, renumber, retire, run, step, withNext}
+use Rattle.rules.specs.Table.{decode, decodeDesk, encode, encodeDesk, encodeTail, headerWords, inHall, inLimits, listOffset, need, nextWord, openQuestions}
+use Rattle.rules.specs.Table.{openedTable, positionWord, putRecord, recordOf, recordSound, recordStart, recordWidth, recordsIn, screenWord, slotsFor, sound, stepIf}
+use Rattle.rules.specs.Table.{stepTable, tableAfter, tableAfterStep, tailOffset, tailWords, within}
+use Rattle.rules.specs.laws.desk.Encoding.{desk-read-back, length-slots-for, length-tail, number-stored, tail-word}
+use Rattle.rules.specs.laws.desk.Sound.{Sound, collect-sound, encoded-sound, retire-sound, sound-owe, sound-renumbered}
 use Rattle.rules.specs.laws.history.InitialState.{fresh-formed}
 use Rattle.rules.specs.laws.history.ScreenIndex.{screen-in}
-use Rattle.rules.specs.laws.history.StepEffects.{IsDesk, SwapAsked, desk-asked, drop-asked, formed-step, holds, in-range, retire-asked, swap-asked}
-use Rattle.rules.specs.laws.history.StepEffects.{take-asked}
+use Rattle.rules.specs.laws.history.StepEffects.{IsDesk, SwapAsked, action-change, actionIn, desk-asked, drop-asked, formed-action, formed-numbered, holds, in-range, retire-asked}
+use Rattle.rules.specs.laws.history.StepEffects.{state-change, swap-asked, take-asked, unmoved}
 use Rattle.rules.specs.laws.lists.Bools.{and-left, and-right, and-true, cond-both}
 use Rattle.rules.specs.laws.lists.ListSlices.{get-mid, put-mid, set-mid, take-mid}
 
@@ -78,34 +78,47 @@ module _ (H : Hall) (fits : Fits H) where
   bounded : allScreens H ≤ maxAllScreens
   bounded = mul-le-mul (fits .desks .1) (fits .screens .1)
 
-  pub valid-step : (limits : Limits) (st : State) (c : Call) → Valid H st → Valid H (step limits H st c .after)
-  valid-step limits st c v = record {
-    formed = formed-step limits H st (v .formed) c;
-    desks = desks-sound (firstNo (questions limits H st c)) (c .desk) (c .step) refl;
+  -- after a call, but for the message number
+  valid-unmoved : (limits : Limits) (st : State) (c : Call) → Valid H st → Valid H (unmoved limits H st (firstNo (questions limits H st c)) (c .desk) (c .step) .after)
+  valid-unmoved limits st c v = record {
+    formed = formed-action limits H st (v .formed) (c .desk) (actionIn limits H st c) _ (action-change limits H st c);
+    desks = desks-sound (firstNo (questions limits H st c)) (c .message) (c .desk) (c .step) refl;
   }
     where
-      afterwards : ℕ → ℕ → Step → State
-      afterwards n d s = let outcome = performStep H st d s in decide n st (outcome .session) (outcome .after) .after
-
       desk-sound : (d : ℕ) → Sound (allScreens H) (deskOf st d)
       desk-sound d = all-get (Sound (allScreens H)) (st .desks) (d - 1) emptyDesk (empty-desk-sound (allScreens H)) (v .desks)
 
       stored : (d : ℕ) (new : Desk) → Sound (allScreens H) new → All (Sound (allScreens H)) (set (st .desks) (d - 1) new)
       stored d new ok = all-set (Sound (allScreens H)) (st .desks) (d - 1) new ok (v .desks)
 
-      desks-sound : (n d : ℕ) (s : Step) → firstNo (questions limits H st (d sends s)) ≡ n → All (Sound (allScreens H)) (afterwards n d s .desks)
-      desks-sound zero d (Take c p) e = v .desks
-      desks-sound zero d (Drop c) e = v .desks
-      desks-sound zero d (Swap p w) e =
+      desks-sound : (n m d : ℕ) (s : Step) → firstNo (questions limits H st ((d sends s) numbered m)) ≡ n → All (Sound (allScreens H)) (unmoved limits H st n d s .after .desks)
+      desks-sound zero m d (Take c p) e = v .desks
+      desks-sound zero m d (Drop c) e = v .desks
+      desks-sound zero m d (Swap p w) e =
           let old = getD (st .held) (p - 1) 0 in
           cond-both (λ (after : State). All (Sound (allScreens H)) (after .desks)) (isRepeat old w) (v .desks)
           (stored d _ (sound-owe (allScreens H) old (deskOf st d) (desk-sound d)))
-      desks-sound zero d Retire e =
-          let asked = retire-asked limits H st d e in
+      desks-sound zero m d Retire e =
+          let asked = retire-asked limits H st m d e in
           stored d _ (retire-sound (allScreens H) (deskOf st d) (asked .owes) (asked .room) (desk-sound d))
-      desks-sound zero d Collect e =
+      desks-sound zero m d Collect e =
           stored d _ (collect-sound (allScreens H) (st .shown) (deskOf st d) some-screens (v .formed .screens) (desk-sound d))
-      desks-sound (suc n) d s e = v .desks
+      desks-sound (suc n) m d s e = v .desks
+
+  valid-numbered : (st : State) (d number : ℕ) → Valid H st → Valid H (withNext st d number)
+  valid-numbered st d number v = record {
+    formed = formed-numbered H st d number (v .formed);
+    desks =
+        let desk = all-get (Sound (allScreens H)) (st .desks) (d - 1) emptyDesk (empty-desk-sound (allScreens H)) (v .desks) in
+        all-set (Sound (allScreens H)) (st .desks) (d - 1) _ (sound-renumbered (allScreens H) number (deskOf st d) desk) (v .desks);
+  }
+
+  pub valid-step : (limits : Limits) (st : State) (c : Call) → Valid H st → Valid H (step limits H st c .after)
+  valid-step limits st c v = by-number (firstNo (questions limits H st c)) (valid-unmoved limits st c v)
+    where
+      by-number : (n : ℕ) → Valid H (unmoved limits H st n (c .desk) (c .step) .after) → Valid H (decide n st (perform H st c .session) (perform H st c .after) .after)
+      by-number zero after = valid-numbered _ (c .desk) (advance (deskOf st (c .desk) .next)) after
+      by-number (suc n) after = after
 
   pub length-encoded : (D : Desk) → Sound (allScreens H) D → length (encodeDesk (allScreens H) D) ≡ recordWidth H
   unfolding encodeDesk
@@ -298,10 +311,43 @@ module _ (H : Hall) (fits : Fits H) where
         (omega (arith, v .formed .screens, screen-in H d c (i .0) (i .1) (j .0) (j .1)))
         ∙ sym (as-shown (st .held) (set (st .shown) (screenIndex H d c) w) f)
 
-    -- what an accepted call writes is the table of the state after it
-    pub after-encoded : (limits : Limits) (c : Call) → firstNo (questions limits H st c) ≡ 0 → tableAfter (encode H st ++ rest) c ≡ encode H (perform H st c .after) ++ rest
+    -- a next message number read, and written
+    pub number-word-is : (d : ℕ) → IsDesk H d → getD (encode H st ++ rest) (nextWord H d) 0 ≡ deskOf st d .next
+    number-word-is d r =
+        let S : ℕ = allScreens H in
+        let c = at-desk d r in
+        let a : List ℕ = H .desks ∷ H .screens ∷ H .positions ∷ (st .held ++ (st .shown ++ c .front)) in
+        let n : length a ≡ recordStart H d =
+        omega
+        (arith, length-append (st .held) (st .shown ++ c .front), length-append (st .shown) (c .front), v .formed .positions, v .formed .screens, c .starts) in
+        let first : tailOffset S - tailOffset S ≡ 0 = omega arith in
+        ap (λ (t : List ℕ). getD t (nextWord H d) 0)
+        (as-record (st .held) (st .shown) (c .front) (encodeDesk S (deskOf st d)) (c .back) (concat (map (encodeDesk S) (st .desks))) (c .is))
+        ∙ get-mid a (encodeDesk S (deskOf st d)) (c .back ++ rest) (recordStart H d) n (tailOffset S) (omega (arith, c .wide))
+        ∙ tail-word S (deskOf st d) (c .total) (tailOffset S) (omega arith)
+        ∙ ap (λ (i : ℕ). getD (encodeTail (deskOf st d)) i 0) first
+
+    number-written : (d number : ℕ) → IsDesk H d → set (encode H st ++ rest) (nextWord H d) number ≡ encode H (withNext st d number) ++ rest
+    number-written d number r =
+        let S : ℕ = allScreens H in
+        let c = at-desk d r in
+        let D : Desk = deskOf st d in
+        let a : List ℕ = H .desks ∷ H .screens ∷ H .positions ∷ (st .held ++ (st .shown ++ c .front)) in
+        let n : length a ≡ recordStart H d =
+        omega
+        (arith, length-append (st .held) (st .shown ++ c .front), length-append (st .shown) (c .front), v .formed .positions, v .formed .screens, c .starts) in
+        ap (λ (t : List ℕ). set t (nextWord H d) number)
+        (as-record (st .held) (st .shown) (c .front) (encodeDesk S D) (c .back) (concat (map (encodeDesk S) (st .desks))) (c .is))
+        ∙ set-mid a (encodeDesk S D) (c .back ++ rest) (recordStart H d) n (tailOffset S) number (omega (arith, c .wide))
+        ∙ ap (λ (words : List ℕ). a ++ (words ++ (c .back ++ rest))) (number-stored S D number (c .total))
+        ∙ sym
+        (as-record (st .held) (st .shown) (c .front) (encodeDesk S (renumber D number)) (c .back) (concat (map (encodeDesk S) (set (st .desks) (d - 1) (renumber D number)))) (c .put (renumber D number)))
+
+    -- what an accepted step writes is the table of the state after it, but for the message number
+    after-step-encoded : (limits : Limits) (c : Call) → firstNo (questions limits H st c) ≡ 0
+        → tableAfterStep (encode H st ++ rest) (c .desk) (c .step) ≡ encode H (performStep H st (c .desk) (c .step) .after) ++ rest
     unfolding encodeDesk
-    after-encoded limits c e = by-step (c .desk) (c .step) e
+    after-step-encoded limits c e = by-step (c .message) (c .desk) (c .step) e
       where
         swapped : (d p w : ℕ) → SwapAsked H st d p → (b : Bool)
             → let o = getD (st .held) (p - 1) 0 in
@@ -324,24 +370,35 @@ module _ (H : Hall) (fits : Fits H) where
             ∙ sym
             (as-record h (st .shown) (k .front) (encodeDesk (allScreens H) (owe (deskOf st d) o)) (k .back) (concat (map (encodeDesk (allScreens H)) (set (st .desks) (d - 1) (owe (deskOf st d) o)))) (k .put (owe (deskOf st d) o)))
 
-        by-step : (d : ℕ) (s : Step) → firstNo (questions limits H st (d sends s)) ≡ 0
+        by-step : (m d : ℕ) (s : Step) → firstNo (questions limits H st ((d sends s) numbered m)) ≡ 0
             → tableAfterStep (encode H st ++ rest) d s ≡ encode H (performStep H st d s .after) ++ rest
-        by-step d (Take c p) e =
-            let asked = take-asked limits H st d c p e in
+        by-step m d (Take c p) e =
+            let asked = take-asked limits H st m d c p e in
             (λ i. set (encode H st ++ rest) (screenWord H d c) (position-word-is p (asked .position .0) (asked .position .1) i))
             ∙ screen-written d c (getD (st .held) (p - 1) 0) (asked .desk) (asked .screen)
-        by-step d (Drop c) e = let asked = drop-asked limits H st d c e in screen-written d c 0 (asked .desk) (asked .screen)
-        by-step d (Swap p w) e =
-            let asked = swap-asked limits H st d p w e in
+        by-step m d (Drop c) e = let asked = drop-asked limits H st m d c e in screen-written d c 0 (asked .desk) (asked .screen)
+        by-step m d (Swap p w) e =
+            let asked = swap-asked limits H st m d p w e in
             rw (position-word-is p (asked .position .0) (asked .position .1)) (swapped d p w asked (isRepeat (getD (st .held) (p - 1) 0) w))
-        by-step d Retire e =
-            let k = at-desk d (retire-asked limits H st d e .desk) in
+        by-step m d Retire e =
+            let k = at-desk d (retire-asked limits H st m d e .desk) in
             ap (λ (D : Desk). putRecord H (encode H st ++ rest) d (encodeDesk (allScreens H) (retire D))) (record-decoded d k)
             ∙ put-record-is d (retire (deskOf st d)) k
-        by-step d Collect e =
-            let k = at-desk d (desk-asked limits H st (d sends Collect) e) in
+        by-step m d Collect e =
+            let k = at-desk d (desk-asked limits H st ((d sends Collect) numbered m) e) in
             (λ i. putRecord H (encode H st ++ rest) d (encodeDesk (allScreens H) (collect (allScreens H) (decode-encode i .shown) (record-decoded d k i) .after)))
             ∙ put-record-is d (collect (allScreens H) (st .shown) (deskOf st d) .after) k
+
+  -- what an accepted call writes is the table of the state after it
+  module _ (st : State) (v : Valid H st) (rest : List ℕ) where
+    pub after-encoded : (limits : Limits) (c : Call) → firstNo (questions limits H st c) ≡ 0 → tableAfter (encode H st ++ rest) c ≡ encode H (perform H st c .after) ++ rest
+    after-encoded limits c e =
+        let d : ℕ = c .desk in
+        let r = desk-asked limits H st c e in
+        let performed : State = performStep H st d (c .step) .after in
+        let performed-valid : Valid H performed = subst (λ (n : ℕ). Valid H (unmoved limits H st n d (c .step) .after)) e (valid-unmoved limits st c v) in
+        (λ i. set (after-step-encoded st v rest limits c e i) (nextWord H d) (advance (number-word-is st v rest d r i)))
+        ∙ number-written performed performed-valid rest d (advance (deskOf st d .next)) r
 
   pub fresh-valid : Valid H (fresh H)
   fresh-valid = record {

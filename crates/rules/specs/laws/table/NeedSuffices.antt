@@ -6,18 +6,22 @@ use mathlib.Core.Path.{_≡_, refl, sym, ap, _∙_}
 use mathlib.Core.Bool.{Bool, true, false, cond, _&&_}
 use mathlib.Core.List.{List, [], _∷_, _++_, map, append-assoc}
 use lib.ListN.{length, take, getD, drop, set, length-append, replicate, length-drop, length-set, List·getD-append}
-use lib.Seq.{set-append-left, take-append-le}
+use lib.Seq.{length-take-le, set-append-left, take-append-le}
 use lib.Dec.{leb}
 use borrow.Author.Tests.{le-leb}
-use Rattle.rules.specs.Hall.{Hall, Limits, State, allScreens, maxAllScreens, maxDesks}
+use Rattle.rules.specs.Hall.{Desk, Hall, Limits, State, allScreens, maxAllScreens, maxDesks}
 use Rattle.rules.specs.Lists.{chunks, every}
-use Rattle.rules.specs.Steps.{Call, Collect, Drop, Retire, Swap, Take, collect, firstNo, isRepeat, perform, questions, retire, Result, Step, _sends_, accept}
-use Rattle.rules.specs.Table.{decode, decodeDesk, encodeDesk, hallIn, headerWords, inLimits, maxWords, need, openQuestions, openTable, openedTable, tableAfter, tableAfterStep}
-use Rattle.rules.specs.Table.{positionWord, putRecord, recordOf, recordSound, recordStart, recordWidth, recordsIn, screenWord, sound, stepTable, widthFor}
+use Rattle.rules.specs.Steps.{Call, Collect, Drop, Result, Retire, Step, Swap, Take, _numbered_, _sends_, accept, advance, collect, firstNo, isRepeat, perform}
+use Rattle.rules.specs.Steps.{questions, retire}
+use Rattle.rules.specs.Table.{decode, decodeDesk, encodeDesk, hallIn, headerWords, inLimits, maxWords, need, nextWord, openQuestions, openTable, openedTable}
+use Rattle.rules.specs.Table.{positionWord, putRecord, recordOf, recordSound, recordStart, recordWidth, recordsIn, screenWord, sound, stepTable, tableAfter}
+use Rattle.rules.specs.Table.{tableAfterStep, widthFor}
+use Rattle.rules.specs.laws.desk.Encoding.{encoded-long}
 use Rattle.rules.specs.laws.history.ScreenIndex.{screen-in}
+use Rattle.rules.specs.laws.lists.Bools.{cond-both}
 use Rattle.rules.specs.laws.table.EncodedStep.{Fits}
-use Rattle.rules.specs.laws.table.TableSteps.{accepted-open, accepted-step, asked, known, refused-open, refused-step, unsound-step}
-use Rattle.rules.specs.laws.history.StepEffects.{SwapAsked, take-asked, drop-asked, swap-asked, desk-asked}
+use Rattle.rules.specs.laws.table.TableSteps.{accepted-open, accepted-step, asked, known, record-within, refused-open, refused-step, unsound-step}
+use Rattle.rules.specs.laws.history.StepEffects.{IsDesk, SwapAsked, desk-asked, drop-asked, swap-asked, take-asked}
 
 pub need-at-most : (H : Hall) → Fits H → need H ≤ maxWords
 need-at-most H o =
@@ -121,18 +125,18 @@ module _ (a b : List ℕ) (three : headerWords ≤ length a) where
     set-same : (t : List ℕ) (i v : ℕ) → length t ≡ length a → i < need H → set (t ++ b) i v ≡ set t i v ++ b
     set-same t i v l h = set-append-left t b i v (omega (arith, far))
 
-    after-before : (limits : Limits) (st : State) (d : ℕ) (s : Step) → firstNo (questions limits H st (d sends s)) ≡ 0 → afterIn H (a ++ b) d s ≡ afterIn H a d s ++ b
-    after-before limits st d (Take c p) e =
-        let f = take-asked limits H st d c p e in
+    after-before : (limits : Limits) (st : State) (m d : ℕ) (s : Step) → firstNo (questions limits H st ((d sends s) numbered m)) ≡ 0 → afterIn H (a ++ b) d s ≡ afterIn H a d s ++ b
+    after-before limits st m d (Take c p) e =
+        let f = take-asked limits H st m d c p e in
         let screen = screen-in H d c (f .desk .0) (f .desk .1) (f .screen .0) (f .screen .1) in
         ap (set (a ++ b) (screenWord H d c)) (word-same (positionWord p) (omega (arith, f .position)))
         ∙ set-same a (screenWord H d c) (getD a (positionWord p) 0) refl (omega arith)
-    after-before limits st d (Drop c) e =
-        let f = drop-asked limits H st d c e in
+    after-before limits st m d (Drop c) e =
+        let f = drop-asked limits H st m d c e in
         let screen = screen-in H d c (f .desk .0) (f .desk .1) (f .screen .0) (f .screen .1) in
         set-same a (screenWord H d c) 0 refl (omega arith)
-    after-before limits st d (Swap p v) e =
-        let f = swap-asked limits H st d p v e in
+    after-before limits st m d (Swap p v) e =
+        let f = swap-asked limits H st m d p v e in
         rw (word-same (positionWord p) (omega (arith, f .position))) (by-repeat f (isRepeat (getD a (positionWord p) 0) v))
       where
         by-repeat : SwapAsked H st d p → (r : Bool)
@@ -144,14 +148,48 @@ module _ (a b : List ℕ) (three : headerWords ≤ length a) where
             let m : suc (d - 1) * recordWidth H ≤ H .desks * recordWidth H = mul-le-mul-right (recordWidth H) (omega (arith, f .desk)) in
             (λ i. set (set-same a (positionWord p) v refl (omega (arith, f .position)) i) (recordStart H d) (getD a (positionWord p) 0))
             ∙ set-same (set a (positionWord p) v) (recordStart H d) (getD a (positionWord p) 0) (length-set a (positionWord p) v) (omega (arith, f .desk))
-    after-before limits st d Retire e =
-        let r = desk-asked limits H st (d sends Retire) e in
+    after-before limits st m d Retire e =
+        let r = desk-asked limits H st ((d sends Retire) numbered m) e in
         ap (λ (words : List ℕ). putRecord H (a ++ b) d (encodeDesk (allScreens H) (retire (decodeDesk (allScreens H) words)))) (record-same d r)
         ∙ put-same-rest d r (encodeDesk (allScreens H) (retire (decodeDesk (allScreens H) (recordOf H a d))))
-    after-before limits st d Collect e =
-        let r = desk-asked limits H st (d sends Collect) e in
+    after-before limits st m d Collect e =
+        let r = desk-asked limits H st ((d sends Collect) numbered m) e in
         (λ i. putRecord H (a ++ b) d (encodeDesk (allScreens H) (collect (allScreens H) (decode-same i .shown) (decodeDesk (allScreens H) (record-same d r i)) .after)))
         ∙ put-same-rest d r (encodeDesk (allScreens H) (collect (allScreens H) (decode H a .shown) (decodeDesk (allScreens H) (recordOf H a d)) .after))
+
+    -- the message number stands within what an accepted step leaves
+    number-within : (limits : Limits) (st : State) (m d : ℕ) (s : Step) → firstNo (questions limits H st ((d sends s) numbered m)) ≡ 0
+        → nextWord H d < length (afterIn H a d s)
+    number-within limits st m d s e = at s
+      where
+        r : IsDesk H d
+        r = desk-asked limits H st ((d sends s) numbered m) e
+
+        stored : (i v : ℕ) → nextWord H d < length (set a i v)
+        stored i v = omega (arith, fits d r, length-set a i v)
+
+        put : (D : Desk) → nextWord H d < length (putRecord H a d (encodeDesk (allScreens H) D))
+        put D =
+            let words : List ℕ = encodeDesk (allScreens H) D in
+            let start : ℕ = recordStart H d in
+            omega (
+              arith,
+              fits d r,
+              length-append (take start a) (words ++ drop (recordWidth H) (drop start a)),
+              length-append words (drop (recordWidth H) (drop start a)),
+              length-take-le start a (omega (arith, fits d r)),
+              encoded-long (allScreens H) D,
+            )
+
+        at : (s : Step) → nextWord H d < length (afterIn H a d s)
+        at (Take c p) = stored (screenWord H d c) (getD a (positionWord p) 0)
+        at (Drop c) = stored (screenWord H d c) 0
+        at (Swap p v) =
+            let old = getD a (positionWord p) 0 in
+            cond-both (λ (words : List ℕ). nextWord H d < length words) (isRepeat old v) (omega (arith, fits d r))
+            (omega (arith, fits d r, length-set (set a (positionWord p) v) (recordStart H d) old, length-set a (positionWord p) v))
+        at Retire = put (retire (decodeDesk (allScreens H) (recordOf H a d)))
+        at Collect = put (collect (allScreens H) (decode H a .shown) (decodeDesk (allScreens H) (recordOf H a d)) .after)
 
 -- ---- Soundness does not look past the need.
 module _ (limits : Limits) (a b : List ℕ) (three : headerWords ≤ length a) (enough : inLimits limits (hallIn a) ≡ true → need (hallIn a) ≤ length a) where
@@ -195,9 +233,15 @@ module _ (limits : Limits) (a b : List ℕ) (three : headerWords ≤ length a) (
 
           after-same : asked limits a c ≡ 0 → tableAfter (a ++ b) c ≡ tableAfter a c ++ b
           after-same q =
-              after-is-in (a ++ b) (c .desk) (c .step) ∙ ap (λ (H : Hall). afterIn H (a ++ b) (c .desk) (c .step)) (hall-same a b three)
-              ∙ after-before a b three (hallIn a) far limits (decode (hallIn a) a) (c .desk) (c .step) q
-              ∙ ap (λ (l : List ℕ). l ++ b) (sym (after-is-in a (c .desk) (c .step)))
+              let H : Hall = hallIn a in
+              let d : ℕ = c .desk in
+              let number : ℕ = nextWord H d in
+              let r = desk-asked limits H (decode H a) c q in
+              (λ i. set (after-is-in (a ++ b) d (c .step) i) (nextWord (hallIn (a ++ b)) d) (advance (getD (a ++ b) (nextWord (hallIn (a ++ b)) d) 0)))
+              ∙ ap (λ (G : Hall). set (afterIn G (a ++ b) d (c .step)) (nextWord G d) (advance (getD (a ++ b) (nextWord G d) 0))) (hall-same a b three)
+              ∙ (λ i. set (after-before a b three H far limits (decode H a) (c .message) d (c .step) q i) number (advance (word-same a b three H far number (omega (arith, record-within H d (r .0) (r .1))) i)))
+              ∙ set-append-left (afterIn H a d (c .step)) b number (advance (getD a number 0)) (number-within a b three H far limits (decode H a) (c .message) d (c .step) q)
+              ∙ (λ i. set (sym (after-is-in a d (c .step)) i) number (advance (getD a number 0)) ++ b)
 
           by-number : (n : ℕ) → asked limits a c ≡ n → stepTable limits (a ++ b) c ≡ followed (stepTable limits a c)
           by-number zero q =

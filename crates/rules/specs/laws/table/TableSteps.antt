@@ -12,8 +12,8 @@ use borrow.Author.Tests.{leb-true}
 use Rattle.rules.specs.Hall.{Desk, Hall, Limits, TestedSlot, allScreens, deskOf, emptyDesk, maxAllScreens, screenIndex}
 use Rattle.rules.specs.Lists.{chunks, every}
 use Rattle.rules.specs.Steps.{Call, accept, beginAt, collect, collectSeeing, decide, firstNo, perform, questions, refuse}
-use Rattle.rules.specs.Table.{decode, decodeDesk, hallIn, headerWords, inLimits, need, openQuestions, openTable, openedTable, owedOffset, positionWord, recordOf}
-use Rattle.rules.specs.Table.{recordSound, recordStart, recordWidth, recordsIn, screenWord, sound, stepIf, stepTable, tableAfter}
+use Rattle.rules.specs.Table.{decode, decodeDesk, hallIn, headerWords, inLimits, need, nextWord, openQuestions, openTable, openedTable, owedOffset, positionWord}
+use Rattle.rules.specs.Table.{recordOf, recordSound, recordStart, recordWidth, recordsIn, screenWord, sound, stepIf, stepTable, tableAfter, tailOffset}
 use Rattle.rules.specs.laws.history.ScreenIndex.{screen-in}
 use Rattle.rules.specs.laws.lists.Bools.{and-left, and-right}
 use Rattle.rules.specs.laws.table.EncodedStep.{Fits, limits-fit}
@@ -137,6 +137,19 @@ record-owed H t d =
 pub owed-word : (t : List ℕ) (d : ℕ) → 1 ≤ d → d ≤ hallIn t .desks → deskOf (decode (hallIn t) t) d .owed ≡ getD t (recordStart (hallIn t) d) 0
 unfolding decodeDesk
 owed-word t d h g = ap (λ (D : Desk). D .owed) (desk-word t d h g) ∙ record-owed (hallIn t) t d
+
+-- the next message number is in a record's tail
+pub number-word : (t : List ℕ) (d : ℕ) → 1 ≤ d → d ≤ hallIn t .desks → deskOf (decode (hallIn t) t) d .next ≡ getD t (nextWord (hallIn t) d) 0
+unfolding decodeDesk
+number-word t d h g =
+    let H : Hall = hallIn t in
+    let at : ℕ = tailOffset (allScreens H) in
+    let e : recordStart H d + (at + 0) ≡ nextWord H d = omega arith in
+    ap (λ (D : Desk). D .next) (desk-word t d h g)
+    ∙ getD-drop at (recordOf H t d) 0 0
+    ∙ getD-take (recordWidth H) (drop (recordStart H d) t) (at + 0) 0 (omega arith)
+    ∙ getD-drop (recordStart H d) t (at + 0) 0
+    ∙ ap (λ (k : ℕ). getD t k 0) e
 
 -- ---- a collect reads the screens from the desk's own k on
 pub collect-seeing : (S : ℕ) (shown : List ℕ) (D : Desk) → collectSeeing S (take 2 (drop (D .scanned) shown)) D ≡ collect S shown D

@@ -11,12 +11,12 @@ use Rattle.rules.specs.Bytes.{Call16, Step16, Words16}
 use Rattle.rules.specs.Demands.{refusals, stepRefusals}
 use Rattle.rules.specs.Hall.{Desk, Hall, Limits, State, TestedSlot, allScreens, deskOf, emptyDesk, maxAllScreens, screenIndex, usedSlots}
 use Rattle.rules.specs.Lists.{occurrences}
-use Rattle.rules.specs.Steps.{Call, Collect, Drop, Question, Result, Retire, Step, Swap, Take, _sends_, accept, collect, decide, firstNo, isRepeat, perform}
-use Rattle.rules.specs.Steps.{performStep, questions, refuse, retire}
-use Rattle.rules.specs.Table.{allMarks, decode, decodeDesk, encode, encodeDesk, encodeTail, hallIn, headerWords, listOf, listOffset, markWords, marksIn}
-use Rattle.rules.specs.Table.{marksOf, need, openQuestions, openTable, openedTable, positionWord, putRecord, recordOf, recordStart, recordWidth}
-use Rattle.rules.specs.Table.{screenWord, slotsFor, slotsIn, slotsOf, sound, stepTable, tableAfter, tableAfterStep, wordOfBits, wordsOfBits}
-use Rattle.rules.specs.laws.desk.Collect.{collect-copies, copiesOn, owed-collect, retire-copies}
+use Rattle.rules.specs.Steps.{Call, Collect, Drop, Question, Result, Retire, Step, Swap, Take, _numbered_, _sends_, accept, advance, collect, decide, firstNo}
+use Rattle.rules.specs.Steps.{isRepeat, perform, performStep, questions, refuse, retire}
+use Rattle.rules.specs.Table.{allMarks, decode, decodeDesk, encode, encodeDesk, encodeTail, hallIn, headerWords, listOf, listOffset, markWords, marksIn, marksOf}
+use Rattle.rules.specs.Table.{need, nextWord, openQuestions, openTable, openedTable, positionWord, putRecord, recordOf, recordStart, recordWidth, screenWord}
+use Rattle.rules.specs.Table.{slotsFor, slotsIn, slotsOf, sound, stepTable, tableAfter, tableAfterStep, wordOfBits, wordsOfBits}
+use Rattle.rules.specs.laws.desk.Collect.{collect-copies, copiesOn, next-collect, owed-collect, retire-copies}
 use Rattle.rules.specs.laws.desk.Decoding.{small-drop, small-take}
 use Rattle.rules.specs.laws.desk.Marks.{testedCopies}
 use Rattle.rules.specs.laws.desk.Sound.{ScanFits, Sound, collect-sound, occurrences-list, retire-sound, sound-orderly}
@@ -25,7 +25,7 @@ use Rattle.rules.specs.laws.lists.Bools.{cond-both}
 use Rattle.rules.specs.laws.lists.Lists.{indicator, indicator-other, indicator-same}
 use Rattle.rules.specs.laws.table.DecodeStepEncode.{encoded, valid}
 use Rattle.rules.specs.laws.table.EncodedStep.{Fits, Valid, all-get, empty-desk-sound, hall-opens, length-table, limits-fit, some-screens, valid-step}
-use Rattle.rules.specs.laws.table.TableSteps.{Known, accepted-open, accepted-step, asked, desk-word, known, owed-word, refused-open, refused-step}
+use Rattle.rules.specs.laws.table.TableSteps.{Known, accepted-open, accepted-step, asked, desk-word, known, number-word, owed-word, refused-open, refused-step}
 use Rattle.rules.specs.laws.table.TableSteps.{unsound-step}
 
 -- ---- Small numbers in lists.
@@ -80,14 +80,16 @@ mark-words (suc n) bits (suc i) = mark-words n (drop 16 bits) i
 record Desk16 (S : ℕ) (D : Desk) : Type 0 where
   sound : Sound S D
   owed : D .owed < 65536
+  next : D .next < 65536
   sessions : (s : ℕ) → 65536 ≤ s → copiesOn s D ≡ 0
 
 scanned-small : (S k : ℕ) (t : List TestedSlot) → ScanFits S k t → k ≤ S
 scanned-small S k [] p = omega arith
 scanned-small S k (q ∷ qs) p = omega arith
 
-tail-words : (D : Desk) → Words16 (encodeTail D)
-tail-words D i = omega arith
+tail-words : (D : Desk) → D .next < 65536 → Words16 (encodeTail D)
+tail-words D small zero = small
+tail-words D small (suc i) = omega arith
 
 record-words : (S : ℕ) (D : Desk) → S ≤ maxAllScreens → Desk16 S D → Words16 (encodeDesk S D)
 unfolding encodeDesk
@@ -102,7 +104,7 @@ record-words S D h k = at
         (words-if-no-large-copies (listOf D) (λ s l. occurrences-list s D ∙ k .sessions s l)) (words-zeros (2 * S - length (listOf D)))
 
     behind : Words16 (slotsFor S D ++ encodeTail D)
-    behind = below-append 65536 (slotsFor S D) (encodeTail D) slots (tail-words D)
+    behind = below-append 65536 (slotsFor S D) (encodeTail D) slots (tail-words D (k .next))
 
     at : Words16 (D .owed ∷ D .scanned ∷ length (D .ready) ∷ length (D .tested) ∷ length (D .waiting) ∷ (wordsOfBits markWords bits ++ (slotsFor S D ++ encodeTail D)))
     at zero = k .owed
@@ -138,6 +140,7 @@ desk-read t d h k r =
     record {
       sound = all-get (Sound (allScreens H)) (decode H t .desks) (d - 1) emptyDesk (empty-desk-sound (allScreens H)) (valid t k .desks);
       owed = rw (owed-word t d (r .0) (r .1)) (h (recordStart H d));
+      next = rw (number-word t d (r .0) (r .1)) (h (nextWord H d));
       sessions =
           λ s l. ap (copiesOn s) (desk-word t d (r .0) (r .1))
           ∙ no-large-sessions (allScreens H) (recordOf H t d) (small-take (recordWidth H) (drop (recordStart H d) t) (small-drop (recordStart H d) t h)) s l;
@@ -148,6 +151,7 @@ retire-16 : (S : ℕ) (D : Desk) → (D .owed ≡ 0 → ⊥) → usedSlots D < 2
 retire-16 S D z l k = record {
   sound = retire-sound S D z l (k .sound);
   owed = omega arith;
+  next = k .next;
   sessions =
       λ s g. omega (arith, retire-copies s (D .owed) D refl, k .sessions s g, k .owed, indicator-other s (D .owed) (λ q. omega (arith, k .owed)));
 }
@@ -158,6 +162,7 @@ module _ (S : ℕ) (shown : List ℕ) (D : Desk) (some : 1 ≤ S) (all : length 
       record {
         sound = collect-sound S shown D some all (k .sound);
         owed = rw (owed-collect S shown D) (k .owed);
+        next = rw (next-collect S shown D) (k .next);
         sessions = λ s l. omega (arith, collect-copies s S shown D some all (sound-orderly S D (k .sound)) (λ q. omega arith), k .sessions s l);
       }
 
@@ -207,7 +212,7 @@ first-no-is-asked (q ∷ qs) n h = by-cases (q .yes?) h (first-no-is-asked qs n)
 refusals-are-asked : (limits : Limits) (H : Hall) (st : State) (c : Call) → refusals c ≡ 5 ∷ map (λ q. q .number) (questions limits H st c)
 refusals-are-asked limits H st c = by-step (c .step)
   where
-    by-step : (s : Step) → stepRefusals s ≡ 5 ∷ map (λ q. q .number) (questions limits H st (c .desk sends s))
+    by-step : (s : Step) → stepRefusals s ≡ 5 ∷ map (λ q. q .number) (questions limits H st ((c .desk sends s) numbered c .message))
     by-step (Take c p) = refl
     by-step (Drop c) = refl
     by-step (Swap p w) = refl
@@ -274,7 +279,9 @@ put-words H t d words h g =
     (below-append 65536 words (drop (recordWidth H) (drop start t)) g (small-drop (recordWidth H) (drop start t) (small-drop start t h)))
 
 after-words : (limits : Limits) (t : List ℕ) (c : Call) → Words16 t → Call16 c → Known t → asked limits t c ≡ 0 → Words16 (tableAfter t c)
-after-words limits t c h w k q = by-step (c .desk) (c .step) (w .1) q
+after-words limits t c h w k q =
+    let number = nextWord (hallIn t) (c .desk) in
+    words-set (tableAfterStep t (c .desk) (c .step)) number (advance (getD t number 0)) (omega arith) (by-step (c .message) (c .desk) (c .step) (w .2) q)
   where
     S : ℕ
     S = allScreens (hallIn t)
@@ -282,21 +289,21 @@ after-words limits t c h w k q = by-step (c .desk) (c .step) (w .1) q
     st : State
     st = decode (hallIn t) t
 
-    by-step : (d : ℕ) (s : Step) → Step16 s → asked limits t (d sends s) ≡ 0 → Words16 (tableAfterStep t d s)
-    by-step d (Take c p) w q = words-set t (screenWord (hallIn t) d c) (getD t (positionWord p) 0) (h (positionWord p)) h
-    by-step d (Drop c) w q = words-set t (screenWord (hallIn t) d c) 0 (omega arith) h
-    by-step d (Swap p v) w q =
+    by-step : (m d : ℕ) (s : Step) → Step16 s → asked limits t ((d sends s) numbered m) ≡ 0 → Words16 (tableAfterStep t d s)
+    by-step m d (Take c p) w q = words-set t (screenWord (hallIn t) d c) (getD t (positionWord p) 0) (h (positionWord p)) h
+    by-step m d (Drop c) w q = words-set t (screenWord (hallIn t) d c) 0 (omega arith) h
+    by-step m d (Swap p v) w q =
         let old = getD t (positionWord p) 0 in
         cond-both Words16 (isRepeat old v) h
         (words-set (set t (positionWord p) v) (recordStart (hallIn t) d) old (h (positionWord p)) (words-set t (positionWord p) v (w .1) h))
-    by-step d Retire w q =
-        let asks = retire-asked limits (hallIn t) st d q in
+    by-step m d Retire w q =
+        let asks = retire-asked limits (hallIn t) st m d q in
         let D : Desk = deskOf st d in
         put-words (hallIn t) t d (encodeDesk S (retire (decodeDesk S (recordOf (hallIn t) t d)))) h
         (subst (λ (E : Desk). Words16 (encodeDesk S (retire E))) (desk-word t d (asks .desk .0) (asks .desk .1))
         (record-words S (retire D) (k .bounded) (retire-16 S D (asks .owes) (asks .room) (desk-read t d h k (asks .desk)))))
-    by-step d Collect w q =
-        let r = desk-asked limits (hallIn t) st (d sends Collect) q in
+    by-step m d Collect w q =
+        let r = desk-asked limits (hallIn t) st ((d sends Collect) numbered m) q in
         let D : Desk = deskOf st d in
         put-words (hallIn t) t d (encodeDesk S (collect S (st .shown) (decodeDesk S (recordOf (hallIn t) t d)) .after)) h
         (subst (λ (E : Desk). Words16 (encodeDesk S (collect S (st .shown) E .after))) (desk-word t d (r .0) (r .1))
