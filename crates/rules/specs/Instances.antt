@@ -1,21 +1,23 @@
 -- Each statement at one instance: what it says in a hall of 2, 3, 4 (S = 6), for a desk, a screen, a session and indices that all differ.
 -- If a statement had one variable in place of another, a bound off by one or a premise less, it would say something else here.
-use Prim.Native.Nat.{ℕ, _+_, _≤_, _<_}
+use Prim.Native.Nat.{ℕ, _+_, _%_, _≤_, _<_}
 use native.Mathlib.Omega.{arith}
 use mathlib.Core.Path.{_≡_}
 use mathlib.Core.Bool.{Bool, true, false}
 use mathlib.Core.List.{List}
-use lib.ListN.{getD, length, take}
+use lib.ListN.{getD, length, replicate, take}
 use Rattle.rules.specs.Cases.{wide}
 use Rattle.rules.specs.Closing.{ClosingRule, HandBackCloses, PutFresh, ShownNowhere, StandsNowhere, Unreferenced, putAt}
 use Rattle.rules.specs.Demands.{Demand1, Demand2, Demand3, Guarantee, HandedBackWithin, SwapPromise, countsOfDesk, listOfDesk}
-use Rattle.rules.specs.Hall.{State}
-use Rattle.rules.specs.History.{CollectBetween, CollectsBetweenRetires, DroppedBefore, Effect, Linked, NextDrop, NextRetire, NextSwap, Shows, Unshown, _by_, byDesk, collectsOf, drops}
-use Rattle.rules.specs.History.{effectAt, handBacks, handBacksOf, handsBack, isCollect, isRetireAttempt, outOfRoom, retirements, retirementsOf, retires, swaps, takes}
+use Rattle.rules.specs.Hall.{State, fresh, hallLimits}
+use Rattle.rules.specs.History.{CollectBetween, CollectsBetweenRetires, DroppedBefore, Effect, Linked, NextDrop, NextRetire, NextSwap, Shows, Unshown, _by_, byDesk}
+use Rattle.rules.specs.History.{collectsOf, drops, effectAt, handBacks, handBacksOf, handsBack, isCollect, isRetireAttempt, numberAt, outOfRoom, retirements}
+use Rattle.rules.specs.History.{retirementsOf, retires, swaps, takes}
 use Rattle.rules.specs.Lists.{occurrences}
 use Rattle.rules.specs.Locality.{OthersStay, SameView, StepsAlike, deskAt, namedWords, positionAt, screenAt, screensRead, mayWritePosition, mayWriteScreen}
-use Rattle.rules.specs.Steps.{Drop, Event, Result, Swap, _sends_}
-use Rattle.rules.specs.Table.{owedOffset, positionWord, recordOf, screenWord}
+use Rattle.rules.specs.Messages.{AnsweredAsBefore, MessageNumbers, Redelivered, acceptedBetween, acceptedOf, answersOf, callAt, sentHistory, stepUnnumbered}
+use Rattle.rules.specs.Steps.{Call, Drop, Event, Result, Swap, _sends_, run}
+use Rattle.rules.specs.Table.{openTable, owedOffset, positionWord, recordOf, screenWord}
 
 -- ---- Demand 1, for any refusals, footprint and result.
 module _ (refusals : List ℕ) (mayChange : ℕ → Bool) (before : List ℕ) (result : Result (List ℕ)) (demand : Demand1 refusals mayChange before result) where
@@ -182,3 +184,30 @@ module _ (before after : State) where
 
   pub says-positions-stay : OthersStay wide (2 sends Swap 4 9) before after → (p : ℕ) → mayWritePosition (Swap 4 9) p ≡ false → positionAt wide after p ≡ positionAt wide before p
   says-positions-stay stay = stay .positions
+
+-- ---- Message numbers, for any history and tables: desk 2, whose number is word 64, after 5 calls; and the message of index 4 again at index 7.
+module _ (history : List Event) (tables : ℕ → List ℕ) (numbers : MessageNumbers wide history tables) where
+  pub says-word : getD (tables 5) 64 0 ≡ acceptedOf 2 (take 5 history) % 65536
+  says-word = numbers .word 2 5 (omega arith) (omega arith)
+
+  pub says-again : Redelivered history 4 7 → acceptedBetween history 4 7 < 65535 → (numberAt history 7 ≡ 23) × (tables 8 ≡ tables 7)
+  says-again = numbers .again 4 7
+
+  pub says-round : Redelivered history 4 7 → acceptedBetween history 4 7 ≡ 65535 → numberAt history 7 ≡ 23 → ⊥
+  says-round = numbers .round 4 7
+
+  pub says-once : Redelivered history 4 7 → acceptedBetween history 4 7 < 65535 → effectAt history 7 ≡ handsBack 9 by 2 → ⊥
+  says-once = numbers .once 4 7 2 9
+
+  pub says-redelivered : Redelivered history 4 7
+      → (4 < 7) × (7 < length history) × (numberAt history 4 ≡ 0) × (callAt history 7 .desk ≡ callAt history 4 .desk) × (callAt history 7 .message ≡ callAt history 4 .message)
+  says-redelivered twice = (twice .later, twice .within, twice .accepted, twice .desk, twice .message)
+
+-- Calls with the right numbers, sent to the table that the opening of the wide hall leaves of 70 words of 9.
+module _ (before : AnsweredAsBefore hallLimits wide (replicate 70 9)) where
+  pub says-as-before : (calls : List Call)
+      → answersOf (sentHistory hallLimits (openTable hallLimits wide (replicate 70 9) .after) calls) ≡ answersOf (run (stepUnnumbered hallLimits wide) (fresh wide) calls)
+  says-as-before = before .answers
+
+  pub says-never-23 : (calls : List Call) → numberAt (sentHistory hallLimits (openTable hallLimits wide (replicate 70 9) .after) calls) 5 ≡ 23 → ⊥
+  says-never-23 calls = before .never-23 calls 5

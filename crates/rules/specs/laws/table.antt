@@ -3,6 +3,8 @@ pub mod EncodedStep
 pub mod TableSteps
 pub mod DecodeStepEncode
 pub mod TableHistories
+pub mod MessageHistories
+pub mod RightNumbers
 pub mod ClosingHistories
 pub mod WordBounds
 pub mod Demand1

@@ -1,0 +1,260 @@
+-- Message numbers, computed: which numbers are refused, what moves them on, the order of the questions; what the statements about them admit and
+-- refuse; and a history long enough for a number to come round. Document 02, "Message numbers".
+use Prim.Native.Nat.{ℕ, zero, suc, _+_, _%_, _≤_, _<_}
+use native.Mathlib.Omega.{arith}
+use mathlib.Core.Path.{_≡_, refl, sym, ap, _∙_, subst}
+use mathlib.Core.Bool.{Bool, cond}
+use mathlib.Core.List.{List, [], _∷_, _++_, map}
+use lib.ListN.{drop, getD, length, replicate, take}
+use lib.Dec.{eqb}
+use borrow.Author.Tests.{eq-eqb}
+use Rattle.rules.specs.Cases.{Case, Computed, _⇒_, busyTable, delivers, ok, refusedWith}
+use Rattle.rules.specs.Hall.{Hall, fresh, hallLimits, hallOf}
+use Rattle.rules.specs.History.{_by_, effectAt, handsBack, numberAt}
+use Rattle.rules.specs.Messages.{MessageNumbers, Redelivered, acceptedBetween, acceptedOf, answersOf, callAt, nextIn, nextOf, rightlyNumbered, sentHistory, sentTo}
+use Rattle.rules.specs.Messages.{stepUnnumbered}
+use Rattle.rules.specs.Steps.{Call, Collect, Drop, Event, Result, Retire, Swap, Take, _numbered_, _sends_, accept, advance, end, run, step}
+use Rattle.rules.specs.Table.{decodeDesk, encodeDesk, openTable, recordSound, sound, stepTable}
+use Rattle.rules.specs.laws.table.TableSteps.{accepted-step}
+
+-- ---- One desk with one screen and one position: the session at the position, what the screen shows, what is owed, the count of waiting and of
+-- ready, the first place of the list, and the next message number.
+abbrev one : ℕ → ℕ → ℕ → ℕ → ℕ → ℕ → ℕ → List ℕ
+one held shown owed ready waiting place next =
+    (1 ∷ 1 ∷ 1 ∷ held ∷ shown ∷ owed ∷ 0 ∷ ready ∷ 0 ∷ waiting ∷ replicate 8 0) ++ (place ∷ 0 ∷ next ∷ [])
+
+-- "Calls from the host carry the number; only an accepted call moves it on": the messages of a shift, some of them delivered twice. All five steps
+-- move it on, and so do a repeat and a collect that replies 0; a refused call does not, so its number is used again. The collect at the end is
+-- delivered three times, and hands 5 back once.
+abbrev shift : List Case
+shift =
+    delivers (one 0 0 0 0 0 0 0)
+    ((1 sends Swap 1 5 numbered 1 ⇒ refusedWith 23) ∷ (1 sends Swap 1 5 numbered 65535 ⇒ refusedWith 23) ∷ (1 sends Swap 1 5 numbered 0 ⇒ ok 0)
+    ∷ (1 sends Swap 1 5 numbered 0 ⇒ refusedWith 23) ∷ (1 sends Retire numbered 1 ⇒ refusedWith 13) ∷ (1 sends Take 1 1 numbered 1 ⇒ ok 5)
+    ∷ (1 sends Take 1 1 numbered 1 ⇒ refusedWith 23) ∷ (1 sends Swap 1 5 numbered 2 ⇒ ok 5) ∷ (1 sends Swap 1 5 numbered 2 ⇒ refusedWith 23)
+    ∷ (1 sends Swap 1 6 numbered 3 ⇒ ok 5) ∷ (1 sends Swap 1 6 numbered 3 ⇒ refusedWith 23) ∷ (1 sends Retire numbered 4 ⇒ ok 5)
+    ∷ (1 sends Retire numbered 4 ⇒ refusedWith 23) ∷ [])
+    (one 6 5 0 0 1 5 5)
+    ∷ delivers (one 6 5 0 0 1 5 5)
+    ((1 sends Collect numbered 5 ⇒ ok 0) ∷ (1 sends Collect numbered 5 ⇒ refusedWith 23) ∷ (1 sends Drop 1 numbered 6 ⇒ ok 5) ∷ (1 sends Drop 1 numbered 6 ⇒ refusedWith 23)
+    ∷ (1 sends Collect numbered 7 ⇒ ok 5) ∷ (1 sends Collect numbered 7 ⇒ refusedWith 23) ∷ (1 sends Collect numbered 7 ⇒ refusedWith 23) ∷ [])
+    (one 6 0 0 0 0 0 8)
+    ∷ []
+
+pub a-shift : Computed shift
+unfolding stepTable sound recordSound encodeDesk decodeDesk
+a-shift = refl
+
+-- "running on from 65,535 to 0 without a fuss"; all 16 bits are compared; and each desk counts for itself: desk 1 of these two is at 0 and owes 9.
+abbrev around : List Case
+around =
+    delivers (one 6 0 0 0 0 0 65535)
+    ((1 sends Take 1 1 numbered 0 ⇒ refusedWith 23) ∷ (1 sends Take 1 1 numbered 65535 ⇒ ok 6) ∷ (1 sends Drop 1 numbered 65535 ⇒ refusedWith 23) ∷ (1 sends Drop 1 numbered 0 ⇒ ok 6) ∷ [])
+    (one 6 0 0 0 0 0 1)
+    ∷ delivers (one 6 0 0 0 0 0 65534)
+    ((1 sends Collect numbered 65535 ⇒ refusedWith 23) ∷ (1 sends Collect numbered 65534 ⇒ ok 0) ∷ (1 sends Collect numbered 65535 ⇒ ok 0) ∷ [])
+    (one 6 0 0 0 0 0 0)
+    ∷ delivers (one 6 0 0 0 0 0 300)
+    ((1 sends Collect numbered 44 ⇒ refusedWith 23) ∷ (1 sends Collect numbered 556 ⇒ refusedWith 23) ∷ (1 sends Collect numbered 299 ⇒ refusedWith 23) ∷ (1 sends Collect numbered 301 ⇒ refusedWith 23) ∷ [])
+    (one 6 0 0 0 0 0 300)
+    ∷ delivers (take 42 busyTable ++ (7 ∷ []))
+    ((2 sends Collect numbered 0 ⇒ refusedWith 23) ∷ (1 sends Collect numbered 7 ⇒ refusedWith 23) ∷ (2 sends Collect numbered 7 ⇒ ok 0) ∷ (1 sends Retire numbered 0 ⇒ refusedWith 14) ∷ [])
+    (take 42 busyTable ++ (8 ∷ []))
+    ∷ []
+
+pub comes-around : Computed around
+unfolding stepTable sound recordSound encodeDesk decodeDesk
+comes-around = refl
+
+-- "23 for another number, asked after 6 and before 7": 5 and 23; 6 and 23, whatever the number; then 23 before each of the others.
+abbrev order : List Case
+order =
+    delivers (replicate 21 1) ((1 sends Collect numbered 7 ⇒ refusedWith 5) ∷ []) (replicate 21 1)
+    ∷ delivers busyTable
+    ((3 sends Collect numbered 0 ⇒ refusedWith 6) ∷ (3 sends Collect numbered 1 ⇒ refusedWith 6) ∷ (0 sends Collect numbered 7 ⇒ refusedWith 6)
+    -- 7, 8, 9, 12, 13 and 14 with the right number are answered 23 with another
+    ∷ (1 sends Take 2 1 numbered 1 ⇒ refusedWith 23) ∷ (1 sends Take 2 1 ⇒ refusedWith 7)
+    ∷ (1 sends Drop 2 numbered 1 ⇒ refusedWith 23) ∷ (1 sends Drop 2 ⇒ refusedWith 7)
+    ∷ (1 sends Take 1 3 numbered 1 ⇒ refusedWith 23) ∷ (1 sends Take 1 3 ⇒ refusedWith 8)
+    ∷ (1 sends Swap 3 4 numbered 1 ⇒ refusedWith 23) ∷ (1 sends Swap 3 4 ⇒ refusedWith 8)
+    ∷ (1 sends Take 1 1 numbered 1 ⇒ refusedWith 23) ∷ (1 sends Take 1 1 ⇒ refusedWith 9)
+    ∷ (1 sends Swap 1 4 numbered 1 ⇒ refusedWith 23) ∷ (1 sends Swap 1 4 ⇒ refusedWith 12)
+    ∷ (2 sends Retire numbered 1 ⇒ refusedWith 23) ∷ (2 sends Retire ⇒ refusedWith 13)
+    ∷ (1 sends Retire numbered 1 ⇒ refusedWith 23) ∷ (1 sends Retire ⇒ refusedWith 14)
+    -- a repeat, and a collect, which asks nothing more
+    ∷ (2 sends Swap 1 7 numbered 1 ⇒ refusedWith 23) ∷ (2 sends Collect numbered 1 ⇒ refusedWith 23) ∷ [])
+    busyTable
+    -- 10 and 11
+    ∷ delivers (one 0 0 0 0 0 0 3)
+    ((1 sends Take 1 1 ⇒ refusedWith 23) ∷ (1 sends Take 1 1 numbered 3 ⇒ refusedWith 10) ∷ (1 sends Drop 1 ⇒ refusedWith 23) ∷ (1 sends Drop 1 numbered 3 ⇒ refusedWith 11) ∷ [])
+    (one 0 0 0 0 0 0 3)
+    -- "tables of the former layout are not converted": one is a word short
+    ∷ delivers (take 20 (one 0 0 0 0 0 0 0)) ((1 sends Collect ⇒ refusedWith 5) ∷ []) (take 20 (one 0 0 0 0 0 0 0))
+    ∷ []
+
+pub number-order : Computed order
+unfolding stepTable sound recordSound encodeDesk decodeDesk
+number-order = refl
+
+-- ---- The right numbers. Desk 2 is at 7; desks 0 and 3, which the hall does not have, get 0; a table without a hall, or too short, gives 0.
+pub numbers-read :
+    (map (nextIn (take 42 busyTable ++ (7 ∷ []))) (0 ∷ 1 ∷ 2 ∷ 3 ∷ []) ≡ 0 ∷ 0 ∷ 7 ∷ 0 ∷ [])
+    × (map (nextIn (take 42 busyTable)) (1 ∷ 2 ∷ []) ≡ 0 ∷ 0 ∷ [])
+    × (nextIn [] 1 ≡ 0)
+    × (nextIn (17 ∷ 1 ∷ 1 ∷ replicate 2400 5) 1 ≡ 0)
+    × (nextIn (16 ∷ 1 ∷ 1 ∷ replicate 2400 5) 16 ≡ 5)
+numbers-read = (refl, refl, refl, refl, refl)
+
+-- The collect that is refused does not move desk 1's number on; desk 2's first number is 0; desk 3 is not there.
+abbrev mixed : List Call
+mixed = 1 sends Swap 1 5 ∷ 1 sends Retire ∷ 2 sends Take 1 1 ∷ 3 sends Collect ∷ 1 sends Collect ∷ 2 sends Drop 1 ∷ []
+
+pub numbers-filled-in :
+    (map (λ (call : Call). call .message) (sentTo hallLimits (openTable hallLimits (hallOf 2 1 1) (replicate 42 9) .after) mixed) ≡ 0 ∷ 1 ∷ 0 ∷ 0 ∷ 1 ∷ 1 ∷ [])
+    × (map (λ (call : Call). call .message) (rightlyNumbered nextOf (step hallLimits (hallOf 2 1 1)) (fresh (hallOf 2 1 1)) mixed) ≡ 0 ∷ 1 ∷ 0 ∷ 0 ∷ 1 ∷ 1 ∷ [])
+unfolding openTable stepTable sound recordSound encodeDesk decodeDesk
+numbers-filled-in = (refl, refl)
+
+-- Without numbers nothing asks 23 and nothing moves on: a step with another number is accepted, and leaves the number.
+pub steps-unnumbered :
+    (answersOf (run (stepUnnumbered hallLimits (hallOf 2 1 1)) (fresh (hallOf 2 1 1)) (map (λ (call : Call). call numbered 9) mixed))
+    ≡ ok 0 ∷ refusedWith 13 ∷ ok 5 ∷ refusedWith 6 ∷ ok 0 ∷ ok 5 ∷ [])
+    × (map (nextOf (end (stepUnnumbered hallLimits (hallOf 2 1 1)) (fresh (hallOf 2 1 1)) mixed)) (1 ∷ 2 ∷ []) ≡ 0 ∷ 0 ∷ [])
+steps-unnumbered = (refl, refl)
+
+-- ---- What the statements say of a history, right or wrong.
+
+-- Desk 2's collect with number 3 is accepted at index 1 and delivered again at index 4. In between its calls at indices 2 and 3 are accepted and
+-- refused, and there is one of desk 1.
+abbrev twice : List Event
+twice =
+    (1 sends Collect ⇒ ok 0) ∷ (2 sends Collect numbered 3 ⇒ ok 5) ∷ (2 sends Drop 1 numbered 4 ⇒ ok 6) ∷ (2 sends Retire numbered 5 ⇒ refusedWith 13)
+    ∷ (2 sends Collect numbered 3 ⇒ refusedWith 23) ∷ (1 sends Collect numbered 3 ⇒ refusedWith 23) ∷ []
+
+pub counted :
+    (map (λ (d : ℕ). acceptedOf d twice) (0 ∷ 1 ∷ 2 ∷ 3 ∷ []) ≡ 0 ∷ 1 ∷ 2 ∷ 0 ∷ [])
+    × (map (acceptedBetween twice 1) (1 ∷ 2 ∷ 3 ∷ 4 ∷ 5 ∷ []) ≡ 0 ∷ 0 ∷ 1 ∷ 1 ∷ 1 ∷ [])
+    × (map (λ (i : ℕ). callAt twice i .message) (0 ∷ 1 ∷ 2 ∷ 3 ∷ 4 ∷ 5 ∷ 6 ∷ []) ≡ 0 ∷ 3 ∷ 4 ∷ 5 ∷ 3 ∷ 3 ∷ 0 ∷ [])
+    × (map (λ (i : ℕ). callAt twice i .desk) (0 ∷ 1 ∷ 2 ∷ 3 ∷ 4 ∷ 5 ∷ 6 ∷ []) ≡ 1 ∷ 2 ∷ 2 ∷ 2 ∷ 2 ∷ 1 ∷ 0 ∷ [])
+counted = (refl, refl, refl, refl)
+
+pub redelivered : Redelivered twice 1 4
+redelivered = record { later = omega arith; within = omega arith; accepted = refl; desk = refl; message = refl }
+
+-- Not earlier, not past the end, not of a refused message, not by another desk, not with another number.
+pub not-redelivered :
+    (Redelivered twice 1 1 → ⊥) × (Redelivered twice 1 6 → ⊥) × (Redelivered twice 3 4 → ⊥) × (Redelivered twice 1 5 → ⊥) × (Redelivered twice 1 2 → ⊥)
+not-redelivered = (
+  λ again. omega (arith, again .later),
+  λ again. omega (arith, again .within),
+  λ again. omega (arith, again .accepted),
+  λ again. omega (arith, again .desk),
+  λ again. omega (arith, again .message),
+)
+
+-- One desk's tables, by the next number after the first calls: 0, then 1 for good.
+abbrev numbersOf : ℕ → List ℕ
+numbersOf zero = one 0 0 0 1 0 5 0
+numbersOf (suc i) = one 0 0 0 0 0 0 1
+
+abbrev collectTwice : Event → List Event
+collectTwice second = (1 sends Collect ⇒ ok 5) ∷ second ∷ []
+
+abbrev Says : List Event → (ℕ → List ℕ) → Type 0
+Says = MessageNumbers (hallOf 1 1 1)
+
+again-at-1 : (second : Event) → second .call ≡ 1 sends Collect → Redelivered (collectTwice second) 0 1
+again-at-1 second same = record {
+  later = omega arith;
+  within = omega arith;
+  accepted = refl;
+  desk = ap (λ (call : Call). call .desk) same;
+  message = ap (λ (call : Call). call .message) same;
+}
+
+-- The word is refused that does not move on, or that a refused call moves on; so is a second delivery that is accepted, one that is refused
+-- with another number, and one that is refused and writes.
+pub refuses-words :
+    (Says ((1 sends Collect ⇒ ok 5) ∷ []) (λ i. one 0 0 0 1 0 5 0) → ⊥) × (Says ((1 sends Collect numbered 7 ⇒ refusedWith 23) ∷ []) numbersOf → ⊥)
+refuses-words = (λ says. omega (arith, says .word 1 1 (omega arith) (omega arith)), λ says. omega (arith, says .word 1 1 (omega arith) (omega arith)))
+
+pub refuses-second-delivery :
+    (Says (collectTwice (1 sends Collect ⇒ ok 0)) numbersOf → ⊥)
+    × (Says (collectTwice (1 sends Collect ⇒ refusedWith 7)) numbersOf → ⊥)
+    × (((i : ℕ) → Says (collectTwice (1 sends Collect ⇒ refusedWith 23)) (λ i. one 0 0 i 0 0 0 1)) → ⊥)
+    × (Says (collectTwice (1 sends Collect ⇒ ok 5)) numbersOf → ⊥)
+refuses-second-delivery = (
+  λ says. omega (arith, says .again 0 1 (again-at-1 _ refl) (omega arith) .0),
+  λ says. omega (arith, says .again 0 1 (again-at-1 _ refl) (omega arith) .0),
+  λ says. omega (arith, ap (λ (words : List ℕ). getD words 5 0) (says 0 .again 0 1 (again-at-1 _ refl) (omega arith) .1)),
+  λ says. says .once 0 1 1 5 (again-at-1 _ refl) (omega arith) refl,
+)
+
+-- ---- A number that comes round. One desk with nothing on its list sends n collects, each with the right number, and then number 0 again.
+
+-- its table, with this next number
+abbrev idle : ℕ → List ℕ
+idle next = one 0 0 0 0 0 0 next
+
+idle-collect : (number : ℕ) → stepTable hallLimits (idle number) (1 sends Collect numbered number) ≡ accept 0 (idle (advance number))
+unfolding sound recordSound encodeDesk decodeDesk
+idle-collect number = accepted-step hallLimits (idle number) (1 sends Collect numbered number) refl (ap asks (eq-eqb number number refl))
+  where
+    asks : Bool → ℕ
+    asks right = cond right 0 23
+
+abbrev collects : ℕ → ℕ → List Call
+collects zero number = []
+collects (suc n) number = (1 sends Collect numbered number) ∷ collects n (advance number)
+
+abbrev collected : ℕ → ℕ → List Event
+collected zero number = []
+collected (suc n) number = (1 sends Collect numbered number ⇒ ok 0) ∷ collected n (advance number)
+
+abbrev later : ℕ → ℕ → ℕ
+later zero number = number
+later (suc n) number = later n (advance number)
+
+idle-run : (n number : ℕ) (calls : List Call)
+    → run (stepTable hallLimits) (idle number) (collects n number ++ calls) ≡ collected n number ++ run (stepTable hallLimits) (idle (later n number)) calls
+idle-run zero number calls = refl
+idle-run (suc n) number calls =
+    ap (λ (result : Result (List ℕ)). (1 sends Collect numbered number ⇒ result .answer) ∷ run (stepTable hallLimits) (result .after) (collects n (advance number) ++ calls)) (idle-collect number)
+    ∙ ap {B = List Event} (λ events. (1 sends Collect numbered number ⇒ ok 0) ∷ events) (idle-run n (advance number) calls)
+
+-- the history in which the message with number 0, accepted at index 0, is delivered again at index n + 1
+abbrev pub longCalls : ℕ → List Call
+longCalls n = collects (suc n) 0 ++ (1 sends Collect ∷ [])
+
+abbrev pub long : ℕ → List Event
+long n = run (stepTable hallLimits) (openTable hallLimits (hallOf 1 1 1) (replicate 21 9) .after) (longCalls n)
+
+abbrev lastEvent : ℕ → Event
+lastEvent n = 1 sends Collect ⇒ stepTable hallLimits (idle (later (suc n) 0)) (1 sends Collect) .answer
+
+long-is : (n : ℕ) → long n ≡ collected (suc n) 0 ++ (lastEvent n ∷ [])
+unfolding openTable
+long-is n = idle-run (suc n) 0 (1 sends Collect ∷ [])
+
+at-end : (n number : ℕ) (event : Event) → (callAt (collected n number ++ (event ∷ [])) n ≡ event .call) × (length (collected n number ++ (event ∷ [])) ≡ suc n)
+at-end zero number event = (refl, refl)
+at-end (suc n) number event = (at-end n (advance number) event .0, ap suc (at-end n (advance number) event .1))
+
+before-end : (n number : ℕ) (event : Event) → acceptedOf 1 (take n (collected n number ++ (event ∷ []))) ≡ n
+before-end zero number event = refl
+before-end (suc n) number event = omega (arith, before-end n (advance number) event)
+
+pub delivered-again : (n : ℕ) → Redelivered (long n) 0 (suc n) × (acceptedBetween (long n) 0 (suc n) ≡ n)
+delivered-again n =
+    subst (λ (history : List Event). Redelivered history 0 (suc n) × (acceptedBetween history 0 (suc n) ≡ n)) (sym (long-is n))
+    (let last = at-end n (advance 0) (lastEvent n) in
+    (
+      record {
+        later = omega arith;
+        within = omega (arith, last .1);
+        accepted = refl;
+        desk = ap (λ (call : Call). call .desk) (last .0);
+        message = ap (λ (call : Call). call .message) (last .0);
+      },
+      before-end n (advance 0) (lastEvent n),
+    ))
