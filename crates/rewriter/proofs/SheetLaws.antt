@@ -12,6 +12,7 @@ use Rattle.buffer.specs.laws.Put.{put-first, put-on}
 use Rattle.rules.specs.Hall.{Hall, Limits}
 use Rattle.rules.specs.Numbers.{Refusal, parsed, refusalOf, refused}
 use Rattle.rules.specs.Steps.{Answer}
+use Rattle.rules.specs.Table.{maxWords}
 use Rattle.sheet_rules.specs.Offsets.{endingIn}
 use Rattle.sheet_rules.specs.Rewriting.{meaningOf, refusedSheetLine, rewrite, unlessTooLong, writeReading, writeUnless}
 use Rattle.sheet_rules.specs.Sheet.{Edition, Records, beginSheet, encodeSheet, ifOpens, lentTable, maxBytes, openSheet, opened, openingNumber}
@@ -21,11 +22,11 @@ use Rattle.rewriter.specs.Build.{PutRecords, recordsFrom, writtenFor}
 -- ---- The opening.
 
 -- the board's number for the opening, where the table has as many words as the program's
-pub opening-number : (limits : Limits) (hall : Hall) {number : ℕ} {answer : Answer} → OpeningAnswer limits hall 2387 answer → number ≡ answer .number
+pub opening-number : (limits : Limits) (hall : Hall) {number : ℕ} {answer : Answer} → OpeningAnswer limits hall maxWords answer → number ≡ answer .number
     → openingNumber limits hall ≡ number
 unfolding lentTable
 opening-number limits hall said is-number =
-    sym (ap (λ (a : Answer). a .number) (said lentTable (length-replicate {A = ℕ} 2387 0) ∙ opening-answer limits hall)) ∙ sym is-number
+    sym (ap (λ (a : Answer). a .number) (said lentTable (length-replicate {A = ℕ} maxWords 0) ∙ opening-answer limits hall)) ∙ sym is-number
 
 module _ (edition : Edition) (sheet : List ℕ) {hall : Hall} {next number : ℕ} (found : beginSheet edition sheet ≡ parsed hall next) (opening : openingNumber (edition .limits) hall ≡ number) where
   pub sheet-opens : number ≡ 0 → parsed hall next ≡ openSheet edition sheet

@@ -196,8 +196,8 @@ module _ (history : List Event) (tables : ℕ → List ℕ) (numbers : MessageNu
   pub says-round : Redelivered history 4 7 → acceptedBetween history 4 7 ≡ 65535 → numberAt history 7 ≡ 23 → ⊥
   says-round = numbers .round 4 7
 
-  pub says-once : Redelivered history 4 7 → acceptedBetween history 4 7 < 65535 → effectAt history 7 ≡ handsBack 9 by 2 → ⊥
-  says-once = numbers .once 4 7 2 9
+  pub says-once-back : Redelivered history 4 7 → acceptedBetween history 4 7 < 65535 → effectAt history 7 ≡ handsBack 9 by 2 → ⊥
+  says-once-back = numbers .once 4 7 2 9
 
   pub says-redelivered : Redelivered history 4 7
       → (4 < 7) × (7 < length history) × (numberAt history 4 ≡ 0) × (callAt history 7 .desk ≡ callAt history 4 .desk) × (callAt history 7 .message ≡ callAt history 4 .message)

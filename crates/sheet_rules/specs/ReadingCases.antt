@@ -52,8 +52,8 @@ pub header-both-ways : (hallEdition .encodeHeader (hallOf 2 3 4) ≡ 0x02 ∷ 0x
 unfolding encodeHeader encodeNumber decodeHeader decodeNumber
 header-both-ways = (refl, refl)
 
--- The table that the program lends: 2,387 zeros.
-pub lent-table : lentTable ≡ replicate 2387 0
+-- The table that the program lends: 2,403 zeros.
+pub lent-table : lentTable ≡ replicate 2403 0
 unfolding lentTable
 lent-table = refl
 

@@ -5,7 +5,8 @@ use mathlib.Core.List.{List, [], _∷_}
 use mathlib.Core.Option.{Option, none, some}
 use lib.Dec.{eqb}
 use Rattle.rules.specs.Hall.{Limits}
-use Rattle.rules.specs.Steps.{Call, Collect, Drop, Result, Retire, Step, Swap, Take, _sends_, refuse}
+use Rattle.rules.specs.Messages.{nextIn}
+use Rattle.rules.specs.Steps.{Call, Collect, Drop, Result, Retire, Step, Swap, Take, _numbered_, _sends_, refuse}
 use Rattle.rules.specs.Table.{stepTable}
 use Rattle.sheet_rules.specs.Sheet.{Record, Records, complete, more, stop}
 
@@ -17,7 +18,7 @@ codeOf (Swap p session) = 3
 codeOf Retire = 4
 codeOf Collect = 5
 
--- The call that a record requests. A record with any other code requests none.
+-- The call that a record requests, before its message number is filled in. A record with any other code requests none.
 abbrev pub callOf : Record → Option Call
 callOf entry =
     cond (eqb (entry .code) 1) (some (entry .desk sends Take (entry .screen) (entry .position)))
@@ -27,9 +28,10 @@ callOf entry =
     (cond (eqb (entry .code) 5) (some (entry .desk sends Collect)) none))))
 
 -- "Is the code 1 to 5? 17": the answer if no call is requested. "A "no" gives the number, session 0, and nothing written."
+-- "The sheet program fills in the right number itself" (document 02, Job 6).
 abbrev pub runCall : Limits → List ℕ → Option Call → Result (List ℕ)
 runCall limits table none = refuse 17 table
-runCall limits table (some call) = stepTable limits table call
+runCall limits table (some call) = stepTable limits table (call numbered nextIn table (call .desk))
 
 -- What a record does to a table.
 abbrev pub runRecord : Limits → List ℕ → Record → Result (List ℕ)

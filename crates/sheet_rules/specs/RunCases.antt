@@ -1,12 +1,13 @@
 -- Computed cases of running records, of the tally and of the printed numbers: each depends on one clause of a definition.
 use mathlib.Core.Path.{_≡_, refl}
-use mathlib.Core.List.{List, [], _∷_, map}
+use mathlib.Core.List.{List, [], _∷_, _++_, map}
 use mathlib.Core.Option.{none, some}
 use Prim.Native.Nat.{ℕ}
+use lib.ListN.{replicate}
 use Rattle.rules.specs.Cases.{_⇒_, ok, refusedWith}
 use Rattle.rules.specs.Hall.{hallLimits}
-use Rattle.rules.specs.Steps.{Answer, Collect, Drop, Event, Retire, Swap, Take, _sends_, refuse}
-use Rattle.rules.specs.Table.{sound, stepTable}
+use Rattle.rules.specs.Steps.{Answer, Collect, Drop, Event, Retire, Swap, Take, _sends_, accept, refuse}
+use Rattle.rules.specs.Table.{decodeDesk, encodeDesk, recordSound, sound, stepTable}
 use Rattle.sheet_rules.specs.Lines.{decimal, endLine, eventLines, line, linesFrom, spaced}
 use Rattle.sheet_rules.specs.Run.{callOf, callsIn, runRecord}
 use Rattle.sheet_rules.specs.Sheet.{complete, more, recordFor}
@@ -33,6 +34,20 @@ pub other-codes-are-17 :
     ≡ refuse 17 (7 ∷ 8 ∷ 9 ∷ []) ∷ refuse 17 (7 ∷ 8 ∷ 9 ∷ []) ∷ refuse 5 (7 ∷ 8 ∷ 9 ∷ []) ∷ []
 unfolding stepTable sound
 other-codes-are-17 = refl
+
+-- "The sheet program fills in the right number itself": the hall's only desk is at 65,535, and then at 0. A desk that the hall does not have is
+-- refused with 6.
+abbrev idle : ℕ → List ℕ
+idle next = (1 ∷ 1 ∷ 1 ∷ replicate 17 0) ++ (next ∷ [])
+
+pub right-number-filled-in :
+    (runRecord hallLimits (idle 65535) (recordFor 5 1 0 0 0) ≡ accept 0 (idle 0))
+    × (runRecord hallLimits (idle 0) (recordFor 3 1 0 1 0) ≡ accept 0 (idle 1))
+    × (runRecord hallLimits (idle 7) (recordFor 4 1 0 0 0) ≡ refuse 13 (idle 7))
+    × (runRecord hallLimits (idle 7) (recordFor 5 2 0 0 0) ≡ refuse 6 (idle 7))
+    × (runRecord hallLimits (idle 7) (recordFor 5 0 0 0 0) ≡ refuse 6 (idle 7))
+unfolding stepTable sound recordSound encodeDesk decodeDesk
+right-number-filled-in = (refl, refl, refl, refl, refl)
 
 -- A record that requests no call adds none to the calls, and the calls of the records after it are among them.
 pub calls-without-17 : callsIn (more (recordFor 6 1 0 0 0) (more (recordFor 4 2 0 0 0) complete)) ≡ (2 sends Retire) ∷ []

@@ -1,12 +1,13 @@
 -- `printing::print` meets its contract: each batch leads from one state of the sheet to a later one.
 use native.Mathlib.Omega.{arith}
-use Prim.Native.Nat.{_≤_}
+use Prim.Native.Nat.{_*_, _≤_}
 use mathlib.Core.Path.{_≡_, sym}
 use mathlib.Core.Bool.{true, false}
 use lib.ListN.{length}
 use lib.Seq.{length-take-le}
 use borrow.Author.Needs.{needs}
 use Rattle.rules.specs.Bytes.{wordsOfBytes}
+use Rattle.rules.specs.Table.{maxWords}
 use Rattle.reader.specs.Results.{editionOf}
 use Rattle.sheet.specs.Batch.{batchesLeft}
 use Rattle.sheet.specs.laws.Batches.{fewer-left}
@@ -18,7 +19,7 @@ use Rattle.printing.proofs.print.Tie as tie
 
 abbrev Inv-loop : tie.InvT-loop
 Inv-loop sheet edition table₀ out₀ put state₀ bytes₀ taken₀ table out state bytes taken =
-    (4774 ≡ length table) × (65536 ≡ length out) × (state .index ≤ state .offset) × (1 ≤ bytes) × Reached (editionOf edition) sheet bytes state (wordsOfBytes table)
+    (2 * maxWords ≡ length table) × (65536 ≡ length out) × (state .index ≤ state .offset) × (1 ≤ bytes) × Reached (editionOf edition) sheet bytes state (wordsOfBytes table)
 
 abbrev μ-loop : tie.MeasureT-loop
 μ-loop sheet edition table₀ out₀ put state₀ bytes₀ taken₀ table out state bytes taken = batchesLeft sheet state

@@ -8,7 +8,8 @@ use mathlib.Core.Option.{none, some}
 use lib.Dec.{eqb}
 use borrow.Author.Tests.{le-leb, ne-eqb}
 use Rattle.rules.specs.Hall.{Hall, Limits}
-use Rattle.rules.specs.Steps.{Call, Event, Result, accept, run}
+use Rattle.rules.specs.Messages.{nextIn, sentHistory}
+use Rattle.rules.specs.Steps.{Call, Event, Result, _numbered_, accept}
 use Rattle.rules.specs.Table.{openTable, openedTable, stepTable}
 use Rattle.rules.specs.laws.history.StepEffects.{in-range}
 use Rattle.rules.specs.laws.table.TableSteps.{accepted-open}
@@ -63,18 +64,18 @@ other-code-asks-none entry other =
 -- the lines of a run of these calls, then that of what ended the reading, then the counts
 abbrev runLines : Limits → List ℕ → ℕ → Tally → Records → List Call → List ℕ
 runLines limits table index total records calls =
-    let events : List Event = run (stepTable limits) table calls in
+    let events : List Event = sentHistory limits table calls in
     eventLines index events ++ (endingLine index records ++ endLine (addSteps total events))
 
 -- one call more
 lines-of-call : (limits : Limits) (table : List ℕ) (index code : ℕ) (total : Tally) (entry : Record) (rest : Records) (call : Call) → codeOf (call .step) ≡ code →
-    let done : Result (List ℕ) = stepTable limits table call in
+    let done : Result (List ℕ) = stepTable limits table (call numbered nextIn table (call .desk)) in
     let next : Tally = addStep total code (done .answer) in
     linesFrom limits (done .after) (suc index) next rest ≡ runLines limits (done .after) (suc index) next rest (callsIn rest)
     → answerLine index code (done .answer) ++ linesFrom limits (done .after) (suc index) next rest ≡ runLines limits table index total (more entry rest) (call ∷ callsIn rest)
 lines-of-call limits table index code total entry rest call same later =
-    let done : Result (List ℕ) = stepTable limits table call in
-    let events : List Event = run (stepTable limits) (done .after) (callsIn rest) in
+    let done : Result (List ℕ) = stepTable limits table (call numbered nextIn table (call .desk)) in
+    let events : List Event = sentHistory limits (done .after) (callsIn rest) in
     ap (λ (lines : List ℕ). answerLine index code (done .answer) ++ lines) later
     ∙ ap (λ (n : ℕ). answerLine index n (done .answer) ++ (eventLines (suc index) events ++ (endingLine (suc index) rest ++ endLine (addSteps (addStep total n (done .answer)) events)))) (sym same)
     ∙ sym (append-assoc (answerLine index (codeOf (call .step)) (done .answer)) (eventLines (suc index) events) _)
@@ -85,7 +86,7 @@ lines-from limits table index total complete good = refl
 lines-from limits table index total (stop reason) good = refl
 lines-from limits table index total (more entry rest) good =
     let asks : Asks entry = record-asks entry (good .0 .code) in
-    let next : Result (List ℕ) = stepTable limits table (asks .call) in
+    let next : Result (List ℕ) = stepTable limits table (asks .call numbered nextIn table (asks .call .desk)) in
     simp (asks .asked)
     (lines-of-call limits table index (entry .code) total entry rest (asks .call) (asks .sameCode)
     (lines-from limits (next .after) (suc index) (addStep total (entry .code) (next .answer)) rest (good .1)))
@@ -94,8 +95,8 @@ pub lines-of-run : {edition : Edition} → Lawful edition → (sheet : List ℕ)
     → reading edition sheet ≡ opened hall records
     → printed edition sheet
     ≡ line 0 0 0 0
-    ++ (eventLines 1 (run (stepTable (edition .limits)) (openTable (edition .limits) hall lentTable .after) (callsIn records))
-    ++ (endingLine 1 records ++ endLine (countsIn (run (stepTable (edition .limits)) (openTable (edition .limits) hall lentTable .after) (callsIn records)))))
+    ++ (eventLines 1 (sentHistory (edition .limits) (openTable (edition .limits) hall lentTable .after) (callsIn records))
+    ++ (endingLine 1 records ++ endLine (countsIn (sentHistory (edition .limits) (openTable (edition .limits) hall lentTable .after) (callsIn records)))))
 unfolding printed
 lines-of-run {edition} lawful sheet hall records e =
     ap (linesOf (edition .limits)) e
@@ -109,4 +110,4 @@ lines-of-run {edition} lawful sheet hall records e =
     table = openTable (edition .limits) hall lentTable .after
 
     events : List Event
-    events = run (stepTable (edition .limits)) table (callsIn records)
+    events = sentHistory (edition .limits) table (callsIn records)

@@ -4,10 +4,12 @@ use native.Mathlib.Omega.{arith}
 use mathlib.Core.Path.{_≡_, _∙_, subst}
 use mathlib.Core.Bool.{Bool, true, false, cond}
 use mathlib.Core.List.{List, [], _∷_}
+use lib.Dec.{eqb}
 use borrow.Author.Tests.{le-leb}
 use Rattle.rules.specs.Hall.{Hall, Limits, State, deskOf}
 use Rattle.rules.specs.History.{numberAt}
-use Rattle.rules.specs.Steps.{Call, Collect, Drop, Retire, Step, Swap, Take, _sends_, firstNo, inRange, isNone, questions, run}
+use Rattle.rules.specs.Messages.{nextIn, sentHistory}
+use Rattle.rules.specs.Steps.{Call, Collect, Drop, Retire, Step, Swap, Take, _numbered_, _sends_, firstNo, inRange, isNone, questions}
 use Rattle.rules.specs.Table.{decode, hallIn, stepTable}
 use Rattle.rules.specs.laws.history.StepEffects.{in-range}
 use Rattle.rules.specs.laws.table.WordBounds.{by-step, first-no-is-asked}
@@ -49,39 +51,40 @@ each-small most (more entry rest) good =
     (each-small most rest (good .1))
 
 -- ---- And such a call is not answered 22.
-not-22 : (limits : Limits) (hall : Hall) (state : State) (d : ℕ) (step : Step) → Small (limits .sessions) step
-    → firstNo (questions limits hall state (d sends step)) ≡ 22
+not-22 : (limits : Limits) (hall : Hall) (state : State) (m d : ℕ) (step : Step) → Small (limits .sessions) step
+    → firstNo (questions limits hall state (d sends step numbered m)) ≡ 22
     → ⊥
-not-22 limits hall state d (Take c p) small e = omega (arith, first-no-is-asked (questions limits hall state (d sends Take c p)) 21 e)
-not-22 limits hall state d (Drop c) small e = omega (arith, first-no-is-asked (questions limits hall state (d sends Drop c)) 21 e)
-not-22 limits hall state d (Swap p session) small e =
-    by-answers (inRange d (hall .desks)) (inRange p (hall .positions)) (isNone (deskOf state d .owed))
-    (subst (λ (yes : Bool). cond {A = ℕ} (inRange d (hall .desks)) (cond (inRange p (hall .positions)) (cond yes (cond (isNone (deskOf state d .owed)) 0 12) 22) 8) 6 ≡ 22)
+not-22 limits hall state m d (Take c p) small e = omega (arith, first-no-is-asked (questions limits hall state (d sends Take c p numbered m)) 21 e)
+not-22 limits hall state m d (Drop c) small e = omega (arith, first-no-is-asked (questions limits hall state (d sends Drop c numbered m)) 21 e)
+not-22 limits hall state m d (Swap p session) small e =
+    by-answers (inRange d (hall .desks)) (eqb m (deskOf state d .next)) (inRange p (hall .positions)) (isNone (deskOf state d .owed))
+    (subst (λ (yes : Bool). cond {A = ℕ} (inRange d (hall .desks)) (cond (eqb m (deskOf state d .next)) (cond (inRange p (hall .positions)) (cond yes (cond (isNone (deskOf state d .owed)) 0 12) 22) 8) 23) 6 ≡ 22)
     (le-leb session (limits .sessions) small) e)
   where
-    by-answers : (desk position none : Bool) → cond {A = ℕ} desk (cond position (cond none 0 12) 8) 6 ≡ 22 → ⊥
-    by-answers true true true e = omega (arith, e)
-    by-answers true true false e = omega (arith, e)
-    by-answers true false none e = omega (arith, e)
-    by-answers false position none e = omega (arith, e)
-not-22 limits hall state d Retire small e = omega (arith, first-no-is-asked (questions limits hall state (d sends Retire)) 21 e)
-not-22 limits hall state d Collect small e = omega (arith, first-no-is-asked (questions limits hall state (d sends Collect)) 21 e)
+    by-answers : (desk number position none : Bool) → cond {A = ℕ} desk (cond number (cond position (cond none 0 12) 8) 23) 6 ≡ 22 → ⊥
+    by-answers true true true true e = omega (arith, e)
+    by-answers true true true false e = omega (arith, e)
+    by-answers true true false none e = omega (arith, e)
+    by-answers true false position none e = omega (arith, e)
+    by-answers false number position none e = omega (arith, e)
+not-22 limits hall state m d Retire small e = omega (arith, first-no-is-asked (questions limits hall state (d sends Retire numbered m)) 21 e)
+not-22 limits hall state m d Collect small e = omega (arith, first-no-is-asked (questions limits hall state (d sends Collect numbered m)) 21 e)
 
 step-not-22 : (limits : Limits) (table : List ℕ) (call : Call) → Small (limits .sessions) (call .step) → stepTable limits table call .answer .number ≡ 22 → ⊥
 step-not-22 limits table call small =
     by-step limits (λ result. result .answer .number ≡ 22 → ⊥) table call (λ e. omega (arith, e))
-    (λ n asked e. not-22 limits (hallIn table) (decode (hallIn table) table) (call .desk) (call .step) small (asked ∙ e)) (λ sound asked e. omega (arith, e))
+    (λ n asked e. not-22 limits (hallIn table) (decode (hallIn table) table) (call .message) (call .desk) (call .step) small (asked ∙ e)) (λ sound asked e. omega (arith, e))
 
 run-not-22 : (limits : Limits) (table : List ℕ) (calls : List Call) → EachSmall (limits .sessions) calls → (i : ℕ)
-    → numberAt (run (stepTable limits) table calls) i ≡ 22
+    → numberAt (sentHistory limits table calls) i ≡ 22
     → ⊥
 run-not-22 limits table [] small i e = omega (arith, e)
-run-not-22 limits table (call ∷ calls) small zero e = step-not-22 limits table call (small .0) e
-run-not-22 limits table (call ∷ calls) small (suc i) e = run-not-22 limits (stepTable limits table call .after) calls (small .1) i e
+run-not-22 limits table (call ∷ calls) small zero e = step-not-22 limits table (call numbered nextIn table (call .desk)) (small .0) e
+run-not-22 limits table (call ∷ calls) small (suc i) e = run-not-22 limits (stepTable limits table (call numbered nextIn table (call .desk)) .after) calls (small .1) i e
 
 pub sheet-not-22 : {edition : Edition} → Lawful edition → (sheet : List ℕ) (hall : Hall) (records : Records) → reading edition sheet ≡ opened hall records
     → (table : List ℕ) (i : ℕ)
-    → numberAt (run (stepTable (edition .limits)) table (callsIn records)) i ≡ 22
+    → numberAt (sentHistory (edition .limits) table (callsIn records)) i ≡ 22
     → ⊥
 sheet-not-22 {edition} lawful sheet hall records opens table i =
     run-not-22 (edition .limits) table (callsIn records) (each-small (edition .limits .sessions) records (opened-good lawful sheet hall records opens)) i
