@@ -147,7 +147,7 @@ swap-promise-refuses = (
 -- "Every number in a call is 16 bits wide": 65,535 is, 65,536 is not, in any field of any step, and in any call of a list.
 abbrev widest : List Call
 widest =
-    map (λ (step : Step). (65535 sends step) numbered 65535)
+    map (λ (step : Step). 65535 sends step numbered 65535)
     (Take 65535 65535 ∷ Drop 65535 ∷ Swap 65535 65535 ∷ Retire ∷ Collect ∷ [])
 
 pub widest-calls : Calls16 widest
@@ -156,7 +156,7 @@ widest-calls =
     ((small, small, (small, small)), ((small, small, small), ((small, small, (small, small)), ((small, small, tt), ((small, small, tt), tt)))))
 
 pub too-wide :
-    (Call16 ((1 sends Collect) numbered 65536) → ⊥) × (Call16 (65536 sends Collect) → ⊥) × (Call16 (1 sends Take 65536 1) → ⊥) × (Call16 (1 sends Take 1 65536) → ⊥) × (Call16 (1 sends Drop 65536) → ⊥)
+    (Call16 (1 sends Collect numbered 65536) → ⊥) × (Call16 (65536 sends Collect) → ⊥) × (Call16 (1 sends Take 65536 1) → ⊥) × (Call16 (1 sends Take 1 65536) → ⊥) × (Call16 (1 sends Drop 65536) → ⊥)
     × (Call16 (1 sends Swap 65536 1) → ⊥) × (Call16 (1 sends Swap 1 65536) → ⊥) × (Calls16 (1 sends Collect ∷ 65536 sends Collect ∷ []) → ⊥)
 too-wide = (
   λ call. omega (arith, call .0),
@@ -209,7 +209,7 @@ swap-bytes = refl
 
 -- The repeat of that swap with the next number: every other byte is unchanged. The same message again is refused.
 pub repeat-bytes :
-    (stepBytes hallLimits (oneDesk 0x2C 0x01 1) ((1 sends Swap 1 300) numbered 1) ≡ accept 300 (oneDesk 0x2C 0x01 2))
+    (stepBytes hallLimits (oneDesk 0x2C 0x01 1) (1 sends Swap 1 300 numbered 1) ≡ accept 300 (oneDesk 0x2C 0x01 2))
     × (stepBytes hallLimits (oneDesk 0x2C 0x01 1) (1 sends Swap 1 300) ≡ refuse 23 (oneDesk 0x2C 0x01 1))
 unfolding stepBytes stepTable overwriteWords sound recordSound encodeDesk decodeDesk
 repeat-bytes = (refl, refl)

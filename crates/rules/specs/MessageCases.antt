@@ -1,25 +1,20 @@
--- Message numbers, computed: which numbers are refused, what moves them on, the order of the questions; what the statements about them admit and
--- refuse; and a history long enough for a number to come round. Document 02, "Message numbers".
-use Prim.Native.Nat.{ℕ, zero, suc, _+_, _%_, _≤_, _<_}
+-- Message numbers, computed: which numbers are refused, what moves them on, the order of the questions; and what the statements about them admit
+-- and refuse. No theorem is used here. Document 02, "Message numbers".
+use Prim.Native.Nat.{ℕ, zero, suc, _+_}
 use native.Mathlib.Omega.{arith}
-use mathlib.Core.Path.{_≡_, refl, sym, ap, _∙_, subst}
-use mathlib.Core.Bool.{Bool, cond}
+use mathlib.Core.Path.{_≡_, refl, ap}
 use mathlib.Core.List.{List, [], _∷_, _++_, map}
-use lib.ListN.{drop, getD, length, replicate, take}
-use lib.Dec.{eqb}
-use borrow.Author.Tests.{eq-eqb}
+use lib.ListN.{getD, replicate, take}
 use Rattle.rules.specs.Cases.{Case, Computed, _⇒_, busyTable, delivers, ok, refusedWith}
-use Rattle.rules.specs.Hall.{Hall, fresh, hallLimits, hallOf}
-use Rattle.rules.specs.History.{_by_, effectAt, handsBack, numberAt}
-use Rattle.rules.specs.Messages.{MessageNumbers, Redelivered, acceptedBetween, acceptedOf, answersOf, callAt, nextIn, nextOf, rightlyNumbered, sentHistory, sentTo}
+use Rattle.rules.specs.Hall.{fresh, hallLimits, hallOf}
+use Rattle.rules.specs.Messages.{MessageNumbers, Redelivered, acceptedBetween, acceptedOf, answersOf, callAt, nextIn, nextOf, rightlyNumbered, sentTo}
 use Rattle.rules.specs.Messages.{stepUnnumbered}
-use Rattle.rules.specs.Steps.{Call, Collect, Drop, Event, Result, Retire, Swap, Take, _numbered_, _sends_, accept, advance, end, run, step}
+use Rattle.rules.specs.Steps.{Call, Collect, Drop, Event, Retire, Swap, Take, _numbered_, _sends_, end, run, step}
 use Rattle.rules.specs.Table.{decodeDesk, encodeDesk, openTable, recordSound, sound, stepTable}
-use Rattle.rules.specs.laws.table.TableSteps.{accepted-step}
 
 -- ---- One desk with one screen and one position: the session at the position, what the screen shows, what is owed, the count of waiting and of
 -- ready, the first place of the list, and the next message number.
-abbrev one : ℕ → ℕ → ℕ → ℕ → ℕ → ℕ → ℕ → List ℕ
+abbrev pub one : ℕ → ℕ → ℕ → ℕ → ℕ → ℕ → ℕ → List ℕ
 one held shown owed ready waiting place next =
     (1 ∷ 1 ∷ 1 ∷ held ∷ shown ∷ owed ∷ 0 ∷ ready ∷ 0 ∷ waiting ∷ replicate 8 0) ++ (place ∷ 0 ∷ next ∷ [])
 
@@ -189,72 +184,3 @@ refuses-second-delivery = (
   λ says. omega (arith, ap (λ (words : List ℕ). getD words 5 0) (says 0 .again 0 1 (again-at-1 _ refl) (omega arith) .1)),
   λ says. says .once 0 1 1 5 (again-at-1 _ refl) (omega arith) refl,
 )
-
--- ---- A number that comes round. One desk with nothing on its list sends n collects, each with the right number, and then number 0 again.
-
--- its table, with this next number
-abbrev idle : ℕ → List ℕ
-idle next = one 0 0 0 0 0 0 next
-
-idle-collect : (number : ℕ) → stepTable hallLimits (idle number) (1 sends Collect numbered number) ≡ accept 0 (idle (advance number))
-unfolding sound recordSound encodeDesk decodeDesk
-idle-collect number = accepted-step hallLimits (idle number) (1 sends Collect numbered number) refl (ap asks (eq-eqb number number refl))
-  where
-    asks : Bool → ℕ
-    asks right = cond right 0 23
-
-abbrev collects : ℕ → ℕ → List Call
-collects zero number = []
-collects (suc n) number = (1 sends Collect numbered number) ∷ collects n (advance number)
-
-abbrev collected : ℕ → ℕ → List Event
-collected zero number = []
-collected (suc n) number = (1 sends Collect numbered number ⇒ ok 0) ∷ collected n (advance number)
-
-abbrev later : ℕ → ℕ → ℕ
-later zero number = number
-later (suc n) number = later n (advance number)
-
-idle-run : (n number : ℕ) (calls : List Call)
-    → run (stepTable hallLimits) (idle number) (collects n number ++ calls) ≡ collected n number ++ run (stepTable hallLimits) (idle (later n number)) calls
-idle-run zero number calls = refl
-idle-run (suc n) number calls =
-    ap (λ (result : Result (List ℕ)). (1 sends Collect numbered number ⇒ result .answer) ∷ run (stepTable hallLimits) (result .after) (collects n (advance number) ++ calls)) (idle-collect number)
-    ∙ ap {B = List Event} (λ events. (1 sends Collect numbered number ⇒ ok 0) ∷ events) (idle-run n (advance number) calls)
-
--- the history in which the message with number 0, accepted at index 0, is delivered again at index n + 1
-abbrev pub longCalls : ℕ → List Call
-longCalls n = collects (suc n) 0 ++ (1 sends Collect ∷ [])
-
-abbrev pub long : ℕ → List Event
-long n = run (stepTable hallLimits) (openTable hallLimits (hallOf 1 1 1) (replicate 21 9) .after) (longCalls n)
-
-abbrev lastEvent : ℕ → Event
-lastEvent n = 1 sends Collect ⇒ stepTable hallLimits (idle (later (suc n) 0)) (1 sends Collect) .answer
-
-long-is : (n : ℕ) → long n ≡ collected (suc n) 0 ++ (lastEvent n ∷ [])
-unfolding openTable
-long-is n = idle-run (suc n) 0 (1 sends Collect ∷ [])
-
-at-end : (n number : ℕ) (event : Event) → (callAt (collected n number ++ (event ∷ [])) n ≡ event .call) × (length (collected n number ++ (event ∷ [])) ≡ suc n)
-at-end zero number event = (refl, refl)
-at-end (suc n) number event = (at-end n (advance number) event .0, ap suc (at-end n (advance number) event .1))
-
-before-end : (n number : ℕ) (event : Event) → acceptedOf 1 (take n (collected n number ++ (event ∷ []))) ≡ n
-before-end zero number event = refl
-before-end (suc n) number event = omega (arith, before-end n (advance number) event)
-
-pub delivered-again : (n : ℕ) → Redelivered (long n) 0 (suc n) × (acceptedBetween (long n) 0 (suc n) ≡ n)
-delivered-again n =
-    subst (λ (history : List Event). Redelivered history 0 (suc n) × (acceptedBetween history 0 (suc n) ≡ n)) (sym (long-is n))
-    (let last = at-end n (advance 0) (lastEvent n) in
-    (
-      record {
-        later = omega arith;
-        within = omega (arith, last .1);
-        accepted = refl;
-        desk = ap (λ (call : Call). call .desk) (last .0);
-        message = ap (λ (call : Call). call .message) (last .0);
-      },
-      before-end n (advance 0) (lastEvent n),
-    ))

@@ -68,7 +68,10 @@ nextOf state d = deskOf state d .next
 abbrev pub nextIn : List ℕ → ℕ → ℕ
 nextIn table d = let hall = hallIn table in cond (inHall hall && inRange d (hall .desks)) (getD table (nextWord hall d) 0) 0
 
--- Calls on a table with the right numbers, and their history.
+-- A call that is sent to a table with the right number; calls with the numbers that they are so sent with, one after another; and their history.
+abbrev pub send : Limits → List ℕ → Call → Result (List ℕ)
+send limits table call = stepTable limits table (call numbered nextIn table (call .desk))
+
 abbrev pub sentTo : Limits → List ℕ → List Call → List Call
 sentTo limits = rightlyNumbered nextIn (stepTable limits)
 

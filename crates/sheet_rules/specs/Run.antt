@@ -5,9 +5,8 @@ use mathlib.Core.List.{List, [], _∷_}
 use mathlib.Core.Option.{Option, none, some}
 use lib.Dec.{eqb}
 use Rattle.rules.specs.Hall.{Limits}
-use Rattle.rules.specs.Messages.{nextIn}
-use Rattle.rules.specs.Steps.{Call, Collect, Drop, Result, Retire, Step, Swap, Take, _numbered_, _sends_, refuse}
-use Rattle.rules.specs.Table.{stepTable}
+use Rattle.rules.specs.Messages.{send}
+use Rattle.rules.specs.Steps.{Call, Collect, Drop, Result, Retire, Step, Swap, Take, _sends_, refuse}
 use Rattle.sheet_rules.specs.Sheet.{Record, Records, complete, more, stop}
 
 -- "step code (take 1, drop 2, swap 3, retire 4, collect 5)"
@@ -31,7 +30,7 @@ callOf entry =
 -- "The sheet program fills in the right number itself" (document 02, Job 6).
 abbrev pub runCall : Limits → List ℕ → Option Call → Result (List ℕ)
 runCall limits table none = refuse 17 table
-runCall limits table (some call) = stepTable limits table (call numbered nextIn table (call .desk))
+runCall limits table (some call) = send limits table call
 
 -- What a record does to a table.
 abbrev pub runRecord : Limits → List ℕ → Record → Result (List ℕ)

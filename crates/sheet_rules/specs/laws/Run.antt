@@ -8,9 +8,9 @@ use mathlib.Core.Option.{none, some}
 use lib.Dec.{eqb}
 use borrow.Author.Tests.{le-leb, ne-eqb}
 use Rattle.rules.specs.Hall.{Hall, Limits}
-use Rattle.rules.specs.Messages.{nextIn, sentHistory}
-use Rattle.rules.specs.Steps.{Call, Event, Result, _numbered_, accept}
-use Rattle.rules.specs.Table.{openTable, openedTable, stepTable}
+use Rattle.rules.specs.Messages.{send, sentHistory}
+use Rattle.rules.specs.Steps.{Call, Event, Result, accept}
+use Rattle.rules.specs.Table.{openTable, openedTable}
 use Rattle.rules.specs.laws.history.StepEffects.{in-range}
 use Rattle.rules.specs.laws.table.TableSteps.{accepted-open}
 use Rattle.sheet_rules.specs.Lawful.{Lawful}
@@ -69,12 +69,12 @@ runLines limits table index total records calls =
 
 -- one call more
 lines-of-call : (limits : Limits) (table : List ℕ) (index code : ℕ) (total : Tally) (entry : Record) (rest : Records) (call : Call) → codeOf (call .step) ≡ code →
-    let done : Result (List ℕ) = stepTable limits table (call numbered nextIn table (call .desk)) in
+    let done : Result (List ℕ) = send limits table call in
     let next : Tally = addStep total code (done .answer) in
     linesFrom limits (done .after) (suc index) next rest ≡ runLines limits (done .after) (suc index) next rest (callsIn rest)
     → answerLine index code (done .answer) ++ linesFrom limits (done .after) (suc index) next rest ≡ runLines limits table index total (more entry rest) (call ∷ callsIn rest)
 lines-of-call limits table index code total entry rest call same later =
-    let done : Result (List ℕ) = stepTable limits table (call numbered nextIn table (call .desk)) in
+    let done : Result (List ℕ) = send limits table call in
     let events : List Event = sentHistory limits (done .after) (callsIn rest) in
     ap (λ (lines : List ℕ). answerLine index code (done .answer) ++ lines) later
     ∙ ap (λ (n : ℕ). answerLine index n (done .answer) ++ (eventLines (suc index) events ++ (endingLine (suc index) rest ++ endLine (addSteps (addStep total n (done .answer)) events)))) (sym same)
@@ -86,7 +86,7 @@ lines-from limits table index total complete good = refl
 lines-from limits table index total (stop reason) good = refl
 lines-from limits table index total (more entry rest) good =
     let asks : Asks entry = record-asks entry (good .0 .code) in
-    let next : Result (List ℕ) = stepTable limits table (asks .call numbered nextIn table (asks .call .desk)) in
+    let next : Result (List ℕ) = send limits table (asks .call) in
     simp (asks .asked)
     (lines-of-call limits table index (entry .code) total entry rest (asks .call) (asks .sameCode)
     (lines-from limits (next .after) (suc index) (addStep total (entry .code) (next .answer)) rest (good .1)))

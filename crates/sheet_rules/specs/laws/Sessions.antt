@@ -8,7 +8,7 @@ use lib.Dec.{eqb}
 use borrow.Author.Tests.{le-leb}
 use Rattle.rules.specs.Hall.{Hall, Limits, State, deskOf}
 use Rattle.rules.specs.History.{numberAt}
-use Rattle.rules.specs.Messages.{nextIn, sentHistory}
+use Rattle.rules.specs.Messages.{nextIn, send, sentHistory}
 use Rattle.rules.specs.Steps.{Call, Collect, Drop, Retire, Step, Swap, Take, _numbered_, _sends_, firstNo, inRange, isNone, questions}
 use Rattle.rules.specs.Table.{decode, hallIn, stepTable}
 use Rattle.rules.specs.laws.history.StepEffects.{in-range}
@@ -80,7 +80,7 @@ run-not-22 : (limits : Limits) (table : List ℕ) (calls : List Call) → EachSm
     → ⊥
 run-not-22 limits table [] small i e = omega (arith, e)
 run-not-22 limits table (call ∷ calls) small zero e = step-not-22 limits table (call numbered nextIn table (call .desk)) (small .0) e
-run-not-22 limits table (call ∷ calls) small (suc i) e = run-not-22 limits (stepTable limits table (call numbered nextIn table (call .desk)) .after) calls (small .1) i e
+run-not-22 limits table (call ∷ calls) small (suc i) e = run-not-22 limits (send limits table call .after) calls (small .1) i e
 
 pub sheet-not-22 : {edition : Edition} → Lawful edition → (sheet : List ℕ) (hall : Hall) (records : Records) → reading edition sheet ≡ opened hall records
     → (table : List ℕ) (i : ℕ)

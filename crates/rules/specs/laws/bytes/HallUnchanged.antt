@@ -60,7 +60,7 @@ sound-before table =
 
 -- ---- The questions.
 asked-before : (hall : Hall) (state : State) (m d : ℕ) (step : Step) → Step16 step
-    → firstNo (questions hallLimits hall state ((d sends step) numbered m)) ≡ firstNo (without 22 (questions hallLimits hall state ((d sends step) numbered m)))
+    → firstNo (questions hallLimits hall state (d sends step numbered m)) ≡ firstNo (without 22 (questions hallLimits hall state (d sends step numbered m)))
 asked-before hall state m d (Take c p) wide = refl
 asked-before hall state m d (Drop c) wide = refl
 asked-before hall state m d (Swap p session) wide =

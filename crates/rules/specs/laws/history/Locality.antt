@@ -62,11 +62,11 @@ module _ (limits : Limits) (H : Hall) (st : State) where
   pub others-stay : (call : Call) → OthersStay H call st (step limits H st call .after)
   others-stay call = moved (firstNo (questions limits H st call)) refl (by-number (firstNo (questions limits H st call)) (call .message) (call .desk) (call .step) refl)
     where
-      unchanged : (m d : ℕ) (s : Step) → OthersStay H ((d sends s) numbered m) st st
+      unchanged : (m d : ℕ) (s : Step) → OthersStay H (d sends s numbered m) st st
       unchanged m d s = record { desks = λ x other. refl; screens = λ x y free. refl; positions = λ q free. refl }
 
-      by-number : (n m d : ℕ) (s : Step) → firstNo (questions limits H st ((d sends s) numbered m)) ≡ n
-          → OthersStay H ((d sends s) numbered m) st (unmoved limits H st n d s .after)
+      by-number : (n m d : ℕ) (s : Step) → firstNo (questions limits H st (d sends s numbered m)) ≡ n
+          → OthersStay H (d sends s numbered m) st (unmoved limits H st n d s .after)
       by-number zero m d (Take c p) e =
           let asked = take-asked limits H st m d c p e in
           record {
@@ -83,15 +83,15 @@ module _ (limits : Limits) (H : Hall) (st : State) where
           }
       by-number zero m d (Swap p v) e =
           let asked = swap-asked limits H st m d p v e in
-          cond-both (OthersStay H ((d sends Swap p v) numbered m) st) (isRepeat (getD (st .held) (p - 1) 0) v) (unchanged m d (Swap p v)) (record {
+          cond-both (OthersStay H (d sends Swap p v numbered m) st) (isRepeat (getD (st .held) (p - 1) 0) v) (unchanged m d (Swap p v)) (record {
             desks = other-desk-stays H st (set (st .held) (p - 1) v) d _ (asked .desk);
             screens = λ x y free. refl;
             positions = λ q free. other-position-stays p v (asked .position) q (λ same. eqb-false p q free (sym same));
           })
       by-number zero m d Retire e =
-          record { desks = other-desk-stays H st (st .held) d _ (desk-asked limits H st ((d sends Retire) numbered m) e); screens = λ x y free. refl; positions = λ q free. refl }
+          record { desks = other-desk-stays H st (st .held) d _ (desk-asked limits H st (d sends Retire numbered m) e); screens = λ x y free. refl; positions = λ q free. refl }
       by-number zero m d Collect e =
-          record { desks = other-desk-stays H st (st .held) d _ (desk-asked limits H st ((d sends Collect) numbered m) e); screens = λ x y free. refl; positions = λ q free. refl }
+          record { desks = other-desk-stays H st (st .held) d _ (desk-asked limits H st (d sends Collect numbered m) e); screens = λ x y free. refl; positions = λ q free. refl }
       by-number (suc n) m d s e = unchanged m d s
 
       -- the message number is in the desk's own record
@@ -134,8 +134,8 @@ module _ (limits : Limits) (H : Hall) (A B : State) where
   same-number : (m : ℕ) {D E : Desk} {x y : ℕ} → D ≡ E → x ≡ y → cond (eqb m (D .next)) x 23 ≡ cond (eqb m (E .next)) y 23
   same-number m desks later = λ i. cond (eqb m (desks i .next)) (later i) 23
 
-  asked-alike : (m d : ℕ) (s : Step) → SameView H A B ((d sends s) numbered m)
-      → firstNo (questions limits H A ((d sends s) numbered m)) ≡ firstNo (questions limits H B ((d sends s) numbered m))
+  asked-alike : (m d : ℕ) (s : Step) → SameView H A B (d sends s numbered m)
+      → firstNo (questions limits H A (d sends s numbered m)) ≡ firstNo (questions limits H B (d sends s numbered m))
   asked-alike m d (Take c p) view =
       cond-cong (inRange d (H .desks)) _ _ 6 (λ hd.
       same-number m (same-desk d (view .desk) hd)
@@ -190,7 +190,7 @@ module _ (limits : Limits) (H : Hall) (A B : State) where
         accepted e = λ i. record { number = 0; session = e i }
 
         -- a collect of the same desk that reads the same screens
-        collect-alike : (m d : ℕ) → inRange d (H .desks) ≡ true → SameView H A B ((d sends Collect) numbered m)
+        collect-alike : (m d : ℕ) → inRange d (H .desks) ≡ true → SameView H A B (d sends Collect numbered m)
             → collect (allScreens H) (A .shown) (deskOf A d) ≡ collect (allScreens H) (B .shown) (deskOf B d)
         collect-alike m d hd view =
             let same = same-desk d (view .desk) hd in
@@ -202,11 +202,11 @@ module _ (limits : Limits) (H : Hall) (A B : State) where
             ∙ ap (collect (allScreens H) (B .shown)) same
 
         -- a swap that both states find to be a repeat, or both find to be a change
-        swap-alike : (m d p v : ℕ) → SameView H A B ((d sends Swap p v) numbered m) → SwapAsked H A d p
+        swap-alike : (m d p v : ℕ) → SameView H A B (d sends Swap p v numbered m) → SwapAsked H A d p
             → let left = getD (A .held) (p - 1) 0 in
             let right = getD (B .held) (p - 1) 0 in
             left ≡ right → (b : Bool)
-            → StepsAlike H ((d sends Swap p v) numbered m) (accept left (cond b A (changePosition A d p v))) (accept right (cond b B (changePosition B d p v)))
+            → StepsAlike H (d sends Swap p v numbered m) (accept left (cond b A (changePosition A d p v))) (accept right (cond b B (changePosition B d p v)))
         swap-alike m d p v view asked old true = record { answer = accepted old; desk = view .desk; named = view .named }
         swap-alike m d p v view asked old false =
             let same = same-desk d (view .desk) (range-holds d (H .desks) (asked .desk)) in
@@ -216,8 +216,8 @@ module _ (limits : Limits) (H : Hall) (A B : State) where
               named = λ i. position-stored p v (asked .position) i ∷ [];
             }
 
-        by-number : (n m d : ℕ) (s : Step) → SameView H A B ((d sends s) numbered m) → firstNo (questions limits H A ((d sends s) numbered m)) ≡ n
-            → StepsAlike H ((d sends s) numbered m) (unmoved limits H A n d s) (unmoved limits H B n d s)
+        by-number : (n m d : ℕ) (s : Step) → SameView H A B (d sends s numbered m) → firstNo (questions limits H A (d sends s numbered m)) ≡ n
+            → StepsAlike H (d sends s numbered m) (unmoved limits H A n d s) (unmoved limits H B n d s)
         by-number zero m d (Take c p) view e =
             let asked = take-asked limits H A m d c p e in
             let session = same-position p (second-same (view .named)) (range-holds p (H .positions) (asked .position)) in
@@ -238,11 +238,11 @@ module _ (limits : Limits) (H : Hall) (A B : State) where
             let old = same-position p (first-same (view .named)) (range-holds p (H .positions) (asked .position)) in
             rw (ap (λ (session : ℕ). isRepeat session v) old) (swap-alike m d p v view asked old (isRepeat (getD (B .held) (p - 1) 0) v))
         by-number zero m d Retire view e =
-            let hd = desk-asked limits H A ((d sends Retire) numbered m) e in
+            let hd = desk-asked limits H A (d sends Retire numbered m) e in
             let same = same-desk d (view .desk) (range-holds d (H .desks) hd) in
             record { answer = accepted (ap (λ (D : Desk). D .owed) same); desk = desk-stored d _ _ (A .held) (B .held) hd (ap retire same); named = refl }
         by-number zero m d Collect view e =
-            let hd = desk-asked limits H A ((d sends Collect) numbered m) e in
+            let hd = desk-asked limits H A (d sends Collect numbered m) e in
             let same = collect-alike m d (range-holds d (H .desks) hd) view in
             record {
               answer = accepted (ap (λ (collected : Collected). collected .session) same);

@@ -80,8 +80,8 @@ module _ (s : ℕ) (hs : s ≡ 0 → ⊥) where
     refused-retire-counted false = refl
 
     -- what was there and what was put is what is there and what was handed back
-    references-balance : (st : State) → Formed H st → ((d : ℕ) → 1 ≤ d → Orderly (allScreens H) (deskOf st d)) → (n m d : ℕ) (w : Step) → firstNo (questions limits H st ((d sends w) numbered m)) ≡ n
-        → let outcome = perform H st ((d sends w) numbered m) in
+    references-balance : (st : State) → Formed H st → ((d : ℕ) → 1 ≤ d → Orderly (allScreens H) (deskOf st d)) → (n m d : ℕ) (w : Step) → firstNo (questions limits H st (d sends w numbered m)) ≡ n
+        → let outcome = perform H st (d sends w numbered m) in
         let r = decide n st (outcome .session) (outcome .after) in
         references s (r .after) + toNat (isHandBackOf s (actionOf w (r .answer .number) (r .answer .session))) ≡ references s st + indicator s (stepPuts w (r .answer .number) (r .answer .session))
     references-balance st formed ok zero m d (Take c p) e = omega (arith, indicator-other s 0 hs, references-renumbered (advance (deskOf st d .next)) (st .desks) (d - 1))
@@ -111,7 +111,7 @@ module _ (s : ℕ) (hs : s ≡ 0 → ⊥) where
           indicator-other s 0 hs,
         )
     references-balance st formed ok zero m d Collect e =
-        let r = desk-asked limits H st ((d sends Collect) numbered m) e in
+        let r = desk-asked limits H st (d sends Collect numbered m) e in
         let after = collect (allScreens H) (st .shown) (deskOf st d) .after in
         let session = collect (allScreens H) (st .shown) (deskOf st d) .session in
         omega (

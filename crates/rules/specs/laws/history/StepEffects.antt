@@ -99,9 +99,9 @@ module _ (limits : Limits) (H : Hall) (st : State) where
       eqb-true (call .message) (deskOf st (call .desk) .next)
       (holds (eqb (call .message) (deskOf st (call .desk) .next)) _ 22 (holds (inRange (call .desk) (H .desks)) _ 5 e .1) .0)
 
-  pub take-asked : (m d c p : ℕ) → firstNo (questions limits H st ((d sends Take c p) numbered m)) ≡ 0 → TakeAsked H st d c p
+  pub take-asked : (m d c p : ℕ) → firstNo (questions limits H st (d sends Take c p numbered m)) ≡ 0 → TakeAsked H st d c p
   take-asked m d c p e =
-      let y = all-yes (questions limits H st ((d sends Take c p) numbered m)) refl e in
+      let y = all-yes (questions limits H st (d sends Take c p numbered m)) refl e in
       record {
         desk = in-range d (H .desks) (y 0);
         screen = in-range c (H .screens) (y 2);
@@ -110,19 +110,19 @@ module _ (limits : Limits) (H : Hall) (st : State) where
         some = eqb-false _ 0 (not-true _ (y 5));
       }
 
-  pub drop-asked : (m d c : ℕ) → firstNo (questions limits H st ((d sends Drop c) numbered m)) ≡ 0 → DropAsked H d c
+  pub drop-asked : (m d c : ℕ) → firstNo (questions limits H st (d sends Drop c numbered m)) ≡ 0 → DropAsked H d c
   drop-asked m d c e =
-      let y = all-yes (questions limits H st ((d sends Drop c) numbered m)) refl e in
+      let y = all-yes (questions limits H st (d sends Drop c numbered m)) refl e in
       record { desk = in-range d (H .desks) (y 0); screen = in-range c (H .screens) (y 2) }
 
-  pub swap-asked : (m d p v : ℕ) → firstNo (questions limits H st ((d sends Swap p v) numbered m)) ≡ 0 → SwapAsked H st d p
+  pub swap-asked : (m d p v : ℕ) → firstNo (questions limits H st (d sends Swap p v numbered m)) ≡ 0 → SwapAsked H st d p
   swap-asked m d p v e =
-      let y = all-yes (questions limits H st ((d sends Swap p v) numbered m)) refl e in
+      let y = all-yes (questions limits H st (d sends Swap p v numbered m)) refl e in
       record { desk = in-range d (H .desks) (y 0); position = in-range p (H .positions) (y 2); owesNothing = eqb-true _ 0 (y 4) }
 
-  pub retire-asked : (m d : ℕ) → firstNo (questions limits H st ((d sends Retire) numbered m)) ≡ 0 → RetireAsked H st d
+  pub retire-asked : (m d : ℕ) → firstNo (questions limits H st (d sends Retire numbered m)) ≡ 0 → RetireAsked H st d
   retire-asked m d e =
-      let y = all-yes (questions limits H st ((d sends Retire) numbered m)) refl e in
+      let y = all-yes (questions limits H st (d sends Retire numbered m)) refl e in
       record { desk = in-range d (H .desks) (y 0); owes = eqb-false _ 0 (not-true _ (y 2)); room = ltb-true _ _ (y 3) }
 
 -- ---- What becomes of a desk D, by its own action.
@@ -267,7 +267,7 @@ module _ (limits : Limits) (H : Hall) (st : State) where
       swapped d p v true t = refl
       swapped d p v false t = record { desk = t .desk; position = t .position .0; owesNothing = t .owesNothing; session = v; state = refl }
 
-      full : (m d n : ℕ) (b : Bool) → eqb n 14 ≡ b → firstNo (questions limits H st ((d sends Retire) numbered m)) ≡ n → StateChange H st d (cond b outOfRoom noAction) st
+      full : (m d n : ℕ) (b : Bool) → eqb n 14 ≡ b → firstNo (questions limits H st (d sends Retire numbered m)) ≡ n → StateChange H st d (cond b outOfRoom noAction) st
       full m d n true q e =
           let y =
           retire-refused-full (inRange d (H .desks)) (eqb m (deskOf st d .next)) (not (eqb (deskOf st d .owed) 0)) (ltb (usedSlots (deskOf st d)) (2 * allScreens H))
@@ -280,7 +280,7 @@ module _ (limits : Limits) (H : Hall) (st : State) where
           }
       full m d n false q e = refl
 
-      by-number : (n m d : ℕ) (s : Step) → firstNo (questions limits H st ((d sends s) numbered m)) ≡ n
+      by-number : (n m d : ℕ) (s : Step) → firstNo (questions limits H st (d sends s numbered m)) ≡ n
           → let r = unmoved n d s in
           StateChange H st d (actionOf s (r .answer .number) (r .answer .session)) (r .after)
       by-number zero m d (Take c p) e =
@@ -298,7 +298,7 @@ module _ (limits : Limits) (H : Hall) (st : State) where
           }
       by-number zero m d Collect e =
           let session = collect (allScreens H) (st .shown) (deskOf st d) .session in
-          collected d session (eqb session 0) refl (desk-asked limits H st ((d sends Collect) numbered m) e) refl
+          collected d session (eqb session 0) refl (desk-asked limits H st (d sends Collect numbered m) e) refl
       by-number (suc n) m d (Take c p) e = refl
       by-number (suc n) m d (Drop c) e = refl
       by-number (suc n) m d (Swap p v) e = refl

@@ -155,7 +155,7 @@ module _ (limits : Limits) (t : List ℕ) (small : Words16 t) (s : sound limits 
         (λ j l e. h j l e ∙ word-inside j l ∙ ap (λ (n : ℕ). getD t n 0) e) (λ _. refl)
 
   -- a swap writes the owed word only where the old session is not 0; a repeat writes nothing
-  swap-keeps : (m d p new : ℕ) → asked limits t ((d sends Swap p new) numbered m) ≡ 0 → (i : ℕ) → stepFootprint t d (Swap p new) i ≡ false
+  swap-keeps : (m d p new : ℕ) → asked limits t (d sends Swap p new numbered m) ≡ 0 → (i : ℕ) → stepFootprint t d (Swap p new) i ≡ false
       → getD (tableAfterStep t d (Swap p new)) i 0 ≡ getD t i 0
   swap-keeps m d p new e i q = by-repeat (isRepeat (getD t (positionWord p) 0) new) q
     where
@@ -188,7 +188,7 @@ module _ (limits : Limits) (t : List ℕ) (small : Words16 t) (s : sound limits 
           let parts = or-no (eqb i (positionWord p)) (eqb i (recordStart (hallIn t) d) && isSession (getD t (positionWord p) 0)) q in
           by-word (parts .0) (eqb i (recordStart (hallIn t) d)) refl (parts .1)
 
-  retire-keeps-words : (m d : ℕ) → asked limits t ((d sends Retire) numbered m) ≡ 0 → (i : ℕ) → stepFootprint t d Retire i ≡ false
+  retire-keeps-words : (m d : ℕ) → asked limits t (d sends Retire numbered m) ≡ 0 → (i : ℕ) → stepFootprint t d Retire i ≡ false
       → getD (tableAfterStep t d Retire) i 0 ≡ getD t i 0
   retire-keeps-words m d e i q =
       let asks = retire-asked limits (hallIn t) (decode (hallIn t) t) m d e in
@@ -206,7 +206,7 @@ module _ (limits : Limits) (t : List ℕ) (small : Words16 t) (s : sound limits 
       record-kept d r (retire (deskAt d)) (retire-sound (allScreens (hallIn t)) (deskAt d) owes room (desk-is-sound d r)) i
       (λ j l a. retire-keeps (allScreens (hallIn t)) (deskAt d) j room (λ z. x0 (omega arith)) (λ z. x4 (omega arith)) (λ z. xl (omega arith)))
 
-  collect-keeps-words : (m d : ℕ) → asked limits t ((d sends Collect) numbered m) ≡ 0 → (i : ℕ) → stepFootprint t d Collect i ≡ false
+  collect-keeps-words : (m d : ℕ) → asked limits t (d sends Collect numbered m) ≡ 0 → (i : ℕ) → stepFootprint t d Collect i ≡ false
       → getD (tableAfterStep t d Collect) i 0 ≡ getD t i 0
   collect-keeps-words m d e i q = record-kept d r after after-sound i (λ j l a. by-word j a (decLt 0 j) (decLt j (tailOffset S)))
     where
@@ -220,12 +220,12 @@ module _ (limits : Limits) (t : List ℕ) (small : Words16 t) (s : sound limits 
       after = collect (allScreens (hallIn t)) (decode (hallIn t) t .shown) (deskAt d) .after
 
       r : IsDesk (hallIn t) d
-      r = desk-asked limits (hallIn t) (decode (hallIn t) t) ((d sends Collect) numbered m) e
+      r = desk-asked limits (hallIn t) (decode (hallIn t) t) (d sends Collect numbered m) e
 
       after-sound : Sound (allScreens (hallIn t)) (collect (allScreens (hallIn t)) (decode (hallIn t) t .shown) (deskAt d) .after)
       after-sound =
           collect-sound (allScreens (hallIn t)) (decode (hallIn t) t .shown) (deskAt d) (some-screens (hallIn t) (k .fits)) (v .formed .screens)
-          (desk-is-sound d (desk-asked limits (hallIn t) (decode (hallIn t) t) ((d sends Collect) numbered m) e))
+          (desk-is-sound d (desk-asked limits (hallIn t) (decode (hallIn t) t) (d sends Collect numbered m) e))
 
       -- of the record only its first word, the owed session, and its tail are not named, and a collect keeps them
       by-word : (j : ℕ) → recordStart (hallIn t) d + j ≡ i → Dec (0 < j) → Dec (j < tailOffset (allScreens (hallIn t)))
@@ -237,7 +237,7 @@ module _ (limits : Limits) (t : List ℕ) (small : Words16 t) (s : sound limits 
           (owed-first (allScreens (hallIn t)) _ ∙ owed-collect (allScreens (hallIn t)) (decode (hallIn t) t .shown) (deskAt d)
           ∙ sym (owed-first (allScreens (hallIn t)) (deskAt d)))
       by-word j a (yes z) (no inside) =
-          let there = desk-is-sound d (desk-asked limits (hallIn t) (decode (hallIn t) t) ((d sends Collect) numbered m) e) in
+          let there = desk-is-sound d (desk-asked limits (hallIn t) (decode (hallIn t) t) (d sends Collect numbered m) e) in
           tail-word (allScreens (hallIn t)) _ (after-sound .total) j (omega arith)
           ∙ ap (λ (l : List ℕ). getD l (j - tailOffset (allScreens (hallIn t))) 0) (tail-collect (allScreens (hallIn t)) (decode (hallIn t) t .shown) (deskAt d))
           ∙ sym (tail-word (allScreens (hallIn t)) (deskAt d) (there .total) j (omega arith))
@@ -251,7 +251,7 @@ module _ (limits : Limits) (t : List ℕ) (small : Words16 t) (s : sound limits 
       getD-set-other (tableAfterStep t (c .desk) (c .step)) number i (advance (getD t number 0)) 0 (λ same. eqb-false i number (parts .1) same)
       ∙ by-step (c .message) (c .desk) (c .step) e i (parts .0)
     where
-      by-step : (m d : ℕ) (s : Step) → asked limits t ((d sends s) numbered m) ≡ 0 → (i : ℕ) → stepFootprint t d s i ≡ false → getD (tableAfterStep t d s) i 0 ≡ getD t i 0
+      by-step : (m d : ℕ) (s : Step) → asked limits t (d sends s numbered m) ≡ 0 → (i : ℕ) → stepFootprint t d s i ≡ false → getD (tableAfterStep t d s) i 0 ≡ getD t i 0
       by-step m d (Take c p) e i q =
           getD-set-other t (screenWord (hallIn t) d c) i (getD t (positionWord p) 0) 0 (λ z. eqb-false i (screenWord (hallIn t) d c) q z)
       by-step m d (Drop c) e i q = getD-set-other t (screenWord (hallIn t) d c) i 0 0 (λ z. eqb-false i (screenWord (hallIn t) d c) q z)
@@ -290,12 +290,12 @@ step-stays-sound limits t small c =
 not-five : (limits : Limits) (H : Hall) (st : State) (c : Call) → firstNo (questions limits H st c) ≡ 5 → ⊥
 not-five limits H st c e = by-step (c .step) e
   where
-    by-step : (s : Step) → firstNo (questions limits H st ((c .desk sends s) numbered c .message)) ≡ 5 → ⊥
-    by-step (Take x p) e = omega (arith, first-no-is-asked (questions limits H st ((c .desk sends Take x p) numbered c .message)) 4 e)
-    by-step (Drop x) e = omega (arith, first-no-is-asked (questions limits H st ((c .desk sends Drop x) numbered c .message)) 4 e)
-    by-step (Swap p new) e = omega (arith, first-no-is-asked (questions limits H st ((c .desk sends Swap p new) numbered c .message)) 4 e)
-    by-step Retire e = omega (arith, first-no-is-asked (questions limits H st ((c .desk sends Retire) numbered c .message)) 4 e)
-    by-step Collect e = omega (arith, first-no-is-asked (questions limits H st ((c .desk sends Collect) numbered c .message)) 4 e)
+    by-step : (s : Step) → firstNo (questions limits H st (c .desk sends s numbered c .message)) ≡ 5 → ⊥
+    by-step (Take x p) e = omega (arith, first-no-is-asked (questions limits H st (c .desk sends Take x p numbered c .message)) 4 e)
+    by-step (Drop x) e = omega (arith, first-no-is-asked (questions limits H st (c .desk sends Drop x numbered c .message)) 4 e)
+    by-step (Swap p new) e = omega (arith, first-no-is-asked (questions limits H st (c .desk sends Swap p new numbered c .message)) 4 e)
+    by-step Retire e = omega (arith, first-no-is-asked (questions limits H st (c .desk sends Retire numbered c .message)) 4 e)
+    by-step Collect e = omega (arith, first-no-is-asked (questions limits H st (c .desk sends Collect numbered c .message)) 4 e)
 
 never-five-step : (limits : Limits) (t : List ℕ) (c : Call) → sound limits t ≡ true → stepTable limits t c .answer .number ≡ 5 → ⊥
 never-five-step limits t c s e = by-number (asked limits t c) refl

@@ -22,7 +22,7 @@ use Rattle.rules.specs.laws.desk.Sound.{Sound, collect-sound, encoded-so
 use Rattle.rules.specs.laws.history.InitialState.{fresh-formed}
 use Rattle.rules.specs.laws.history.ScreenIndex.{screen-in}
 use Rattle.rules.specs.laws.history.StepEffects.{IsDesk, SwapAsked, action-change, actionIn, desk-asked, drop-asked, formed-action, formed-numbered, holds, in-range, retire-asked}
-use Rattle.rules.specs.laws.history.StepEffects.{state-change, swap-asked, take-asked, unmoved}
+use Rattle.rules.specs.laws.history.StepEffects.{swap-asked, take-asked, unmoved}
 use Rattle.rules.specs.laws.lists.Bools.{and-left, and-right, and-true, cond-both}
 use Rattle.rules.specs.laws.lists.ListSlices.{get-mid, put-mid, set-mid, take-mid}
 
@@ -91,7 +91,7 @@ module _ (H : Hall) (fits : Fits H) where
       stored : (d : ℕ) (new : Desk) → Sound (allScreens H) new → All (Sound (allScreens H)) (set (st .desks) (d - 1) new)
       stored d new ok = all-set (Sound (allScreens H)) (st .desks) (d - 1) new ok (v .desks)
 
-      desks-sound : (n m d : ℕ) (s : Step) → firstNo (questions limits H st ((d sends s) numbered m)) ≡ n → All (Sound (allScreens H)) (unmoved limits H st n d s .after .desks)
+      desks-sound : (n m d : ℕ) (s : Step) → firstNo (questions limits H st (d sends s numbered m)) ≡ n → All (Sound (allScreens H)) (unmoved limits H st n d s .after .desks)
       desks-sound zero m d (Take c p) e = v .desks
       desks-sound zero m d (Drop c) e = v .desks
       desks-sound zero m d (Swap p w) e =
@@ -370,7 +370,7 @@ module _ (H : Hall) (fits : Fits H) where
             ∙ sym
             (as-record h (st .shown) (k .front) (encodeDesk (allScreens H) (owe (deskOf st d) o)) (k .back) (concat (map (encodeDesk (allScreens H)) (set (st .desks) (d - 1) (owe (deskOf st d) o)))) (k .put (owe (deskOf st d) o)))
 
-        by-step : (m d : ℕ) (s : Step) → firstNo (questions limits H st ((d sends s) numbered m)) ≡ 0
+        by-step : (m d : ℕ) (s : Step) → firstNo (questions limits H st (d sends s numbered m)) ≡ 0
             → tableAfterStep (encode H st ++ rest) d s ≡ encode H (performStep H st d s .after) ++ rest
         by-step m d (Take c p) e =
             let asked = take-asked limits H st m d c p e in
@@ -385,7 +385,7 @@ module _ (H : Hall) (fits : Fits H) where
             ap (λ (D : Desk). putRecord H (encode H st ++ rest) d (encodeDesk (allScreens H) (retire D))) (record-decoded d k)
             ∙ put-record-is d (retire (deskOf st d)) k
         by-step m d Collect e =
-            let k = at-desk d (desk-asked limits H st ((d sends Collect) numbered m) e) in
+            let k = at-desk d (desk-asked limits H st (d sends Collect numbered m) e) in
             (λ i. putRecord H (encode H st ++ rest) d (encodeDesk (allScreens H) (collect (allScreens H) (decode-encode i .shown) (record-decoded d k i) .after)))
             ∙ put-record-is d (collect (allScreens H) (st .shown) (deskOf st d) .after) k
 

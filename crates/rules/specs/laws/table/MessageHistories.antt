@@ -4,27 +4,24 @@ use Prim.Native.Nat.{ℕ, zero, suc, _+_, _-_, _%_, _≤_, _<_}
 use native.Mathlib.Omega.{arith}
 use mathlib.Core.Path.{_≡_, refl, sym, ap, _∙_, subst}
 use mathlib.Core.Bool.{Bool, true, false, cond, _&&_, true≢false}
-use mathlib.Core.List.{List, [], _∷_, _++_, map}
-use lib.ListN.{length, getD, take, drop, set, replicate}
+use mathlib.Core.List.{List, [], _∷_}
+use lib.ListN.{length, getD, take, drop, set}
 use lib.Seq.{getD-set-same, getD-set-other, take-nil}
 use lib.Dec.{eqb}
 use borrow.Author.Tests.{eq-eqb, eqb-false, eqb-true, ne-eqb}
 use Rattle.rules.specs.Hall.{Desk, Formed, Hall, Limits, State, allScreens, deskOf, emptyDesk, fresh}
-use Rattle.rules.specs.History.{Action, Effect, _by_, effectAt, handsBack, isHandBack, noAction, numberAt, outOfRoom, refusedAction}
-use Rattle.rules.specs.Lists.{count, toNat}
-use Rattle.rules.specs.Messages.{MessageNumbers, Redelivered, acceptedBetween, acceptedOf, answersOf, callAt, isAcceptedFrom, nextIn, sentHistory, sentTo, stepUnnumbered}
-use Rattle.rules.specs.Rooms.{without}
-use Rattle.rules.specs.Steps.{Answer, Call, Collect, Collected, Drop, Event, Question, Result, Retire, Step, Swap, Take, _numbered_, _sends_, advance, changePosition, collect, decide}
-use Rattle.rules.specs.Steps.{end, firstNo, inRange, isNone, isRepeat, owe, perform, performStep, questions, renumber, retire, retireQuestions, run, step, stepQuestions, withNext}
-use Rattle.rules.specs.Table.{decode, encode, hallIn, inHall, inLimits, need, nextWord, openedTable, sound, stepTable, within}
-use Rattle.rules.specs.laws.desk.Collect.{collect-renumbered, next-collect}
+use Rattle.rules.specs.History.{Effect, _by_, effectAt, handsBack, isHandBack, noAction, numberAt, outOfRoom, refusedAction}
+use Rattle.rules.specs.Lists.{toNat}
+use Rattle.rules.specs.Messages.{MessageNumbers, Redelivered, acceptedBetween, acceptedOf, callAt, isAcceptedFrom}
+use Rattle.rules.specs.Steps.{Call, Collect, Drop, Event, Result, Retire, Step, Swap, Take, advance, changePosition, collect, decide}
+use Rattle.rules.specs.Steps.{end, firstNo, inRange, isRepeat, owe, perform, performStep, questions, renumber, retire, run, step, stepQuestions}
+use Rattle.rules.specs.Table.{inLimits, need, nextWord, openedTable, stepTable, within}
+use Rattle.rules.specs.laws.desk.Collect.{next-collect}
 use Rattle.rules.specs.laws.history.InitialState.{fresh-formed, get-same}
 use Rattle.rules.specs.laws.history.RunSplitting.{run-take}
-use Rattle.rules.specs.laws.history.StepEffects.{IsDesk, desk-asked, formed-performed, formed-step, in-range, number-asked, range-holds}
-use Rattle.rules.specs.laws.lists.Bools.{and-left}
-use Rattle.rules.specs.laws.table.EncodedStep.{Valid, fresh-valid, limits-fit, number-word-is, opened-is-fresh, table-step, valid-step}
+use Rattle.rules.specs.laws.history.StepEffects.{IsDesk, desk-asked, formed-performed, formed-step, number-asked, range-holds}
+use Rattle.rules.specs.laws.table.EncodedStep.{limits-fit, number-word-is}
 use Rattle.rules.specs.laws.table.TableHistories.{end-is, run-is, valid}
-use Rattle.rules.specs.laws.table.TableSteps.{accepted-step, asked, known, known-inside, number-word, refused-step, unsound-step}
 use Rattle.rules.specs.laws.table.WordBounds.{first-no-is-asked, step-refused}
 
 -- ---- 23 is not the number of any question of a step's own.

@@ -125,7 +125,7 @@ module _ (a b : List ℕ) (three : headerWords ≤ length a) where
     set-same : (t : List ℕ) (i v : ℕ) → length t ≡ length a → i < need H → set (t ++ b) i v ≡ set t i v ++ b
     set-same t i v l h = set-append-left t b i v (omega (arith, far))
 
-    after-before : (limits : Limits) (st : State) (m d : ℕ) (s : Step) → firstNo (questions limits H st ((d sends s) numbered m)) ≡ 0 → afterIn H (a ++ b) d s ≡ afterIn H a d s ++ b
+    after-before : (limits : Limits) (st : State) (m d : ℕ) (s : Step) → firstNo (questions limits H st (d sends s numbered m)) ≡ 0 → afterIn H (a ++ b) d s ≡ afterIn H a d s ++ b
     after-before limits st m d (Take c p) e =
         let f = take-asked limits H st m d c p e in
         let screen = screen-in H d c (f .desk .0) (f .desk .1) (f .screen .0) (f .screen .1) in
@@ -149,21 +149,21 @@ module _ (a b : List ℕ) (three : headerWords ≤ length a) where
             (λ i. set (set-same a (positionWord p) v refl (omega (arith, f .position)) i) (recordStart H d) (getD a (positionWord p) 0))
             ∙ set-same (set a (positionWord p) v) (recordStart H d) (getD a (positionWord p) 0) (length-set a (positionWord p) v) (omega (arith, f .desk))
     after-before limits st m d Retire e =
-        let r = desk-asked limits H st ((d sends Retire) numbered m) e in
+        let r = desk-asked limits H st (d sends Retire numbered m) e in
         ap (λ (words : List ℕ). putRecord H (a ++ b) d (encodeDesk (allScreens H) (retire (decodeDesk (allScreens H) words)))) (record-same d r)
         ∙ put-same-rest d r (encodeDesk (allScreens H) (retire (decodeDesk (allScreens H) (recordOf H a d))))
     after-before limits st m d Collect e =
-        let r = desk-asked limits H st ((d sends Collect) numbered m) e in
+        let r = desk-asked limits H st (d sends Collect numbered m) e in
         (λ i. putRecord H (a ++ b) d (encodeDesk (allScreens H) (collect (allScreens H) (decode-same i .shown) (decodeDesk (allScreens H) (record-same d r i)) .after)))
         ∙ put-same-rest d r (encodeDesk (allScreens H) (collect (allScreens H) (decode H a .shown) (decodeDesk (allScreens H) (recordOf H a d)) .after))
 
     -- the message number stands within what an accepted step leaves
-    number-within : (limits : Limits) (st : State) (m d : ℕ) (s : Step) → firstNo (questions limits H st ((d sends s) numbered m)) ≡ 0
+    number-within : (limits : Limits) (st : State) (m d : ℕ) (s : Step) → firstNo (questions limits H st (d sends s numbered m)) ≡ 0
         → nextWord H d < length (afterIn H a d s)
     number-within limits st m d s e = at s
       where
         r : IsDesk H d
-        r = desk-asked limits H st ((d sends s) numbered m) e
+        r = desk-asked limits H st (d sends s numbered m) e
 
         stored : (i v : ℕ) → nextWord H d < length (set a i v)
         stored i v = omega (arith, fits d r, length-set a i v)

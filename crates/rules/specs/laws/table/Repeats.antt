@@ -20,7 +20,7 @@ abbrev tableAfterSwap : List ℕ → ℕ → ℕ → ℕ → Bool → List ℕ
 tableAfterSwap t d p v b = cond b t (set (set t (positionWord p) v) (recordStart (hallIn t) d) (getD t (positionWord p) 0))
 
 -- what an accepted swap found
-asks : (limits : Limits) (t : List ℕ) (m d p v : ℕ) → asked limits t ((d sends Swap p v) numbered m) ≡ 0 → SwapAsked (hallIn t) (decode (hallIn t) t) d p
+asks : (limits : Limits) (t : List ℕ) (m d p v : ℕ) → asked limits t (d sends Swap p v numbered m) ≡ 0 → SwapAsked (hallIn t) (decode (hallIn t) t) d p
 asks limits t = swap-asked limits (hallIn t) (decode (hallIn t) t)
 
 -- the message number moved on, in the words that the rest of the call leaves
@@ -28,16 +28,16 @@ abbrev moveOn : List ℕ → ℕ → List ℕ → List ℕ
 moveOn t d words = let number = nextWord (hallIn t) d in set words number (advance (getD t number 0))
 
 -- its reply is what the position held
-replies-old : (limits : Limits) (t : List ℕ) (m d p v : ℕ) → asked limits t ((d sends Swap p v) numbered m) ≡ 0 → getD (decode (hallIn t) t .held) (p - 1) 0 ≡ getD t (positionWord p) 0
+replies-old : (limits : Limits) (t : List ℕ) (m d p v : ℕ) → asked limits t (d sends Swap p v numbered m) ≡ 0 → getD (decode (hallIn t) t .held) (p - 1) 0 ≡ getD t (positionWord p) 0
 replies-old limits t m d p v q = let a = asks limits t m d p v q in held-word t p (a .position .0) (a .position .1)
 
 pub repeat-stays : (limits : Limits) (t : List ℕ) → sound limits t ≡ true → (m d p : ℕ)
     → let old = getD t (positionWord p) 0 in
     let number = nextWord (hallIn t) d in
-    asked limits t ((d sends Swap p old) numbered m) ≡ 0 → stepTable limits t ((d sends Swap p old) numbered m) ≡ accept old (set t number (advance (getD t number 0)))
+    asked limits t (d sends Swap p old numbered m) ≡ 0 → stepTable limits t (d sends Swap p old numbered m) ≡ accept old (set t number (advance (getD t number 0)))
 repeat-stays limits t s m d p q =
     let old = getD t (positionWord p) 0 in
-    accepted-step limits t ((d sends Swap p old) numbered m) s q ∙ (λ i. accept (replies-old limits t m d p old q i) (moveOn t d (tableAfterSwap t d p old (eq-eqb old old refl i))))
+    accepted-step limits t (d sends Swap p old numbered m) s q ∙ (λ i. accept (replies-old limits t m d p old q i) (moveOn t d (tableAfterSwap t d p old (eq-eqb old old refl i))))
 
 module _ (limits : Limits) (t : List ℕ) (m d p v : ℕ) where
   abbrev old : ℕ
@@ -77,9 +77,9 @@ module _ (limits : Limits) (t : List ℕ) (m d p v : ℕ) where
       ∙ getD-set-other words (nextWord (hallIn t) d) (recordStart (hallIn t) d) _ 0 (λ same. omega (arith, same))
       ∙ sym (record-owed (hallIn t) words d)
 
-  pub swap-promised : SwapPromise (hallIn t) d p v t (stepTable limits t ((d sends Swap p v) numbered m))
+  pub swap-promised : SwapPromise (hallIn t) d p v t (stepTable limits t (d sends Swap p v numbered m))
   swap-promised =
-      by-step limits (SwapPromise (hallIn t) d p v t) t ((d sends Swap p v) numbered m) (refused 4) (λ n q. refused n)
+      by-step limits (SwapPromise (hallIn t) d p v t) t (d sends Swap p v numbered m) (refused 4) (λ n q. refused n)
       (λ s q.
       let repeat = isRepeat old v in
       let found = asks limits t m d p v q in

@@ -11,16 +11,16 @@ use Rattle.rules.specs.Hall.{Desk, Hall, Limits, State, allScreens, desk
 use Rattle.rules.specs.History.{numberAt}
 use Rattle.rules.specs.Messages.{answersOf, nextIn, sentHistory, stepUnnumbered}
 use Rattle.rules.specs.Rooms.{without}
-use Rattle.rules.specs.Steps.{Answer, Call, Collect, Collected, Drop, Outcome, Result, Retire, Step, Swap, Take, _numbered_, advance, changePosition, collect}
-use Rattle.rules.specs.Steps.{decide, firstNo, inRange, isNone, isRepeat, owe, perform, performStep, questions, renumber, retire, retireQuestions, run, step}
-use Rattle.rules.specs.Steps.{stepQuestions, withNext}
+use Rattle.rules.specs.Steps.{Answer, Call, Collect, Collected, Drop, Result, Retire, Step, Swap, Take, _numbered_, advance, changePosition, collect}
+use Rattle.rules.specs.Steps.{decide, firstNo, inRange, isRepeat, owe, perform, performStep, questions, renumber, retire, retireQuestions, run, step}
+use Rattle.rules.specs.Steps.{stepQuestions}
 use Rattle.rules.specs.Table.{decode, encode, hallIn, inHall, inLimits, nextWord, sound, stepTable, within}
 use Rattle.rules.specs.laws.desk.Collect.{collect-renumbered}
 use Rattle.rules.specs.laws.history.StepEffects.{in-range}
 use Rattle.rules.specs.laws.lists.Bools.{and-left}
 use Rattle.rules.specs.laws.table.EncodedStep.{Valid, limits-fit, number-word-is, table-step, valid-step}
 use Rattle.rules.specs.laws.table.MessageHistories.{right-number}
-use Rattle.rules.specs.laws.table.TableSteps.{accepted-step, asked, known, known-inside, number-word, refused-step, unsound-step}
+use Rattle.rules.specs.laws.table.TableSteps.{accepted-step, asked, known-inside, number-word, refused-step, unsound-step}
 
 -- ---- The number that is read from a table.
 
@@ -94,9 +94,6 @@ fresh-forgotten H = λ i. record { held = fresh H .held; shown = fresh H .shown;
 
 module _ (limits : Limits) (H : Hall) where
   module _ (st : State) (d : ℕ) where
-    D : Desk
-    D = deskOf st d
-
     same-desk : deskOf (forgetAll st) d ≡ forget (deskOf st d)
     same-desk = desk-forgotten (st .desks) (d - 1)
 

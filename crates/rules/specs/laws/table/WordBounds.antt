@@ -212,7 +212,7 @@ first-no-is-asked (q ∷ qs) n h = by-cases (q .yes?) h (first-no-is-asked qs n)
 refusals-are-asked : (limits : Limits) (H : Hall) (st : State) (c : Call) → refusals c ≡ 5 ∷ map (λ q. q .number) (questions limits H st c)
 refusals-are-asked limits H st c = by-step (c .step)
   where
-    by-step : (s : Step) → stepRefusals s ≡ 5 ∷ map (λ q. q .number) (questions limits H st ((c .desk sends s) numbered c .message))
+    by-step : (s : Step) → stepRefusals s ≡ 5 ∷ map (λ q. q .number) (questions limits H st (c .desk sends s numbered c .message))
     by-step (Take c p) = refl
     by-step (Drop c) = refl
     by-step (Swap p w) = refl
@@ -289,7 +289,7 @@ after-words limits t c h w k q =
     st : State
     st = decode (hallIn t) t
 
-    by-step : (m d : ℕ) (s : Step) → Step16 s → asked limits t ((d sends s) numbered m) ≡ 0 → Words16 (tableAfterStep t d s)
+    by-step : (m d : ℕ) (s : Step) → Step16 s → asked limits t (d sends s numbered m) ≡ 0 → Words16 (tableAfterStep t d s)
     by-step m d (Take c p) w q = words-set t (screenWord (hallIn t) d c) (getD t (positionWord p) 0) (h (positionWord p)) h
     by-step m d (Drop c) w q = words-set t (screenWord (hallIn t) d c) 0 (omega arith) h
     by-step m d (Swap p v) w q =
@@ -303,7 +303,7 @@ after-words limits t c h w k q =
         (subst (λ (E : Desk). Words16 (encodeDesk S (retire E))) (desk-word t d (asks .desk .0) (asks .desk .1))
         (record-words S (retire D) (k .bounded) (retire-16 S D (asks .owes) (asks .room) (desk-read t d h k (asks .desk)))))
     by-step m d Collect w q =
-        let r = desk-asked limits (hallIn t) st ((d sends Collect) numbered m) q in
+        let r = desk-asked limits (hallIn t) st (d sends Collect numbered m) q in
         let D : Desk = deskOf st d in
         put-words (hallIn t) t d (encodeDesk S (collect S (st .shown) (decodeDesk S (recordOf (hallIn t) t d)) .after)) h
         (subst (λ (E : Desk). Words16 (encodeDesk S (collect S (st .shown) E .after))) (desk-word t d (r .0) (r .1))
