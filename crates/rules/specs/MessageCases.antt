@@ -4,7 +4,7 @@ use Prim.Native.Nat.{ℕ, zero, suc, _+_}
 use native.Mathlib.Omega.{arith}
 use mathlib.Core.Path.{_≡_, refl, ap}
 use mathlib.Core.List.{List, [], _∷_, _++_, map}
-use lib.ListN.{getD, replicate, take}
+use lib.ListN.{drop, getD, replicate, take}
 use Rattle.rules.specs.Cases.{Case, Computed, _⇒_, busyTable, delivers, ok, refusedWith}
 use Rattle.rules.specs.Hall.{fresh, hallLimits, hallOf}
 use Rattle.rules.specs.Messages.{MessageNumbers, Redelivered, acceptedBetween, acceptedOf, answersOf, callAt, nextIn, nextOf, rightlyNumbered, sentTo}
@@ -91,10 +91,14 @@ pub number-order : Computed order
 unfolding stepTable sound recordSound encodeDesk decodeDesk
 number-order = refl
 
--- ---- The right numbers. Desk 2 is at 7; desks 0 and 3, which the hall does not have, get 0; a table without a hall, or too short, gives 0.
+-- ---- The right numbers. Desk 1 is at 9 and desk 2 at 7; desks 0 and 3, which the hall does not have, get 0, though more words follow. A table that
+-- ends before the number gives 0, and so does one without a hall.
+abbrev twoNumbers : List ℕ
+twoNumbers = take 24 busyTable ++ (9 ∷ drop 25 (take 42 busyTable) ++ (7 ∷ replicate 20 5))
+
 pub numbers-read :
-    (map (nextIn (take 42 busyTable ++ (7 ∷ []))) (0 ∷ 1 ∷ 2 ∷ 3 ∷ []) ≡ 0 ∷ 0 ∷ 7 ∷ 0 ∷ [])
-    × (map (nextIn (take 42 busyTable)) (1 ∷ 2 ∷ []) ≡ 0 ∷ 0 ∷ [])
+    (map (nextIn twoNumbers) (0 ∷ 1 ∷ 2 ∷ 3 ∷ []) ≡ 0 ∷ 9 ∷ 7 ∷ 0 ∷ [])
+    × (map (nextIn (take 42 twoNumbers)) (1 ∷ 2 ∷ []) ≡ 9 ∷ 0 ∷ [])
     × (nextIn [] 1 ≡ 0)
     × (nextIn (17 ∷ 1 ∷ 1 ∷ replicate 2400 5) 1 ≡ 0)
     × (nextIn (16 ∷ 1 ∷ 1 ∷ replicate 2400 5) 16 ≡ 5)
