@@ -5,8 +5,8 @@ use mathlib.Core.Bool.{Bool, true, false}
 use mathlib.Core.List.{List, _++_}
 use mathlib.Core.Logic.{_⊎_}
 use lib.ListN.{length, drop}
+use Rattle.rules.specs.Messages.{send}
 use Rattle.rules.specs.Steps.{Call, end}
-use Rattle.rules.specs.Table.{stepTable}
 use Rattle.sheet.specs.Batch.{callsOf, remainingCalls, remainingOutput, startTable}
 use Rattle.sheet.specs.declared.State.{State}
 use Rattle.sheet_rules.specs.Lines.{printed}
@@ -19,7 +19,7 @@ pub record Reached (edition : Edition) (sheet : List ℕ) (bytes : ℕ) (state :
   pub output : remainingOutput edition sheet state table ≡ drop bytes (printed edition sheet)
   pub calls : List Call
   pub run : calls ++ remainingCalls edition sheet state ≡ callsOf (reading edition sheet)
-  pub left : table ≡ end (stepTable (edition .limits)) (startTable (edition .limits) (reading edition sheet)) calls
+  pub left : table ≡ end (send (edition .limits)) (startTable (edition .limits) (reading edition sheet)) calls
 
 -- So many bytes of a sheet's output were handed over: at least one, and those before such a state, so whole lines. If complete, all of them
 -- (`Whole.complete-output`). No contract can say which bytes a system call wrote.

@@ -6,8 +6,9 @@ use mathlib.Core.Bool.{true, false, cond}
 use mathlib.Core.List.{List, [], _∷_, _++_}
 use lib.ListN.{length, take, drop}
 use Rattle.rules.specs.Hall.{Limits}
+use Rattle.rules.specs.Messages.{send}
 use Rattle.rules.specs.Steps.{Call, end}
-use Rattle.rules.specs.Table.{openTable, stepTable}
+use Rattle.rules.specs.Table.{openTable}
 use Rattle.buffer.specs.Put.{Put}
 use Rattle.reader.specs.Results.{carriedOf}
 use Rattle.sheet_rules.specs.Lines.{linesFrom, printed}
@@ -44,12 +45,12 @@ abbrev pub finishedAt : State → State
 finishedAt state = record { offset = state .offset; index = state .index; carried = state .carried; tally = state .tally; finished = true }
 
 -- Bytes that lead from one state and table to another: followed by what remains after them, they are what remained before.
--- The table is as the calls that were run leave it; how many these are is left free.
+-- The table is as the calls that were run leave it, sent with the right message numbers; how many these are is left free.
 pub record Emitted (edition : Edition) (sheet : List ℕ) (was : State) (before bytes : List ℕ) (is : State) (after : List ℕ) : Type 0 where
   pub output : bytes ++ remainingOutput edition sheet is after ≡ remainingOutput edition sheet was before
   pub calls : List Call
   pub run : calls ++ remainingCalls edition sheet is ≡ remainingCalls edition sheet was
-  pub table : after ≡ end (stepTable (edition .limits)) before calls
+  pub table : after ≡ end (send (edition .limits)) before calls
 
 -- Fewer batches remain, unless none did. A record's number is at most its offset, so that it does not overflow.
 pub record Progress (sheet : List ℕ) (was is : State) : Type 0 where
@@ -82,7 +83,7 @@ callsOf (opened hall records) = callsIn records
 
 -- the table after all calls of a sheet
 abbrev pub sheetTable : Edition → List ℕ → List ℕ
-sheetTable edition sheet = end (stepTable (edition .limits)) (startTable (edition .limits) (reading edition sheet)) (callsOf (reading edition sheet))
+sheetTable edition sheet = end (send (edition .limits)) (startTable (edition .limits) (reading edition sheet)) (callsOf (reading edition sheet))
 
 -- The first bytes of the output: the header's line, or all lines where the reading ends before a record.
 pub record Started (edition : Edition) (sheet out : List ℕ) (is : State) (after outAfter : List ℕ) (put : ℕ) : Type 0 where

@@ -1,5 +1,6 @@
 use board::collect;
 use board::drop;
+use board::next_message;
 use board::open;
 use board::retire;
 use board::swap;
@@ -55,17 +56,20 @@ pub struct Filled {
     pub put: usize,
 }
 
-// Runs the step that a record requests, in a room with these limits. A code outside 1 to 5 is answered 17, and nothing is written.
+// Runs the step that a record requests, in a room with these limits, with its desk's next message number. A code outside 1 to 5 is answered
+// 17, and nothing is written.
 pub fn run_record(table: &mut [u8], limits: Limits, entry: Record) -> Reply
     ensures { λ r. ⌜ Ran (limitsOf limits) (recordOf entry) (now (table .entry)) r (now (table .exit)) ⌝ }
 {
     let code = entry.code;
+    let desk = entry.desk;
+    let message = next_message(table, desk);
     match code {
-        1 => take(table, limits, entry.desk, entry.screen, entry.position),
-        2 => drop(table, limits, entry.desk, entry.screen),
-        3 => swap(table, limits, entry.desk, entry.position, entry.session),
-        4 => retire(table, limits, entry.desk),
-        5 => collect(table, limits, entry.desk),
+        1 => take(table, limits, message, desk, entry.screen, entry.position),
+        2 => drop(table, limits, message, desk, entry.screen),
+        3 => swap(table, limits, message, desk, entry.position, entry.session),
+        4 => retire(table, limits, message, desk),
+        5 => collect(table, limits, message, desk),
         0 | 6..=65535 => Reply::NoCode,
     }
 }

@@ -6,8 +6,8 @@ use mathlib.Core.Bool.{true}
 use mathlib.Core.List.{List, [], _++_, append-assoc, append-nil}
 use lib.ListN.{length, take, drop, length-append, length-drop}
 use lib.Seq.{drop-at, drop-drop, length-take-le}
+use Rattle.rules.specs.Messages.{send}
 use Rattle.rules.specs.Steps.{Call, end}
-use Rattle.rules.specs.Table.{stepTable}
 use Rattle.sheet.specs.Batch.{Batch, Emitted, Started, callsOf, remainingCalls, remainingOutput, sheetTable, startTable}
 use Rattle.sheet.specs.laws.Batches.{end-append}
 use Rattle.sheet.specs.laws.Length.{output-bounded}
@@ -48,7 +48,7 @@ reached-batch {edition} {sheet} {bytes} {was} {before} {out} {state} {table} {ou
       ∙ reached .run;
   left =
       emitted .table
-      ∙ ap (λ (words : List ℕ). end (stepTable (edition .limits)) words (emitted .calls)) (reached .left)
+      ∙ ap (λ (words : List ℕ). end (send (edition .limits)) words (emitted .calls)) (reached .left)
       ∙ sym (end-append (edition .limits) (startTable (edition .limits) (reading edition sheet)) (reached .calls) (emitted .calls));
 }
   where
@@ -78,4 +78,4 @@ finished-table {edition} {sheet} {bytes} {state} {table} reached finished =
     let none : remainingCalls edition sheet state ≡ [] = simp finished in
     let all : reached .calls ≡ callsOf (reading edition sheet) =
     sym (append-nil (reached .calls)) ∙ ap (λ (rest : List Call). reached .calls ++ rest) (sym none) ∙ reached .run in
-    reached .left ∙ ap (end (stepTable (edition .limits)) (startTable (edition .limits) (reading edition sheet))) all
+    reached .left ∙ ap (end (send (edition .limits)) (startTable (edition .limits) (reading edition sheet))) all

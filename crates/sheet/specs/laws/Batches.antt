@@ -6,17 +6,17 @@ use mathlib.Core.Bool.{Bool, true, false, cond}
 use mathlib.Core.List.{List, [], _∷_, _++_, append-assoc, append-nil}
 use lib.ListN.{length}
 use Rattle.rules.specs.Hall.{Limits}
+use Rattle.rules.specs.Messages.{send}
 use Rattle.rules.specs.Steps.{Call, end}
-use Rattle.rules.specs.Table.{stepTable}
 use Rattle.sheet_rules.specs.Sheet.{Edition}
 use Rattle.sheet.specs.Batch.{BatchResult, Batches, Emitted, Progress, Started, batchesLeft, bytesOf, lastState, lastTable, remainingCalls}
 use Rattle.sheet.specs.Batch.{remainingOutput, sheetTable}
 use Rattle.sheet.specs.declared.State.{State}
 
 pub end-append : (limits : Limits) (table : List ℕ) (calls more : List Call)
-    → end (stepTable limits) table (calls ++ more) ≡ end (stepTable limits) (end (stepTable limits) table calls) more
+    → end (send limits) table (calls ++ more) ≡ end (send limits) (end (send limits) table calls) more
 end-append limits table [] more = refl
-end-append limits table (call ∷ calls) more = end-append limits (stepTable limits table call .after) calls more
+end-append limits table (call ∷ calls) more = end-append limits (send limits table call .after) calls more
 
 -- ---- Bytes emitted.
 
@@ -35,7 +35,7 @@ emitted-append {edition} {sheet} {first} {table} {bytes} {second} {middle} {more
       append-assoc (one .calls) (two .calls) (remainingCalls edition sheet third)
       ∙ ap (λ (rest : List Call). one .calls ++ rest) (two .run)
       ∙ one .run;
-  table = two .table ∙ ap (λ (words : List ℕ). end (stepTable (edition .limits)) words (two .calls)) (one .table) ∙ sym (end-append (edition .limits) table (one .calls) (two .calls));
+  table = two .table ∙ ap (λ (words : List ℕ). end (send (edition .limits)) words (two .calls)) (one .table) ∙ sym (end-append (edition .limits) table (one .calls) (two .calls));
 }
 
 -- bytes that lead to a finished state are all that remained
@@ -48,22 +48,22 @@ emitted-all {edition} {sheet} {was} {before} {bytes} {is} {after} emitted finish
 
 -- ---- The table that the remaining calls will leave: no batch changes it.
 abbrev pub finalTable : Edition → List ℕ → State → List ℕ → List ℕ
-finalTable edition sheet state table = end (stepTable (edition .limits)) table (remainingCalls edition sheet state)
+finalTable edition sheet state table = end (send (edition .limits)) table (remainingCalls edition sheet state)
 
 pub final-table-at-start : {edition : Edition} {sheet out : List ℕ} {first : State} {table outAfter : List ℕ} {put : ℕ} → Started edition sheet out first table outAfter put
     → finalTable edition sheet first table ≡ sheetTable edition sheet
-final-table-at-start {edition} started = λ i. end (stepTable (edition .limits)) (started .table i) (started .run i)
+final-table-at-start {edition} started = λ i. end (send (edition .limits)) (started .table i) (started .run i)
 
 pub final-table-kept : {edition : Edition} {sheet : List ℕ} {was : State} {before bytes : List ℕ} {is : State} {after : List ℕ} → Emitted edition sheet was before bytes is after
     → finalTable edition sheet is after ≡ finalTable edition sheet was before
 final-table-kept {edition} {sheet} {was} {before} {bytes} {is} emitted =
-    ap (λ (words : List ℕ). end (stepTable (edition .limits)) words (remainingCalls edition sheet is)) (emitted .table)
+    ap (λ (words : List ℕ). end (send (edition .limits)) words (remainingCalls edition sheet is)) (emitted .table)
     ∙ sym (end-append (edition .limits) before (emitted .calls) (remainingCalls edition sheet is))
-    ∙ ap (end (stepTable (edition .limits)) before) (emitted .run)
+    ∙ ap (end (send (edition .limits)) before) (emitted .run)
 
 -- at a finished state no call remains
 pub final-table-at-end : (edition : Edition) (sheet : List ℕ) (state : State) (table : List ℕ) → state .finished ≡ true → finalTable edition sheet state table ≡ table
-final-table-at-end edition sheet state table finished = let none : remainingCalls edition sheet state ≡ [] = simp finished in ap (end (stepTable (edition .limits)) table) none
+final-table-at-end edition sheet state table finished = let none : remainingCalls edition sheet state ≡ [] = simp finished in ap (end (send (edition .limits)) table) none
 
 -- ---- Batches.
 pub batches-emitted : (edition : Edition) (sheet : List ℕ) (was : State) (before : List ℕ) (batches : List BatchResult) → Batches edition sheet was before batches
