@@ -75,8 +75,7 @@ before-end (suc n) number event = omega (arith, before-end n (advance number) ev
 delivered-again : (n : ℕ) → Redelivered (long n) 0 (suc n) × (acceptedBetween (long n) 0 (suc n) ≡ n)
 delivered-again n =
     subst (λ (history : List Event). Redelivered history 0 (suc n) × (acceptedBetween history 0 (suc n) ≡ n)) (sym (long-is n))
-    (let last = at-end n (advance 0) (lastEvent n) in
-    (
+    (let last = at-end n (advance 0) (lastEvent n) in (
       record {
         later = omega arith;
         within = omega (arith, last .1);
