@@ -60,11 +60,18 @@ impl Hall {
         first..first + self.record_length()
     }
 
+    /// The word of a desk's next message number: document 01, for Job 6, "the last of
+    /// the desk's record".
+    pub fn message(&self, desk: u16) -> usize {
+        self.record(desk).end - 1
+    }
+
     fn records(&self) -> usize {
         self.screens_of_hall().end
     }
 
+    /// Up to the list, the list, and the next message number.
     fn record_length(&self) -> usize {
-        super::place::LIST + 2 * self.all_screens()
+        super::place::LIST + 2 * self.all_screens() + 1
     }
 }

@@ -1,4 +1,5 @@
-//! A desk's record: what it owes, and its list with the current reading.
+//! A desk's record: what it owes, and its list with the current reading. Behind the
+//! list is the desk's next message number, which only `step` reads and writes.
 
 use super::words::{set_word, word};
 
@@ -23,6 +24,11 @@ pub fn marks(record: &[u8]) -> u128 {
     let mut bytes = [0; 16];
     bytes.copy_from_slice(&record[2 * place::MARKS..2 * place::LIST]);
     u128::from_le_bytes(bytes)
+}
+
+/// The places of the list: the words from there on but the last.
+pub fn list(record: &[u8]) -> &[u8] {
+    &record[2 * place::LIST..record.len() - 2]
 }
 
 fn is_marked(marks: u128, tested_place: usize) -> bool {

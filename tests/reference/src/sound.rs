@@ -1,6 +1,7 @@
-//! Soundness, clause by clause as in document 01, and nothing more.
+//! Soundness, clause by clause as in document 01, and nothing more: it asks nothing
+//! of a desk's next message number.
 
-use super::record::{marks, place};
+use super::record::{list, marks, place};
 use super::words::{bytes, count, word};
 use super::{Hall, Limits};
 
@@ -21,7 +22,7 @@ pub fn sound_hall(limits: Limits, table: &[u8]) -> Option<Hall> {
 }
 
 /// The ranges are checked first: the need is defined only within them.
-fn header(limits: Limits, table: &[u8]) -> Option<Hall> {
+pub fn header(limits: Limits, table: &[u8]) -> Option<Hall> {
     if count(table) < 3 {
         return None;
     }
@@ -34,7 +35,7 @@ fn sound_record(record: &[u8], all_screens: usize) -> bool {
     // The sum is one of numbers, not of 16-bit words: it cannot wrap.
     let used = number(place::READY) + tested + number(place::WAITING);
     used <= 2 * all_screens
-        && sound_list(&record[2 * place::LIST..], used)
+        && sound_list(list(record), used)
         && sound_marks(marks(record), tested)
         && sound_reading(number(place::SCANNED), tested, all_screens)
         && marks(record).count_ones() as usize <= number(place::SCANNED)

@@ -131,6 +131,16 @@ fn a_repeat_is_an_accepted_step() {
     assert_eq!(lines, "1 3 0 0\n2 3 0 0\n3 3 0 5\n4 4 13 0\nend 3 1 0\n");
 }
 
+/// Two desks in turn, with refused steps, a repeat and a desk outside the hall among
+/// theirs: none is refused with 23.
+#[test]
+fn each_step_has_the_message_number_of_its_desk() {
+    let sheet = [2, 1, 1, 5, 1, 5, 2, 4, 1, 5, 1, 3, 2, 1, 0, 5, 3, 5, 2, 4, 2, 5, 2, 5, 1];
+    let expected = "0 0 0 0\n1 5 0 0\n2 5 0 0\n3 4 13 0\n4 5 0 0\n5 3 0 0\n6 5 6 0\n\
+        7 5 0 0\n8 4 13 0\n9 5 0 0\n10 5 0 0\nend 7 3 0\n";
+    assert_eq!(lines(&sheet), expected);
+}
+
 /// Only a session handed back counts in the third count.
 #[test]
 fn what_is_handed_back() {

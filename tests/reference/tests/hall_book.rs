@@ -1,9 +1,10 @@
 //! The hall book of document 01, cases A to K and M. (L is in day_sheet.) All but
-//! B, whose hall is too large for it, in the training room too.
+//! B, whose hall is too large for it, in the training room too. Document 02, Job 6:
+//! "The need grows by P words, so cases A and B say 21 and 2,403".
 
 mod board;
 
-use board::{list, Board};
+use board::{list, Board, Step};
 use reference::{answer, Hall, Limits, Refusal};
 
 const HALL: Limits = Limits::HALL;
@@ -21,17 +22,17 @@ fn need(limits: Limits, desks: u16, screens: u16, positions: u16) -> usize {
 #[test]
 fn case_a() {
     for limits in [HALL, Limits::TRAINING] {
-        assert_eq!(need(limits, 1, 1, 1), 20);
-        assert_eq!(open(limits, 1, 1, 1, 19), 4 << 16);
-        assert_eq!(open(limits, 1, 1, 1, 20), 0);
+        assert_eq!(need(limits, 1, 1, 1), 21);
+        assert_eq!(open(limits, 1, 1, 1, 20), 4 << 16);
+        assert_eq!(open(limits, 1, 1, 1, 21), 0);
     }
 }
 
 #[test]
 fn case_b() {
-    assert_eq!(need(HALL, 16, 4, 64), 2387);
-    assert_eq!(open(HALL, 17, 4, 64, 2387), 1 << 16);
-    assert_eq!(open(HALL, 16, 4, 64, 2387), 0);
+    assert_eq!(need(HALL, 16, 4, 64), 2403);
+    assert_eq!(open(HALL, 17, 4, 64, 2403), 1 << 16);
+    assert_eq!(open(HALL, 16, 4, 64, 2403), 0);
 }
 
 /// A first swap fills the position, so that each of the three replaces one.
@@ -105,9 +106,7 @@ fn case_h() {
 #[test]
 fn case_i() {
     for mut board in Board::open_in_both_rooms(1, 1, 1) {
-        let fresh = board.table.clone();
-        assert_eq!(board.collect(1), Ok(0));
-        assert_eq!(board.table, fresh);
+        board.changes_nothing(Step::Collect(1), 0);
     }
 }
 

@@ -29,27 +29,27 @@ fn an_opening_asks_in_order() {
     assert_eq!(opening(16, 5, 65, 0), 2 << 16);
     assert_eq!(opening(16, 4, 0, 0), 3 << 16);
     assert_eq!(opening(16, 4, 65, 0), 3 << 16);
-    assert_eq!(opening(16, 4, 64, 2 * 2386), 4 << 16);
-    assert_eq!(opening(16, 4, 64, 2 * 2387), 0);
+    assert_eq!(opening(16, 4, 64, 2 * 2402), 4 << 16);
+    assert_eq!(opening(16, 4, 64, 2 * 2403), 0);
 }
 
 #[test]
 fn an_odd_last_byte_is_no_part_of_the_table() {
-    assert_eq!(opening(1, 1, 1, 39), 4 << 16);
-    let mut table = [0xAA; 41];
+    assert_eq!(opening(1, 1, 1, 41), 4 << 16);
+    let mut table = [0xAA; 43];
     assert_eq!(reference::open(HALL, 1, 1, 1, &mut table), Ok(0));
-    assert_eq!(table[40], 0xAA);
+    assert_eq!(table[42], 0xAA);
 }
 
 #[test]
 fn words_past_the_need_are_left_alone() {
     let mut table = [0xAA; 50];
     assert_eq!(reference::open(HALL, 1, 1, 1, &mut table), Ok(0));
-    assert_eq!(reference::swap(HALL, 1, 1, 5, &mut table), Ok(0));
-    assert_eq!(reference::swap(HALL, 1, 1, 6, &mut table), Ok(5));
-    assert_eq!(reference::retire(HALL, 1, &mut table), Ok(5));
-    assert_eq!(reference::collect(HALL, 1, &mut table), Ok(5));
-    assert_eq!(table[40..], [0xAA; 10]);
+    assert_eq!(reference::swap(HALL, 0, 1, 1, 5, &mut table), Ok(0));
+    assert_eq!(reference::swap(HALL, 1, 1, 1, 6, &mut table), Ok(5));
+    assert_eq!(reference::retire(HALL, 2, 1, &mut table), Ok(5));
+    assert_eq!(reference::collect(HALL, 3, 1, &mut table), Ok(5));
+    assert_eq!(table[42..], [0xAA; 8]);
 }
 
 #[test]
@@ -105,7 +105,7 @@ fn short_tables_are_unsound() {
     let board = Board::open(1, 1, 1);
     for bytes in 0..board.table.len() {
         let mut table = board.table[..bytes].to_vec();
-        assert_eq!(answer(reference::collect(HALL, 9, &mut table)), 5 << 16);
+        assert_eq!(answer(reference::collect(HALL, 0, 9, &mut table)), 5 << 16);
     }
 }
 
@@ -137,7 +137,7 @@ fn sound_with(changes: &[(usize, u16)]) -> bool {
     }
     let sound = is_sound(&board.table);
     let before = board.table.clone();
-    let unsound = answer(reference::collect(HALL, 0, &mut board.table)) == 5 << 16;
+    let unsound = answer(reference::collect(HALL, 0, 0, &mut board.table)) == 5 << 16;
     assert_eq!(board.table, before);
     assert_eq!(unsound, !sound);
     sound
@@ -226,7 +226,7 @@ fn the_header_is_asked_for_its_ranges() {
     }
 }
 
-/// Positions, screens and what a desk owes may hold anything.
+/// Positions, screens, what a desk owes and its message number may hold anything.
 #[test]
 fn soundness_asks_nothing_of_the_rest() {
     let mut board = reading();
@@ -235,6 +235,7 @@ fn soundness_asks_nothing_of_the_rest() {
         set_word(&mut board.table, at, 65_535);
     }
     board.set_record(2, place::OWED, 65_535);
+    (1..=5).for_each(|desk| board.set_next(desk, 65_535));
     assert!(is_sound(&board.table));
     assert_eq!(word(&board.table, 3), 65_535);
 }

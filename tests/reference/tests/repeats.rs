@@ -133,7 +133,7 @@ fn the_questions_come_before_the_comparison() {
 /// With a full list and a screen that shows what stands there. Words past the
 /// need and an odd last byte stay too, also where the repeat is refused.
 #[test]
-fn a_repeat_leaves_every_byte() {
+fn a_repeat_changes_the_message_number_alone() {
     let mut board = Board::open(1, 2, 3);
     board.wait(1, &[5, 6, 7, 8]);
     board.show(1, 2, 5);

@@ -4,7 +4,7 @@
 
 mod board;
 
-use board::{list, Board};
+use board::{list, Board, Step};
 use reference::{answer, is_sound, place, set_word, Hall, Limits, Refusal, Reply};
 
 const HALL: Limits = Limits::HALL;
@@ -25,7 +25,7 @@ fn opening(limits: Limits, desks: u16, screens: u16, positions: u16, bytes: usiz
 }
 
 /// The bytes of the largest hall's need.
-const MAX_BYTES: usize = 2 * 2387;
+const MAX_BYTES: usize = 2 * 2403;
 
 fn all_halls() -> impl Iterator<Item = (u16, u16, u16)> {
     (1..=16).flat_map(|desks| {
@@ -75,19 +75,20 @@ fn the_length_is_asked_last() {
     assert_eq!(opening(TRAINING, 5, 1, 1, 0), 22);
     assert_eq!(opening(TRAINING, 4, 2, 1, 0), 22);
     assert_eq!(opening(TRAINING, 16, 4, 64, MAX_BYTES - 1), 22);
-    assert_eq!(opening(TRAINING, 4, 1, 64, 2 * 155 - 1), 4);
-    assert_eq!(opening(TRAINING, 4, 1, 64, 2 * 155), 0);
+    assert_eq!(opening(TRAINING, 4, 1, 64, 2 * 159 - 1), 4);
+    assert_eq!(opening(TRAINING, 4, 1, 64, 2 * 159), 0);
 }
 
 /// All five steps, with numbers that a training room has.
 fn steps(limits: Limits, table: &mut [u8]) -> [Reply; 5] {
-    [
-        reference::take(limits, 1, 1, 1, table),
-        reference::drop(limits, 1, 1, table),
-        reference::swap(limits, 1, 1, 5, table),
-        reference::retire(limits, 1, table),
-        reference::collect(limits, 1, table),
-    ]
+    let all = [
+        Step::Take(1, 1, 1),
+        Step::Drop(1, 1),
+        Step::Swap(1, 1, 5),
+        Step::Retire(1),
+        Step::Collect(1),
+    ];
+    all.map(|step| step.on(limits, 0, table))
 }
 
 /// Wrong: soundness asks the hall's limits. A table of the hall is refused with 5,
@@ -101,7 +102,7 @@ fn tables_of_the_hall() {
         assert_eq!(is_sound(TRAINING, &table), in_training);
         if !in_training {
             assert_eq!(steps(TRAINING, &mut table), [Err(Refusal::Unsound); 5]);
-            let too_large = reference::swap(TRAINING, 17, 65, 1_000, &mut table);
+            let too_large = reference::swap(TRAINING, 0, 17, 65, 1_000, &mut table);
             assert_eq!(too_large, Err(Refusal::Unsound));
         }
     }
@@ -113,10 +114,10 @@ fn a_table_of_both_rooms() {
     let mut board = open(4, 1, 2);
     assert_eq!(board.table, Board::open(4, 1, 2).table);
     assert_eq!(board.swap(1, 1, 999), Ok(0));
-    assert_eq!(reference::swap(HALL, 2, 2, 1_000, &mut board.table), Ok(0));
-    assert_eq!(reference::take(HALL, 3, 1, 1, &mut board.table), Ok(999));
+    assert_eq!(reference::swap(HALL, 0, 2, 2, 1_000, &mut board.table), Ok(0));
+    assert_eq!(reference::take(HALL, 0, 3, 1, 1, &mut board.table), Ok(999));
     assert_eq!(board.take(4, 1, 2), Ok(1_000));
-    assert_eq!(reference::drop(HALL, 4, 1, &mut board.table), Ok(1_000));
+    assert_eq!(reference::drop(HALL, 1, 4, 1, &mut board.table), Ok(1_000));
     assert_eq!(board.drop(3, 1), Ok(999));
 }
 
@@ -126,14 +127,14 @@ fn every_session() {
     let fresh = open(1, 1, 1);
     for session in 0..=65_535 {
         let mut table = fresh.table.clone();
-        let reply = reference::swap(TRAINING, 1, 1, session, &mut table);
+        let reply = reference::swap(TRAINING, 0, 1, 1, session, &mut table);
         if session <= 999 {
             assert_eq!(reply, Ok(0));
         } else {
             assert_eq!(reply, Err(Refusal::OverLimits));
             assert_eq!(table, fresh.table);
         }
-        let reply = reference::swap(HALL, 1, 1, session, &mut fresh.table.clone());
+        let reply = reference::swap(HALL, 0, 1, 1, session, &mut fresh.table.clone());
         assert_eq!(reply, Ok(0));
     }
 }

@@ -8,7 +8,9 @@
 //! desk written out though unchanged, 21 for a first number other than 0 or an
 //! edition other than 2, each straight after that number is read; 17 for codes
 //! outside both ranges; 20 after the record's fields." Job 5: "16 for a session over
-//! the caller's limit in a sheet"; so only the opening of a sheet can get 22.
+//! the caller's limit in a sheet"; so only the opening of a sheet can get 22. Job 6:
+//! "The sheet program fills in the right number itself"; so no step of a sheet can get
+//! 23.
 
 mod convert;
 mod format;
@@ -32,9 +34,9 @@ use super::{open, Limits};
 /// The longest sheet that is read.
 pub const MAX_BYTES: usize = 65_536;
 
-/// The largest hall's need, 2,387 words: no opening of a sheet is refused
+/// The largest hall's need, 2,403 words: no opening of a sheet is refused
 /// with 4, and no step after it with 5.
-const TABLE_BYTES: usize = 2 * 2387;
+const TABLE_BYTES: usize = 2 * 2403;
 
 /// All lines of a sheet, the last one included, in a room of these limits.
 pub fn printed(sheet: &[u8], format: Format, limits: Limits) -> Vec<u8> {

@@ -1,6 +1,6 @@
 //! A record: the code of a step, and the fields that follow it.
 
-use super::super::{collect, drop, retire, swap, take, Limits, Reply};
+use super::super::{collect, drop, next_message, retire, swap, take, Limits, Reply};
 use super::number::{write_number, Fault, Reader};
 use super::Format;
 
@@ -110,18 +110,21 @@ pub fn write_record(
     }
 }
 
-/// Does the step on the board. Precondition: the code is 1 to 5.
+/// Does the step on the board, with the desk's next message number; a desk that the
+/// hall does not have is refused with 6, whatever the number. Precondition: the code
+/// is 1 to 5.
 pub fn step(
     limits: Limits,
     code: u16,
     [desk, screen, position, session]: Fields,
     table: &mut [u8],
 ) -> Reply {
+    let message = next_message(table, desk).unwrap_or(0);
     match code {
-        TAKE => take(limits, desk, screen, position, table),
-        DROP => drop(limits, desk, screen, table),
-        SWAP => swap(limits, desk, position, session, table),
-        RETIRE => retire(limits, desk, table),
-        _ => collect(limits, desk, table),
+        TAKE => take(limits, message, desk, screen, position, table),
+        DROP => drop(limits, message, desk, screen, table),
+        SWAP => swap(limits, message, desk, position, session, table),
+        RETIRE => retire(limits, message, desk, table),
+        _ => collect(limits, message, desk, table),
     }
 }

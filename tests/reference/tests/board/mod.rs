@@ -2,12 +2,46 @@
 
 #![allow(dead_code)] // each test file uses its own part of this
 
-use reference::{place, set_word, word, Hall, Limits, Reply};
+use reference::{next_message, place, set_word, word, Hall, Limits, Reply};
 
 pub struct Board {
     pub limits: Limits,
     pub hall: Hall,
     pub table: Vec<u8>,
+}
+
+/// A step and its numbers, but for the message number.
+#[derive(Clone, Copy, Debug)]
+pub enum Step {
+    Take(u16, u16, u16),
+    Drop(u16, u16),
+    Swap(u16, u16, u16),
+    Retire(u16),
+    Collect(u16),
+}
+
+use Step::{Collect, Drop, Retire, Swap, Take};
+
+impl Step {
+    pub fn desk(self) -> u16 {
+        match self {
+            Take(desk, ..) | Drop(desk, _) | Swap(desk, ..) | Retire(desk) | Collect(desk) => desk,
+        }
+    }
+
+    pub fn on(self, limits: Limits, message: u16, table: &mut [u8]) -> Reply {
+        match self {
+            Take(desk, screen, position) => {
+                reference::take(limits, message, desk, screen, position, table)
+            }
+            Drop(desk, screen) => reference::drop(limits, message, desk, screen, table),
+            Swap(desk, position, session) => {
+                reference::swap(limits, message, desk, position, session, table)
+            }
+            Retire(desk) => reference::retire(limits, message, desk, table),
+            Collect(desk) => reference::collect(limits, message, desk, table),
+        }
+    }
 }
 
 /// The counts and places of a desk's list.
@@ -44,43 +78,73 @@ impl Board {
     }
 
     pub fn take(&mut self, desk: u16, screen: u16, position: u16) -> Reply {
-        self.step(|limits, table| reference::take(limits, desk, screen, position, table))
+        self.step(Take(desk, screen, position))
     }
 
     pub fn drop(&mut self, desk: u16, screen: u16) -> Reply {
-        self.step(|limits, table| reference::drop(limits, desk, screen, table))
+        self.step(Drop(desk, screen))
     }
 
     pub fn swap(&mut self, desk: u16, position: u16, session: u16) -> Reply {
-        self.step(|limits, table| reference::swap(limits, desk, position, session, table))
+        self.step(Swap(desk, position, session))
     }
 
     pub fn retire(&mut self, desk: u16) -> Reply {
-        self.step(|limits, table| reference::retire(limits, desk, table))
+        self.step(Retire(desk))
     }
 
     pub fn collect(&mut self, desk: u16) -> Reply {
-        self.step(|limits, table| reference::collect(limits, desk, table))
+        self.step(Collect(desk))
     }
 
-    /// Every step leaves a sound table sound; a refusal leaves it unchanged.
-    fn step(&mut self, step: impl FnOnce(Limits, &mut [u8]) -> Reply) -> Reply {
+    /// The step with the desk's next message number; any number if there is no such
+    /// desk.
+    pub fn step(&mut self, step: Step) -> Reply {
+        self.send(self.next(step.desk()).unwrap_or(0), step)
+    }
+
+    /// The step with this message number. Every step leaves a sound table sound and
+    /// moves its desk's number on, and no other desk's; a refusal leaves all unchanged.
+    pub fn send(&mut self, message: u16, step: Step) -> Reply {
         let before = self.table.clone();
-        let reply = step(self.limits, &mut self.table);
+        let reply = step.on(self.limits, message, &mut self.table);
         match reply {
-            Ok(_) => assert!(reference::is_sound(self.limits, &self.table)),
+            Ok(_) => {
+                assert!(reference::is_sound(self.limits, &self.table));
+                for desk in 1..=self.hall.desks {
+                    let moved_by = u16::from(desk == step.desk());
+                    let old = next_message(&before, desk).unwrap();
+                    assert_eq!(self.next(desk), Some(old.wrapping_add(moved_by)));
+                }
+            }
             Err(_) => assert_eq!(self.table, before),
         }
         reply
     }
 
-    /// A swap to what the position holds already, accepted: the reply is that,
-    /// and every byte stays.
+    /// An accepted step that leaves every byte, except for the desk's message number.
+    pub fn changes_nothing(&mut self, step: Step, reply: u16) {
+        let mut expected = self.table.clone();
+        let message = self.next(step.desk()).expect("a desk of the hall");
+        set_word(&mut expected, self.hall.message(step.desk()), message.wrapping_add(1));
+        assert_eq!(self.send(message, step), Ok(reply));
+        assert_eq!(self.table, expected);
+    }
+
+    /// A swap to what the position holds already, accepted: the reply is that.
     pub fn repeat(&mut self, desk: u16, position: u16) {
-        let before = self.table.clone();
-        let held = word(&before, self.hall.position(position));
-        assert_eq!(self.swap(desk, position, held), Ok(held));
-        assert_eq!(self.table, before);
+        let held = word(&self.table, self.hall.position(position));
+        self.changes_nothing(Swap(desk, position, held), held);
+    }
+
+    /// The desk's next message number.
+    pub fn next(&self, desk: u16) -> Option<u16> {
+        next_message(&self.table, desk)
+    }
+
+    pub fn set_next(&mut self, desk: u16, message: u16) {
+        let at = self.hall.message(desk);
+        set_word(&mut self.table, at, message);
     }
 
     /// The sessions of `times` collects, one after the other.
