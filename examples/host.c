@@ -9,7 +9,10 @@
  * its retirement back once the screens that took it there have dropped it. This
  * host reuses no number before it was handed back, so a session that is handed
  * back is nowhere else in the table, and may be closed at once. A command that
- * arrives twice reuses no number: the position already holds its session.
+ * is given twice reuses no number: the position already holds its session.
+ *
+ * It also shows what message numbers are for. A desk's link may deliver a message
+ * twice; the board does it once, and no session is lost.
  */
 #include "session_board.h"
 
@@ -22,6 +25,10 @@ enum { DESKS = 2, SCREENS = 1, POSITIONS = 2 };
  * table is the whole state of the hall. The size of the largest hall is always
  * enough; a host with little memory lends 2 * board_need(...) bytes. */
 static uint8_t table[BOARD_MAX_BYTES];
+
+/* The number that each desk's next message has. A desk counts only the messages that
+ * were accepted; after 65535 comes 0. The opening sets the board's numbers to 0. */
+static uint16_t next_message[BOARD_MAX_DESKS + 1];
 
 /* The text of each refusal, for an operator. */
 static const char *reason(uint16_t number)
@@ -42,6 +49,7 @@ static const char *reason(uint16_t number)
     case BOARD_OWES_NOTHING: return "the desk owes no session";
     case BOARD_NO_ROOM: return "the desk's list is full; it must collect first";
     case BOARD_OVER_LIMITS: return "a training room has 4 desks, 1 screen each, sessions to 999";
+    case BOARD_OTHER_MESSAGE: return "this message was accepted before";
     default: return "not a number of this board";
     }
 }
@@ -57,19 +65,28 @@ static int accepted(uint32_t answer)
     return 0;
 }
 
+/* A message that is not accepted leaves its number to the next one. */
+static int done(uint16_t desk, uint32_t answer)
+{
+    if (!accepted(answer))
+        return 0;
+    next_message[desk]++;
+    return 1;
+}
+
 static void take(uint16_t desk, uint16_t screen, uint16_t position)
 {
     printf("desk %u takes position %u: ", (unsigned)desk, (unsigned)position);
-    uint32_t answer = board_take(desk, screen, position, table, sizeof table);
-    if (accepted(answer))
+    uint32_t answer = board_take(next_message[desk], desk, screen, position, table, sizeof table);
+    if (done(desk, answer))
         printf("its screen shows session %u\n", (unsigned)board_session(answer));
 }
 
 static void drop(uint16_t desk, uint16_t screen)
 {
     printf("desk %u drops its screen: ", (unsigned)desk);
-    uint32_t answer = board_drop(desk, screen, table, sizeof table);
-    if (accepted(answer))
+    uint32_t answer = board_drop(next_message[desk], desk, screen, table, sizeof table);
+    if (done(desk, answer))
         printf("it no longer shows session %u\n", (unsigned)board_session(answer));
 }
 
@@ -80,8 +97,8 @@ static void replace(uint16_t desk, uint16_t position, uint16_t session)
 {
     printf("desk %u puts session %u at position %u: ", (unsigned)desk, (unsigned)session,
            (unsigned)position);
-    uint32_t answer = board_swap(desk, position, session, table, sizeof table);
-    if (!accepted(answer))
+    uint32_t answer = board_swap(next_message[desk], desk, position, session, table, sizeof table);
+    if (!done(desk, answer))
         return;
     uint16_t old = board_session(answer);
     if (old == session) {
@@ -93,8 +110,8 @@ static void replace(uint16_t desk, uint16_t position, uint16_t session)
         return;
     }
     printf("session %u is replaced, ", (unsigned)old);
-    answer = board_retire(desk, table, sizeof table);
-    if (accepted(answer))
+    answer = board_retire(next_message[desk], desk, table, sizeof table);
+    if (done(desk, answer))
         printf("and retired\n");
 }
 
@@ -105,8 +122,8 @@ static void replace(uint16_t desk, uint16_t position, uint16_t session)
 static uint16_t collect(uint16_t desk)
 {
     printf("desk %u collects: ", (unsigned)desk);
-    uint32_t answer = board_collect(desk, table, sizeof table);
-    if (!accepted(answer))
+    uint32_t answer = board_collect(next_message[desk], desk, table, sizeof table);
+    if (!done(desk, answer))
         return 0;
     uint16_t session = board_session(answer);
     if (session == 0)
@@ -114,6 +131,18 @@ static uint16_t collect(uint16_t desk)
     else
         printf("session %u is handed back and may be closed\n", (unsigned)session);
     return session;
+}
+
+/* The desk's last message, an accepted collect, is delivered again, with the number
+ * that it had. Without message numbers the board would hand back one more session,
+ * which nobody would close, because nobody waits for a second answer. 23 changes
+ * nothing: the desk counts on from the first answer. */
+static int delivered_again(uint16_t desk)
+{
+    uint16_t message = (uint16_t)(next_message[desk] - 1);
+    printf("the same message of desk %u arrives again: ", (unsigned)desk);
+    uint32_t answer = board_collect(message, desk, table, sizeof table);
+    return !accepted(answer) && board_number(answer) == BOARD_OTHER_MESSAGE;
 }
 
 /* A training room has the same calls, named training_ instead of board_, and
@@ -124,10 +153,10 @@ static int lesson(void)
     if (!accepted(training_open(DESKS, SCREENS, POSITIONS, room, sizeof room)))
         return 0;
     printf("desk 1 puts session %d at position 1: ", TRAINING_MAX_SESSION + 1);
-    if (accepted(training_swap(1, 1, TRAINING_MAX_SESSION + 1, room, sizeof room)))
+    if (accepted(training_swap(0, 1, 1, TRAINING_MAX_SESSION + 1, room, sizeof room)))
         return 0;
     printf("desk 1 puts session %d at position 1: ", TRAINING_MAX_SESSION);
-    if (!accepted(training_swap(1, 1, TRAINING_MAX_SESSION, room, sizeof room)))
+    if (!accepted(training_swap(0, 1, 1, TRAINING_MAX_SESSION, room, sizeof room)))
         return 0;
     printf("it was empty\n");
     return 1;
@@ -149,7 +178,7 @@ int main(void)
     if (collect(1) != 0) /* a screen shows it, so it must not be handed back */
         return EXIT_FAILURE;
 
-    printf("\nThe camera switch lost its link for a moment, and sends its last command again.\n");
+    printf("\nThe camera switch lost its link for a moment, and gives its last command again.\n");
     replace(1, 1, 301);
 
     printf("\nSession 400 is replaced too; nobody shows that one.\n");
@@ -160,6 +189,12 @@ int main(void)
     printf("\nDesk 2 drops session 300, and only now may it be closed.\n");
     drop(2, 1);
     if (collect(1) != 300)
+        return EXIT_FAILURE;
+
+    printf("\nTwo more sessions are replaced, and the link delivers a collect twice.\n");
+    replace(1, 1, 302);
+    replace(1, 2, 402);
+    if (collect(1) != 301 || !delivered_again(1) || collect(1) != 401) /* none is lost */
         return EXIT_FAILURE;
 
     printf("\nSome steps that the board refuses.\n");

@@ -18,12 +18,30 @@
  * table unchanged. Test board_number() to detect a refusal; session 0 is also a
  * valid result.
  *
+ * Message numbers: every call but an opening carries a number, so that a message
+ * that is delivered twice is done once. The table has for each desk its message
+ * number, which its next call must carry: 0 after an opening, and one more after
+ * each accepted call of the desk, from 65535 on to 0. A repeat (see board_swap)
+ * and a collect that hands nothing back are accepted calls like any other; a
+ * refused call leaves the number as it is. A call with another number is refused
+ * (23).
+ *
+ * Sending again: a desk sends one message at a time, and sends it again with the
+ * same number until an answer arrives. If it is accepted, the next message has
+ * the number after it. If it is refused, nothing was done, and the next message
+ * has the same number, be it this one again or a new one. But if it is refused
+ * with 23, it was accepted before: do not send it again, and give the next
+ * message the number after it. 23 comes without a session, so keep the answers
+ * of accepted calls, above all the sessions that collects hand back. A message
+ * that arrives again after 65535 further accepted calls of its desk, or after an
+ * opening, may count as new.
+ *
  * The life of a session: a swap puts it at a position, and takes show it on
  * screens. A later swap to another session, or to none, replaces it there; the
  * desk of that swap owes it, and retires it. A collect of that desk hands this
  * retirement back once the screens that took the session there have dropped it.
  * If no screen shows the session from the retire on, it is handed back within 3
- * of these collects for each screen of the hall.
+ * accepted collects of the desk for each screen of the hall.
  *
  * When a session may be closed: a hand-back gives back one retirement, and the
  * session may be at another position too, or may have been put back. Close it
@@ -31,6 +49,17 @@
  * screen shows it. A host that never puts a session that is still in the table,
  * so that it reuses no number before that number was handed back, may close a
  * session as soon as it is handed back. A repeat (see board_swap) puts nothing.
+ *
+ * The words of the table: the desks, the screens of a desk and the positions of
+ * the hall; the session at each position; the session on each screen, desk by
+ * desk; and a record for each desk. With S screens in the hall a record has 14 +
+ * 2S words: the owed session; the number of screens read so far; the counts of
+ * ready, tested and waiting sessions; 8 words of marks; a list of 2S places; and
+ * the message number.
+ *
+ * Tables of the former layout, without message numbers, cannot be used: open the
+ * hall afresh. No call detects them reliably. Most are unsound (5) because they
+ * are too short, but one that is longer than its need may pass as sound.
  *
  * The board keeps nothing between calls: the table is the whole state of the
  * hall. It uses no memory but the table and less than 1 KB of stack, and only
@@ -51,8 +80,8 @@ extern "C" {
 #define BOARD_MAX_SCREENS 4 /* of one desk */
 #define BOARD_MAX_POSITIONS 64
 #define BOARD_MAX_SESSION 65535
-#define BOARD_MAX_WORDS 2387 /* the need of the largest hall */
-#define BOARD_MAX_BYTES 4774
+#define BOARD_MAX_WORDS 2403 /* the need of the largest hall */
+#define BOARD_MAX_BYTES (2 * BOARD_MAX_WORDS)
 
 #define TRAINING_MAX_DESKS 4
 #define TRAINING_MAX_SCREENS 1 /* of one desk */
@@ -79,15 +108,16 @@ enum board_reply {
     BOARD_OWES_NOTHING = 13,   /* does the desk owe a session? */
     BOARD_NO_ROOM = 14,        /* are fewer than 2S places of its list used?
                                   S is the number of the hall's screens. */
-    BOARD_OVER_LIMITS = 22     /* are the desks and the screens, or the session,
+    BOARD_OVER_LIMITS = 22,    /* are the desks and the screens, or the session,
                                   within the limits of the training room? No
                                   call of the hall is answered 22. */
+    BOARD_OTHER_MESSAGE = 23   /* does the call carry the desk's message number? */
 };
 
 /* The need of a hall within the limits, in words: lend twice as many bytes. */
 static inline size_t board_need(size_t desks, size_t screens, size_t positions)
 {
-    return 3 + positions + desks * screens + desks * (13 + 2 * desks * screens);
+    return 3 + positions + desks * screens + desks * (14 + 2 * desks * screens);
 }
 
 static inline uint16_t board_number(uint32_t answer)
@@ -106,48 +136,48 @@ uint32_t board_open(uint16_t desks, uint16_t screens, uint16_t positions,
                     uint8_t *table, size_t bytes);
 
 /* Shows the position's session on the screen; the answer has that session. Asks
- * 5, 6, 7, 8, 9, 10. Writes the screen. */
-uint32_t board_take(uint16_t desk, uint16_t screen, uint16_t position,
+ * 5, 6, 23, 7, 8, 9, 10. Writes the screen and the desk's message number. */
+uint32_t board_take(uint16_t message, uint16_t desk, uint16_t screen, uint16_t position,
                     uint8_t *table, size_t bytes);
 
-/* Empties the screen; the answer has the session that it showed. Asks 5, 6, 7,
- * 11. Writes the screen. */
-uint32_t board_drop(uint16_t desk, uint16_t screen,
+/* Empties the screen; the answer has the session that it showed. Asks 5, 6, 23,
+ * 7, 11. Writes the screen and the desk's message number. */
+uint32_t board_drop(uint16_t message, uint16_t desk, uint16_t screen,
                     uint8_t *table, size_t bytes);
 
 /* Puts the given session at the position, or none for 0; the answer has the old
- * one. Asks 5, 6, 8, 12. If this changes the position, it writes the position
- * and, unless the old session is 0, what the desk owes: the desk then owes the
- * old session.
+ * one. Asks 5, 6, 23, 8, 12. Writes the desk's message number. If this changes
+ * the position, it also writes the position and, unless the old session is 0,
+ * what the desk owes: the desk then owes the old session.
  *
  * A repeat is a swap to the session that is already at the position, or of 0
  * onto an empty position. It asks the same questions. Accepted, its answer has
- * what is there; it writes nothing, and nothing is owed for it. So an accepted
- * swap whose answer has the session that was sent was a repeat: do not retire
- * after it (a retire just after it gets 13).
+ * what is there; it writes the message number alone, and nothing is owed for
+ * it. So an accepted swap whose answer has the session that was sent was a
+ * repeat: do not retire after it (a retire just after it gets 13).
  *
- * A desk's last swap may be sent again, as a camera switch does when its link
- * was interrupted. If the first one was accepted and the desk owes for it, the
- * second gets 12 and changes nothing, and the retire's answer has the replaced
- * session. After the retire, or if nothing was owed, the second is a repeat if
- * the position still holds the session. If it does not, the second puts the
- * session back, which may still be in the table elsewhere. If the first one was
- * lost or refused, the second takes its place. */
-uint32_t board_swap(uint16_t desk, uint16_t position, uint16_t session,
+ * A camera switch may give its last command again, as a message of its own, when
+ * its link was interrupted. If the first one was accepted and the desk owes for
+ * it, the second gets 12 and changes nothing, and the retire's answer has the
+ * replaced session. After the retire, or if nothing was owed, the second is a
+ * repeat if the position still holds the session. If it does not, the second
+ * puts the session back, which may still be in the table elsewhere. If the first
+ * one was lost or refused, the second takes its place. */
+uint32_t board_swap(uint16_t message, uint16_t desk, uint16_t position, uint16_t session,
                     uint8_t *table, size_t bytes);
 
 /* Appends the owed session to the desk's list as waiting; the answer has that
- * session. Asks 5, 6, 13, 14; a desk that collects between any two of its
- * retires never gets 14. Writes what the desk owes, its count of waiting and the
- * first unused place of its list. */
-uint32_t board_retire(uint16_t desk, uint8_t *table, size_t bytes);
+ * session. Asks 5, 6, 23, 13, 14; a desk with an accepted collect between any
+ * two of its retires never gets 14. Writes what the desk owes, its count of
+ * waiting, the first unused place of its list and its message number. */
+uint32_t board_retire(uint16_t message, uint16_t desk, uint8_t *table, size_t bytes);
 
 /* Reads the next two screens of the hall, or the last one alone, to find out
  * which retired sessions of the desk's list are still shown; then hands back at
  * most one retirement. The answer has its session, or 0 if none is ready (see
- * "When a session may be closed" above). Asks 5, 6. Writes the desk's number of
- * screens read, counts, marks and list. */
-uint32_t board_collect(uint16_t desk, uint8_t *table, size_t bytes);
+ * "When a session may be closed" above). Asks 5, 6, 23. Writes the desk's number
+ * of screens read, counts, marks, list and message number. */
+uint32_t board_collect(uint16_t message, uint16_t desk, uint8_t *table, size_t bytes);
 
 /*
  * The training room: at most 4 desks with 1 screen each, and sessions up to 999.
@@ -161,8 +191,8 @@ uint32_t board_collect(uint16_t desk, uint8_t *table, size_t bytes);
  * refuses more than 4 desks or more than 1 screen: 5 desks with 5 screens get 2,
  * and 5 desks with 1 screen get 22, on a table that is too short too.
  *
- * training_swap asks 5, 6, 8, 22, 12. 22 refuses a session over 999, in a repeat
- * too.
+ * training_swap asks 5, 6, 23, 8, 22, 12. 22 refuses a session over 999, in a
+ * repeat too.
  *
  * A table with more than 4 desks or more than 1 screen is unsound (5) for these
  * calls. Sessions over 999 in the table are not: a host that puts some there, or
@@ -171,18 +201,18 @@ uint32_t board_collect(uint16_t desk, uint8_t *table, size_t bytes);
 uint32_t training_open(uint16_t desks, uint16_t screens, uint16_t positions,
                        uint8_t *table, size_t bytes);
 
-uint32_t training_take(uint16_t desk, uint16_t screen, uint16_t position,
+uint32_t training_take(uint16_t message, uint16_t desk, uint16_t screen, uint16_t position,
                        uint8_t *table, size_t bytes);
 
-uint32_t training_drop(uint16_t desk, uint16_t screen,
+uint32_t training_drop(uint16_t message, uint16_t desk, uint16_t screen,
                        uint8_t *table, size_t bytes);
 
-uint32_t training_swap(uint16_t desk, uint16_t position, uint16_t session,
+uint32_t training_swap(uint16_t message, uint16_t desk, uint16_t position, uint16_t session,
                        uint8_t *table, size_t bytes);
 
-uint32_t training_retire(uint16_t desk, uint8_t *table, size_t bytes);
+uint32_t training_retire(uint16_t message, uint16_t desk, uint8_t *table, size_t bytes);
 
-uint32_t training_collect(uint16_t desk, uint8_t *table, size_t bytes);
+uint32_t training_collect(uint16_t message, uint16_t desk, uint8_t *table, size_t bytes);
 
 #ifdef __cplusplus
 }
