@@ -2,37 +2,40 @@
 //! always points to as many bytes as its length says. Inlined, so that timing them
 //! times the calls alone.
 
+/// Its message number `m`, desk `d`, screen `s` and position `p`; an opening's `p`, `c`
+/// and `l` are the desks, screens and positions.
 mod c {
     extern "C" {
         pub fn board_open(p: u16, c: u16, l: u16, table: *mut u8, bytes: usize) -> u32;
-        pub fn board_take(d: u16, s: u16, p: u16, table: *mut u8, bytes: usize) -> u32;
-        pub fn board_drop(d: u16, s: u16, table: *mut u8, bytes: usize) -> u32;
-        pub fn board_swap(d: u16, p: u16, session: u16, table: *mut u8, bytes: usize) -> u32;
-        pub fn board_retire(d: u16, table: *mut u8, bytes: usize) -> u32;
-        pub fn board_collect(d: u16, table: *mut u8, bytes: usize) -> u32;
+        pub fn board_take(m: u16, d: u16, s: u16, p: u16, table: *mut u8, bytes: usize) -> u32;
+        pub fn board_drop(m: u16, d: u16, s: u16, table: *mut u8, bytes: usize) -> u32;
+        pub fn board_swap(m: u16, d: u16, p: u16, new: u16, table: *mut u8, bytes: usize) -> u32;
+        pub fn board_retire(m: u16, d: u16, table: *mut u8, bytes: usize) -> u32;
+        pub fn board_collect(m: u16, d: u16, table: *mut u8, bytes: usize) -> u32;
 
         pub fn training_open(p: u16, c: u16, l: u16, table: *mut u8, bytes: usize) -> u32;
-        pub fn training_take(d: u16, s: u16, p: u16, table: *mut u8, bytes: usize) -> u32;
-        pub fn training_drop(d: u16, s: u16, table: *mut u8, bytes: usize) -> u32;
-        pub fn training_swap(d: u16, p: u16, session: u16, table: *mut u8, bytes: usize) -> u32;
-        pub fn training_retire(d: u16, table: *mut u8, bytes: usize) -> u32;
-        pub fn training_collect(d: u16, table: *mut u8, bytes: usize) -> u32;
+        pub fn training_take(m: u16, d: u16, s: u16, p: u16, table: *mut u8, bytes: usize) -> u32;
+        pub fn training_drop(m: u16, d: u16, s: u16, table: *mut u8, bytes: usize) -> u32;
+        pub fn training_swap(m: u16, d: u16, p: u16, new: u16, table: *mut u8, bytes: usize)
+            -> u32;
+        pub fn training_retire(m: u16, d: u16, table: *mut u8, bytes: usize) -> u32;
+        pub fn training_collect(m: u16, d: u16, table: *mut u8, bytes: usize) -> u32;
     }
 }
 
 /// A call by how many numbers it has besides the table.
-type OfOne = unsafe extern "C" fn(u16, *mut u8, usize) -> u32;
 type OfTwo = unsafe extern "C" fn(u16, u16, *mut u8, usize) -> u32;
 type OfThree = unsafe extern "C" fn(u16, u16, u16, *mut u8, usize) -> u32;
+type OfFour = unsafe extern "C" fn(u16, u16, u16, u16, *mut u8, usize) -> u32;
 
 /// The six calls of a room.
 pub struct Calls {
     open: OfThree,
-    take: OfThree,
-    drop: OfTwo,
-    swap: OfThree,
-    retire: OfOne,
-    collect: OfOne,
+    take: OfFour,
+    drop: OfThree,
+    swap: OfFour,
+    retire: OfTwo,
+    collect: OfTwo,
 }
 
 pub const HALL: Calls = Calls {
@@ -60,27 +63,41 @@ impl Calls {
     }
 
     #[inline]
-    pub fn take(&self, desk: u16, screen: u16, position: u16, table: &mut [u8]) -> u32 {
-        unsafe { (self.take)(desk, screen, position, table.as_mut_ptr(), table.len()) }
+    pub fn take(
+        &self,
+        message: u16,
+        desk: u16,
+        screen: u16,
+        position: u16,
+        table: &mut [u8],
+    ) -> u32 {
+        unsafe { (self.take)(message, desk, screen, position, table.as_mut_ptr(), table.len()) }
     }
 
     #[inline]
-    pub fn drop(&self, desk: u16, screen: u16, table: &mut [u8]) -> u32 {
-        unsafe { (self.drop)(desk, screen, table.as_mut_ptr(), table.len()) }
+    pub fn drop(&self, message: u16, desk: u16, screen: u16, table: &mut [u8]) -> u32 {
+        unsafe { (self.drop)(message, desk, screen, table.as_mut_ptr(), table.len()) }
     }
 
     #[inline]
-    pub fn swap(&self, desk: u16, position: u16, session: u16, table: &mut [u8]) -> u32 {
-        unsafe { (self.swap)(desk, position, session, table.as_mut_ptr(), table.len()) }
+    pub fn swap(
+        &self,
+        message: u16,
+        desk: u16,
+        position: u16,
+        session: u16,
+        table: &mut [u8],
+    ) -> u32 {
+        unsafe { (self.swap)(message, desk, position, session, table.as_mut_ptr(), table.len()) }
     }
 
     #[inline]
-    pub fn retire(&self, desk: u16, table: &mut [u8]) -> u32 {
-        unsafe { (self.retire)(desk, table.as_mut_ptr(), table.len()) }
+    pub fn retire(&self, message: u16, desk: u16, table: &mut [u8]) -> u32 {
+        unsafe { (self.retire)(message, desk, table.as_mut_ptr(), table.len()) }
     }
 
     #[inline]
-    pub fn collect(&self, desk: u16, table: &mut [u8]) -> u32 {
-        unsafe { (self.collect)(desk, table.as_mut_ptr(), table.len()) }
+    pub fn collect(&self, message: u16, desk: u16, table: &mut [u8]) -> u32 {
+        unsafe { (self.collect)(message, desk, table.as_mut_ptr(), table.len()) }
     }
 }

@@ -22,8 +22,22 @@ pub struct Compared {
     pub repeats: bool,
     /// It is a step, and its table was sound in the hall but too large for its room.
     pub found_too_large: bool,
+    /// The message number that was due, if its table had its desk.
+    pub due_message: Option<u16>,
+    /// It was refused with 23, and its number was due from another desk.
+    pub of_another_desk: bool,
     /// That of the reference.
     pub answer: u32,
+}
+
+impl Compared {
+    pub fn number(&self) -> u16 {
+        (self.answer >> 16) as u16
+    }
+
+    pub fn session(&self) -> u16 {
+        self.answer as u16
+    }
 }
 
 /// Where the two boards differ first.
@@ -44,15 +58,18 @@ impl Case {
     pub fn run(&self, mut seen: impl FnMut(Compared)) -> Option<Difference> {
         let mut of_reference = Guarded::new(&self.table, self.align);
         let mut of_archive = Guarded::new(&self.table, self.align);
-        for (index, call) in self.calls.iter().enumerate() {
+        for (index, &call) in self.calls.iter().enumerate() {
             let repeats = call.repeats(of_reference.table());
             let found_too_large = call.finds_too_large(of_reference.table());
-            let reference = call.to_reference(of_reference.table());
+            let due_message = call.due_message(of_reference.table());
+            let answer = call.to_reference(of_reference.table());
             let archive = call.to_archive(of_archive.table());
-            seen(Compared { call: *call, repeats, found_too_large, answer: reference });
-            if reference != archive || of_reference.bytes() != of_archive.bytes() {
+            let of_another_desk =
+                answer >> 16 == 23 && call.has_message_of_a_desk(of_reference.table());
+            seen(Compared { call, repeats, found_too_large, due_message, of_another_desk, answer });
+            if answer != archive || of_reference.bytes() != of_archive.bytes() {
                 let byte = of_reference.first_difference(&of_archive);
-                return Some(Difference { call: index, reference, archive, byte });
+                return Some(Difference { call: index, reference: answer, archive, byte });
             }
         }
         None
@@ -100,8 +117,8 @@ impl Guarded {
     }
 }
 
-/// `0 | 01 00 01 00 01 00 00*34 | board_swap 1 1 5; training_collect 1`: the alignment, the
-/// table in hex with runs counted, the calls.
+/// `0 | 01 00 01 00 01 00 00*36 | board_swap 0 1 1 5; training_collect 1 1`: the alignment,
+/// the table in hex with runs counted, the calls.
 impl fmt::Display for Case {
     fn fmt(&self, out: &mut fmt::Formatter) -> fmt::Result {
         let calls: Vec<String> = self.calls.iter().map(Call::to_string).collect();

@@ -48,8 +48,9 @@ fn used(record: &[u8]) -> usize {
     COUNTS.iter().map(|&at| usize::from(word(record, at))).sum()
 }
 
+/// Of the list: the last word of the record is the message number.
 fn places(record: &[u8]) -> usize {
-    record.len() / 2 - place::LIST
+    record.len() / 2 - place::LIST - 1
 }
 
 /// Every place is used, and the counts sum to one more than there are places.
@@ -61,7 +62,7 @@ fn one_too_many(rng: &mut Rng, record: &mut [u8]) {
         _ => rng.pick(&COUNTS),
     };
     set_word(record, at, word(record, at) + more as u16);
-    for at in place::LIST..record.len() / 2 {
+    for at in place::LIST..place::LIST + places(record) {
         if word(record, at) == 0 {
             set_word(record, at, 5);
         }

@@ -8,6 +8,7 @@ mod call;
 mod case;
 mod crash;
 mod damage;
+mod distances;
 mod make;
 mod rng;
 mod shrink;

@@ -1,12 +1,13 @@
-//! Cases: openings, histories, and tables that are sound, damaged, truncated or
-//! too long. A case has a room, and most of its calls are of that room.
+//! Cases: openings, histories, and tables that are sound, damaged, truncated, too long
+//! or of the former layout. A case has a room, and most of its calls are of that room;
+//! most calls carry the message number that is due.
 
 use crate::call::{held, Call, Function, Function::*, Room};
 use crate::case::Case;
 use crate::damage::damage;
 use crate::rng::Rng;
-use crate::tables::{any_bytes, any_hall, any_words, sound_table, Sessions};
-use reference::{Hall, Limits};
+use crate::tables::{any_bytes, any_hall, any_message, any_words, sound_table, Sessions};
+use reference::{next_message, set_word, Hall, Limits};
 
 /// The case of this number under this seed.
 pub fn case(seed: u64, number: u64) -> Case {
@@ -58,11 +59,11 @@ fn openings(rng: &mut Rng, room: Room) -> Case {
         let limits = rng.pick(&[room.limits(), Limits::HALL]);
         let most = [limits.desks, limits.screens, limits.positions];
         let numbers = most.map(|most| limited(rng, most));
-        Call::new(mostly(rng, room), Open, &numbers)
+        Call::new(mostly(rng, room), Open, 0, &numbers)
     };
     let calls: Vec<Call> = (0..rng.within(1, 3)).map(|_| opening(rng)).collect();
     let [desks, screens, positions] = calls[0].numbers;
-    let need = Hall::new(Limits::HALL, desks, screens, positions).map_or(20, |hall| hall.need());
+    let need = Hall::new(Limits::HALL, desks, screens, positions).map_or(21, |hall| hall.need());
     let length = around(rng, 2 * need);
     let table = any_bytes(rng, length);
     case_of(rng, table, calls)
@@ -87,8 +88,9 @@ fn around(rng: &mut Rng, need: usize) -> usize {
     }
 }
 
-/// A history from an opening that fills the lists to their bound: a few desks
-/// retire and collect, all of them take and drop, and there are few sessions.
+/// A history that fills the lists to their bound: a few desks retire and collect, all
+/// of them take and drop, and there are few sessions. It begins with an opening, or
+/// with the table of one whose message numbers are about to run on from 65,535 to 0.
 fn history(rng: &mut Rng, room: Room) -> Case {
     let hall = any_hall(rng, room.limits());
     let desks: Vec<u16> = (0..rng.within(1, 3)).map(|_| one_of(rng, hall.desks)).collect();
@@ -100,11 +102,18 @@ fn history(rng: &mut Rng, room: Room) -> Case {
     let most = 20 + 10 * hall.all_screens();
     let steps = rng.within(1, most);
     let length = 2 * hall.need() + rng.below(4);
-    let table = any_bytes(rng, length);
+    let mut table = any_bytes(rng, length);
 
     let sessions = Sessions::any(rng, room.limits());
     let mut calls = Calls::new(room, hall, sessions, table.clone());
-    calls.push_in(room, Open, &[hall.desks, hall.screens, hall.positions]);
+    calls.send(Call::new(room, Open, 0, &[hall.desks, hall.screens, hall.positions]));
+    if rng.one_in(2) {
+        for desk in 1..=hall.desks {
+            set_word(&mut calls.table, hall.message(desk), 65_535 - rng.below(steps) as u16);
+        }
+        table.clone_from(&calls.table);
+        calls.made.clear();
+    }
     while calls.made.len() < steps {
         let desk = rng.pick(&desks);
         match turn(rng, &[takes, drops, retires, collects, repeats, 1]) {
@@ -151,10 +160,14 @@ fn from_damaged_table(rng: &mut Rng, room: Room) -> Case {
     steps(rng, calls, 6)
 }
 
-/// Steps on a sound table that is truncated, or followed by garbage.
+/// Steps on a sound table that is truncated, or followed by garbage; sometimes it is of
+/// the former layout.
 fn from_cut_or_long_table(rng: &mut Rng, room: Room) -> Case {
     let mut calls = on_sound_table(rng, room);
     let table = &mut calls.table;
+    if rng.one_in(8) {
+        without_messages(&calls.hall, table);
+    }
     if rng.one_in(2) {
         let most = rng.pick(&[1, 2, 3, 40]);
         let length = rng.within(1, most);
@@ -168,6 +181,14 @@ fn from_cut_or_long_table(rng: &mut Rng, room: Room) -> Case {
         table.truncate(table.len() - cut);
     }
     steps(rng, calls, 6)
+}
+
+/// The table of the former layout, in which a record has no message number.
+fn without_messages(hall: &Hall, table: &mut Vec<u8>) {
+    for desk in (1..=hall.desks).rev() {
+        let at = 2 * hall.message(desk);
+        table.drain(at..at + 2);
+    }
 }
 
 fn from_any_bytes(rng: &mut Rng, room: Room) -> Case {
@@ -217,16 +238,45 @@ impl Calls {
         Calls { room, hall, sessions, table, made: Vec::new() }
     }
 
-    fn push_in(&mut self, room: Room, function: Function, numbers: &[u16]) {
-        let call = Call::new(room, function, numbers);
+    fn send(&mut self, call: Call) {
         call.to_reference(&mut self.table);
         self.made.push(call);
     }
 
-    /// Mostly in the room of the case, sometimes in the other.
+    /// A step, mostly in the room of the case, sometimes in the other. Sometimes the
+    /// link delivers it twice.
     fn push(&mut self, rng: &mut Rng, function: Function, numbers: &[u16]) {
         let room = mostly(rng, self.room);
-        self.push_in(room, function, numbers);
+        let message = self.message(rng, numbers[0]);
+        let call = Call::new(room, function, message, numbers);
+        self.send(call);
+        if rng.one_in(32) {
+            self.send(call);
+        }
+    }
+
+    /// The message number that is due from a desk, with few exceptions.
+    fn message(&self, rng: &mut Rng, desk: u16) -> u16 {
+        let due = next_message(&self.table, desk).unwrap_or_else(|| any_message(rng));
+        if rng.one_in(24) {
+            self.wrong_message(rng, due)
+        } else {
+            due
+        }
+    }
+
+    /// A number near the one that is due, one that shares a byte with it, that of
+    /// another desk, or any.
+    fn wrong_message(&self, rng: &mut Rng, due: u16) -> u16 {
+        match rng.below(8) {
+            0 => due.wrapping_sub(1),
+            1 => due.wrapping_add(1),
+            2 => due ^ 1 << rng.below(16),
+            3 => due.wrapping_add(256 * rng.within(1, 255) as u16),
+            4 => due & 0xFF00 | rng.word() & 0xFF,
+            5 => next_message(&self.table, one_of(rng, self.hall.desks)).unwrap_or(0),
+            _ => any_message(rng),
+        }
     }
 
     /// What stands at a position; 0 if the table does not have it.
@@ -243,7 +293,7 @@ impl Calls {
         let Hall { desks, screens, positions } = self.hall;
         let desk = number(rng, desks);
         match function {
-            Open => self.push(rng, Open, &[desks, screens, positions]),
+            Open => unreachable!("an opening is no step"),
             Take => {
                 let screen = number(rng, screens);
                 let position = number(rng, positions);

@@ -1,12 +1,18 @@
 //! The smallest case that still differs: fewest calls, then the smallest hall
-//! and table, then the smallest numbers.
+//! and table, then the smallest numbers. The cases here have distances in place of
+//! message numbers.
 
 use crate::call::{Call, Function};
 use crate::case::Case;
+use crate::distances::{with_distances, with_numbers};
 use reference::{place, set_word, word, Hall, Limits};
 
 /// Tries smaller and smaller cases until none of them differs.
 pub fn shrink(case: Case) -> Case {
+    with_numbers(&shrunk(with_distances(&case)))
+}
+
+fn shrunk(case: Case) -> Case {
     let mut smallest = case;
     cut_after_difference(&mut smallest);
     loop {
@@ -26,19 +32,20 @@ pub fn shrink(case: Case) -> Case {
 /// Calls first, then the table's length, then its content.
 pub fn size(case: &Case) -> (usize, usize, u64) {
     let words = (0..case.table.len() / 2).map(|at| u64::from(word(&case.table, at)));
+    let messages = case.calls.iter().map(|call| u64::from(call.message));
     let numbers = case.calls.iter().flat_map(|call| call.numbers).map(u64::from);
     let odd = if case.table.len() % 2 == 1 { case.table.last() } else { None };
     let odd = odd.map_or(0, |&byte| u64::from(byte));
     (
         case.calls.len(),
         case.table.len(),
-        case.align as u64 + odd + words.chain(numbers).sum::<u64>(),
+        case.align as u64 + odd + words.chain(messages).chain(numbers).sum::<u64>(),
     )
 }
 
 /// Takes the other case if it is smaller and still differs.
 fn try_other(smallest: &mut Case, other: Case) -> bool {
-    let better = size(&other) < size(smallest) && other.differs();
+    let better = size(&other) < size(smallest) && with_numbers(&other).differs();
     if better {
         *smallest = other;
         cut_after_difference(smallest);
@@ -47,7 +54,7 @@ fn try_other(smallest: &mut Case, other: Case) -> bool {
 }
 
 fn cut_after_difference(case: &mut Case) {
-    if let Some(difference) = case.run(|_| ()) {
+    if let Some(difference) = with_numbers(case).run(|_| ()) {
         case.calls.truncate(difference.call + 1);
     }
 }
@@ -77,7 +84,8 @@ fn has_opening(case: &Case) -> bool {
 fn later_start(smallest: &mut Case) {
     while smallest.calls.len() > 1 && !has_opening(smallest) {
         let mut other = smallest.clone();
-        other.calls.remove(0).to_reference(&mut other.table);
+        with_numbers(smallest).calls[0].to_reference(&mut other.table);
+        other.calls.remove(0);
         if !try_other(smallest, other) {
             return;
         }
@@ -108,7 +116,8 @@ fn emptier_records(smallest: &mut Case) {
 
 /// The record without this list place, and with this count reduced by one.
 fn leave_out(record: &mut [u8], at: usize, count: usize) {
-    let list = &mut record[2 * place::LIST..];
+    let message = record.len() - 2;
+    let list = &mut record[2 * place::LIST..message];
     let end = list.len() - 2;
     list.copy_within(2 * at + 2.., 2 * at);
     list[end..].fill(0);
@@ -180,6 +189,7 @@ fn pairs_of_words(from: &Hall, to: &Hall, skipped: u16) -> Vec<(usize, usize)> {
         pairs.extend((1..=to.screens).map(|s| (from.screen(old, s), to.screen(desk, s))));
         let (here, there) = (from.record(old).start, to.record(desk).start);
         pairs.extend((0..place::LIST + 2 * to.all_screens()).map(|at| (here + at, there + at)));
+        pairs.push((from.message(old), to.message(desk)));
     }
     pairs
 }
@@ -242,6 +252,11 @@ fn smaller_numbers(smallest: &mut Case) {
     }
     let mut index = 0;
     while index < smallest.calls.len() {
+        lower(
+            smallest,
+            |case| case.calls[index].message,
+            |case, value| case.calls[index].message = value,
+        );
         for field in 0..3 {
             if index < smallest.calls.len() {
                 lower(

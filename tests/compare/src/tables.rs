@@ -110,6 +110,16 @@ fn any_lengths(rng: &mut Rng, all_screens: usize) -> Lengths {
     }
 }
 
+/// A desk's next message number: often about to run on from 65,535 to 0.
+pub fn any_message(rng: &mut Rng) -> u16 {
+    match rng.below(4) {
+        0 => rng.pick(&[0, 1, 2]),
+        1 => rng.pick(&[65_533, 65_534, 65_535]),
+        2 => rng.pick(&[254, 255, 256, 0x7FFF, 0x8000, 0xFF00]),
+        _ => rng.word(),
+    }
+}
+
 fn sound_record(
     rng: &mut Rng,
     hall: &Hall,
@@ -124,6 +134,8 @@ fn sound_record(
     for at in 0..ready + tested + waiting {
         set_word(record, place::LIST + at, sessions.pick_some(rng));
     }
+    let message = record.len() / 2 - 1;
+    set_word(record, message, any_message(rng));
     if tested > 0 {
         let scanned = 2 * rng.within(1, (hall.all_screens() - 1) / 2);
         set_word(record, place::SCANNED, scanned as u16);

@@ -1,12 +1,12 @@
 //! What was compared: the calls of each room and function, and among the swaps the
-//! repeats, by reply number.
+//! repeats, by reply number and by what else they showed.
 
-use crate::call::{Function, Room, FUNCTIONS, ROOMS};
+use crate::call::{Room, FUNCTIONS, ROOMS};
 use crate::case::Compared;
 use std::fmt;
 
 /// The reply numbers of calls. Those between are replies to sheets.
-const NUMBERS: [usize; 16] = [0, 1, 2, 3, 4, 5, 6, 7, 8, 9, 10, 11, 12, 13, 14, 22];
+const NUMBERS: [u16; 17] = [0, 1, 2, 3, 4, 5, 6, 7, 8, 9, 10, 11, 12, 13, 14, 22, 23];
 
 /// A column for each function, and two for repeats: a swap to the session
 /// already there, and one of 0 onto an empty position.
@@ -25,29 +25,72 @@ fn name(column: usize) -> &'static str {
 /// The reply numbers that must occur in a column. A repeat never gets 8, because a
 /// position that the hall does not have holds nothing to repeat; and 0 is never over
 /// a limit.
-fn replies(room: Room, column: usize) -> &'static [usize] {
+fn replies(room: Room, column: usize) -> &'static [u16] {
     match (column, room) {
-        (REPEAT, Room::Training) => &[0, 5, 6, 22, 12],
-        (REPEAT | REPEAT_OF_NONE, _) => &[0, 5, 6, 12],
+        (REPEAT, Room::Training) => &[0, 5, 6, 23, 22, 12],
+        (REPEAT | REPEAT_OF_NONE, _) => &[0, 5, 6, 23, 12],
         (function, _) => FUNCTIONS[function].replies(room),
     }
 }
 
-/// Is it a function that reads the table?
+/// Does every call of the column read the table? Repeats are swaps.
 fn is_step(column: usize) -> bool {
-    column < REPEAT && FUNCTIONS[column] != Function::Open
+    column >= REPEAT || FUNCTIONS[column].is_step()
 }
+
+/// What a call may show besides its reply number.
+struct Note {
+    name: &'static str,
+    shown_by: fn(&Compared) -> bool,
+    /// Must a call of this column show it?
+    is_due: fn(Room, usize) -> bool,
+}
+
+const NOTES: [Note; 7] = [
+    Note { name: "with session", shown_by: |of| of.session() != 0, is_due: |_, _| false },
+    // The host put it into the table: no swap of the room does.
+    Note {
+        name: "over limit",
+        shown_by: |of| of.session() > of.call.room.limits().sessions,
+        is_due: |room, column| room == Room::Training && is_step(column) && column < REPEAT,
+    },
+    // The table is sound in the hall.
+    Note {
+        name: "table too large",
+        shown_by: |of| of.found_too_large,
+        is_due: |room, column| room == Room::Training && is_step(column),
+    },
+    Note {
+        name: "65535 accepted",
+        shown_by: |of| of.number() == 0 && of.due_message == Some(65_535),
+        is_due: |_, column| is_step(column),
+    },
+    // The number of the message before, accepted already.
+    Note {
+        name: "23 sent twice",
+        shown_by: |of| of.number() == 23 && of.due_message == Some(of.call.message.wrapping_add(1)),
+        is_due: |_, column| is_step(column),
+    },
+    Note {
+        name: "23 other desk's",
+        shown_by: |of| of.of_another_desk,
+        is_due: |_, column| is_step(column),
+    },
+    Note {
+        name: "23 low byte due",
+        shown_by: |of| {
+            let low_byte_is_due = |due: u16| due & 255 == of.call.message & 255;
+            of.number() == 23 && of.due_message.is_some_and(low_byte_is_due)
+        },
+        is_due: |_, column| is_step(column),
+    },
+];
 
 /// The calls of a room, in columns.
 #[derive(Default)]
 struct Counts {
     by_number: [[u64; COLUMNS]; NUMBERS.len()],
-    /// Accepted calls that replied a session.
-    with_session: [u64; COLUMNS],
-    /// Those that replied a session over the room's limit, which a host put there.
-    over_limit: [u64; COLUMNS],
-    /// Steps on a table that is sound in the hall, but too large for the room.
-    too_large: [u64; COLUMNS],
+    by_note: [[u64; COLUMNS]; NOTES.len()],
 }
 
 #[derive(Default)]
@@ -78,32 +121,25 @@ impl Tally {
 impl Counts {
     /// Counts an answer of the reference.
     fn count(&mut self, column: usize, compared: &Compared) {
-        let (number, session) = ((compared.answer >> 16) as usize, compared.answer as u16);
-        let row = NUMBERS.iter().position(|&of_row| of_row == number);
-        let over_limit = session > compared.call.room.limits().sessions;
+        let row = NUMBERS.iter().position(|&number| number == compared.number());
         self.by_number[row.expect("a reply number of a call")][column] += 1;
-        self.with_session[column] += u64::from(session != 0);
-        self.over_limit[column] += u64::from(over_limit);
-        self.too_large[column] += u64::from(compared.found_too_large);
+        for (note, by_column) in NOTES.iter().zip(&mut self.by_note) {
+            by_column[column] += u64::from((note.shown_by)(compared));
+        }
     }
 
     fn missing(&self, room: Room) -> Vec<String> {
         let mut missing = Vec::new();
         for column in 0..COLUMNS {
-            let mut never = |what: &str| {
-                missing.push(format!("{}_{} never {what}", room.prefix(), name(column)));
-            };
+            let call = format!("{}_{}", room.prefix(), name(column));
             for (number, by_column) in NUMBERS.iter().zip(&self.by_number) {
                 if replies(room, column).contains(number) && by_column[column] == 0 {
-                    never(&format!("answered {number}"));
+                    missing.push(format!("{call} never answered {number}"));
                 }
             }
-            if room == Room::Training && is_step(column) {
-                if self.over_limit[column] == 0 {
-                    never("replied a session over the room's limit");
-                }
-                if self.too_large[column] == 0 {
-                    never("got a table that is sound in the hall only");
+            for (note, by_column) in NOTES.iter().zip(&self.by_note) {
+                if (note.is_due)(room, column) && by_column[column] == 0 {
+                    missing.push(format!("{call} never showed: {}", note.name));
                 }
             }
         }
@@ -117,13 +153,9 @@ impl Counts {
         for (column, sum) in all.iter_mut().enumerate() {
             *sum = self.by_number.iter().map(|calls| calls[column]).sum();
         }
-        let sums = [
-            ("calls", all),
-            ("with session", self.with_session),
-            ("over limit", self.over_limit),
-            ("table too large", self.too_large),
-        ];
-        by_number.chain(sums.map(|(name, calls)| (name.to_string(), calls)))
+        let by_note = NOTES.iter().zip(self.by_note);
+        let by_note = by_note.map(|(note, calls)| (note.name.to_string(), calls));
+        by_number.chain([("calls".to_string(), all)]).chain(by_note)
     }
 }
 

@@ -36,19 +36,19 @@ macro_rules! calls {
 calls! {
     Limits::HALL;
     board_open = open(desks, screens, positions);
-    board_take = take(desk, screen, position);
-    board_drop = drop(desk, screen);
-    board_swap = swap(desk, position, session);
-    board_retire = retire(desk);
-    board_collect = collect(desk);
+    board_take = take(message, desk, screen, position);
+    board_drop = drop(message, desk, screen);
+    board_swap = swap(message, desk, position, session);
+    board_retire = retire(message, desk);
+    board_collect = collect(message, desk);
 }
 
 calls! {
     Limits::TRAINING;
     training_open = open(desks, screens, positions);
-    training_take = take(desk, screen, position);
-    training_drop = drop(desk, screen);
-    training_swap = swap(desk, position, session);
-    training_retire = retire(desk);
-    training_collect = collect(desk);
+    training_take = take(message, desk, screen, position);
+    training_drop = drop(message, desk, screen);
+    training_swap = swap(message, desk, position, session);
+    training_retire = retire(message, desk);
+    training_collect = collect(message, desk);
 }

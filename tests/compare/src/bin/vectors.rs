@@ -4,16 +4,21 @@
 //!
 //! Each line must get its answer and leave its bytes on both. Every line that
 //! does not is printed, with what was expected and what came.
+//!
+//! The name of a file says its job, as in job-05-calls.txt. The calls of a job before 6
+//! are translated (former.rs); all of them can be.
 
 #[allow(dead_code)]
 #[path = "../call.rs"]
 mod call;
+#[path = "../former.rs"]
+mod former;
 #[path = "../vector_bytes.rs"]
 mod vector_bytes;
 
 use call::Call;
+use std::path::Path;
 use std::process::ExitCode;
-use std::str::FromStr;
 use std::{env, fs};
 use vector_bytes::bytes;
 
@@ -23,16 +28,23 @@ fn main() -> ExitCode {
         eprintln!("usage: vectors FILE...");
         return ExitCode::from(2);
     }
-    let (mut calls, mut faults) = (0, Vec::new());
+    let (mut calls, mut translated, mut faults) = (0, 0, Vec::new());
     for file in &files {
-        match run_file(file, &mut faults) {
+        let of_file = layout(file).and_then(|layout| {
+            let of_file = run_file(file, layout, &mut faults)?;
+            translated += if layout == Layout::Former { of_file } else { 0 };
+            Ok(of_file)
+        });
+        match of_file {
             Ok(of_file) => calls += of_file,
             Err(fault) => faults.push(format!("{file}: {fault}")),
         }
     }
     faults.iter().for_each(|fault| println!("{fault}"));
     if faults.is_empty() {
-        println!("vectors: {calls} calls agree, archive and reference");
+        println!(
+            "vectors: {calls} calls agree, archive and reference; {translated} of them translated"
+        );
         ExitCode::SUCCESS
     } else {
         println!("vectors: {calls} calls, {} faults", faults.len());
@@ -40,8 +52,26 @@ fn main() -> ExitCode {
     }
 }
 
+/// That of the calls and tables of a file.
+#[derive(Clone, Copy, PartialEq, Eq)]
+enum Layout {
+    /// Without message numbers.
+    Former,
+    Current,
+}
+
+fn layout(file: &str) -> Result<Layout, String> {
+    let name = Path::new(file).file_name().and_then(|name| name.to_str()).unwrap_or_default();
+    let job = name.strip_prefix("job-").and_then(|rest| rest.get(..2)?.parse::<u8>().ok());
+    match job {
+        Some(1..=5) => Ok(Layout::Former),
+        Some(_) => Ok(Layout::Current),
+        None => Err("the name does not say the job".into()),
+    }
+}
+
 /// How many calls a file has. None is an error.
-fn run_file(file: &str, faults: &mut Vec<String>) -> Result<usize, String> {
+fn run_file(file: &str, layout: Layout, faults: &mut Vec<String>) -> Result<usize, String> {
     let text = fs::read_to_string(file).map_err(|error| error.to_string())?;
     let mut calls = 0;
     for (number, line) in (1..).zip(text.lines()) {
@@ -49,7 +79,7 @@ fn run_file(file: &str, faults: &mut Vec<String>) -> Result<usize, String> {
             continue;
         }
         calls += 1;
-        let of_line = match line.parse::<Vector>() {
+        let of_line = match Vector::of_line(line, layout) {
             Ok(vector) => vector.faults(),
             Err(fault) => vec![fault],
         };
@@ -106,16 +136,13 @@ fn reply(answer: u32) -> String {
     format!("{} {}", answer >> 16, answer & 0xFFFF)
 }
 
-/// `board_swap 1 1 5 | 010001000100.00*34 | 0 0 | 0100010001000500.00*32`
-impl FromStr for Vector {
-    type Err = String;
-
-    fn from_str(line: &str) -> Result<Vector, String> {
+impl Vector {
+    /// `board_swap 0 1 1 5 | 010001000100.00*36 | 0 0 | 0100010001000500.00*32.0100`
+    fn of_line(line: &str, layout: Layout) -> Result<Vector, String> {
         let fields: Vec<&str> = line.split(" | ").collect();
         let [text, table, answer, after] = fields[..] else {
             return Err(format!("{} fields, not 4", fields.len()));
         };
-        let call = text.parse()?;
         let table = bytes(table)?;
         let answer = numbers(answer)?;
         // `=` is a table that has not changed. A call cannot change its length.
@@ -123,7 +150,15 @@ impl FromStr for Vector {
         if after.len() != table.len() {
             return Err(format!("{text}: the table after the call has another length"));
         }
-        Ok(Vector { text: text.into(), call, table, answer, after })
+        let text = text.to_string();
+        Ok(match layout {
+            Layout::Current => Vector { call: text.parse()?, text, table, answer, after },
+            Layout::Former => {
+                let call = former::call(&text)?;
+                let after = former::after(call, answer >> 16 == 0, &table, &after);
+                Vector { text, call, table: former::before(call, &table), answer, after }
+            }
+        })
     }
 }
 
