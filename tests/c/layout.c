@@ -36,7 +36,22 @@ size_t screen_index(const uint8_t *table, uint16_t desk, uint16_t screen)
 size_t record_index(const uint8_t *table, uint16_t desk)
 {
     size_t all = all_screens(table);
-    return first_screen(table) + all + (desk - 1u) * (LIST + 2 * all);
+    return first_screen(table) + all + (desk - 1u) * (LIST + 2 * all + 1);
+}
+
+size_t message_index(const uint8_t *table, uint16_t desk)
+{
+    return record_index(table, desk) + LIST + 2 * all_screens(table);
+}
+
+uint16_t due_message(const uint8_t *table, size_t bytes, uint16_t desk)
+{
+    if (bytes < 2 * HEADER || read_word(table, 0) > BOARD_MAX_DESKS || read_word(table, 1) > BOARD_MAX_SCREENS ||
+        read_word(table, 2) > BOARD_MAX_POSITIONS)
+        return 0;
+    if (desk == 0 || desk > read_word(table, 0) || message_index(table, desk) >= bytes / 2)
+        return 0;
+    return read_word(table, message_index(table, desk));
 }
 
 static void add_words(struct footprint *footprint, size_t index, size_t words)
@@ -76,6 +91,7 @@ struct footprint footprint_of(const struct call *call, const uint8_t *table)
     default:
         add_words(&footprint, record + SCANNED, LIST + 2 * all_screens(table) - SCANNED);
     }
+    add_words(&footprint, message_index(table, numbers[0]), 1);
     return footprint;
 }
 

@@ -1,5 +1,5 @@
-/* The words of a table by document 01's layout, and the bytes that an accepted
- * call may write. Indices count words from the start of the table. */
+/* The words of a table by the layout of documents 01 and 02, and the bytes that an
+ * accepted call may write. Indices count words from the start of the table. */
 #ifndef LAYOUT_H
 #define LAYOUT_H
 
@@ -7,7 +7,8 @@
 
 #include <stdbool.h>
 
-/* Offsets in a desk's record. */
+/* Offsets in a desk's record. Its last word, behind the list, is the desk's next
+ * message number. */
 enum { OWED = 0, SCANNED = 1, READY = 2, TESTED = 3, WAITING = 4, MARKS = 5, LIST = 13 };
 
 uint16_t read_word(const uint8_t *table, size_t index);
@@ -18,17 +19,23 @@ size_t all_screens(const uint8_t *table);
 size_t position_index(uint16_t position);
 size_t screen_index(const uint8_t *table, uint16_t desk, uint16_t screen);
 size_t record_index(const uint8_t *table, uint16_t desk);
+size_t message_index(const uint8_t *table, uint16_t desk);
+
+/* The message number that is due from a desk, also where the table is not sound; 0
+ * if its hall does not have the desk, or if it is too short for that. */
+uint16_t due_message(const uint8_t *table, size_t bytes, uint16_t desk);
 
 /* Ranges of bytes of the table, the end excluded. */
 struct footprint {
     size_t count;
     struct range {
         size_t first, past;
-    } ranges[3];
+    } ranges[4];
 };
 
-/* What a call writes if it is accepted, given the table before the call: no
- * range for a swap to what is already at the position. */
+/* What a call writes if it is accepted, given the table before the call. The last
+ * range of a step is the desk's message number, and the only one of a swap to what is
+ * already at the position. */
 struct footprint footprint_of(const struct call *call, const uint8_t *table);
 bool in_footprint(const struct footprint *footprint, size_t byte);
 

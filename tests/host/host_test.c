@@ -7,10 +7,12 @@
  *
  * Where asked for, each call is made again on copies of its table whose pages
  * are read-only, except those with a word of the call's footprint: this catches
- * a store to any other page, even one that changes nothing. A refusal and a
- * repeat have no footprint, so that every page is read-only.
+ * a store to any other page, even one that changes nothing. A refusal has no
+ * footprint, so that every page is read-only; that of a repeat is the desk's
+ * message number alone.
  *
- * All of it is done in the hall and in the training room.
+ * A step carries the message number that is due from its desk, if nothing else is
+ * said. All of it is done in the hall and in the training room.
  */
 #define _DEFAULT_SOURCE
 #include "guarded_memory.h"
@@ -210,15 +212,26 @@ static bool only_footprint_changed(const struct footprint *footprint)
     return true;
 }
 
+/* The reply numbers that calls have. */
+static bool is_reply(const struct call *call, uint16_t number)
+{
+    if (number == BOARD_OVER_LIMITS)
+        return call->room == TRAINING && (call->function == OPEN || call->function == SWAP);
+    return number <= BOARD_NO_ROOM || (number == BOARD_OTHER_MESSAGE && call->function != OPEN);
+}
+
+static uint16_t due(uint16_t desk)
+{
+    return due_message(lent.table, lent.bytes, desk);
+}
+
 /* Makes a call on the lent table, and checks what holds of every call. */
 static uint32_t perform(struct call call)
 {
     struct footprint footprint = {0};
     memcpy(before, lent.table, lent.bytes);
     uint32_t answer = send_call(&call, lent.table, bytes_passed);
-    check(board_number(answer) <= BOARD_NO_ROOM ||
-              (board_number(answer) == BOARD_OVER_LIMITS && call.room == TRAINING),
-          "a reply number from 0 to 14, or 22 in the training room");
+    check(is_reply(&call, board_number(answer)), "a reply number of the call");
     check(guards_intact(&lent, writable), "nothing written outside the table's need");
     if (board_number(answer) != BOARD_ACCEPTED) {
         check(board_session(answer) == 0, "a refusal has session 0");
@@ -226,6 +239,8 @@ static uint32_t perform(struct call call)
     } else {
         footprint = footprint_of(&call, before);
         check(only_footprint_changed(&footprint), "only the words of the call's footprint change");
+        check(call.function == OPEN || due(call.numbers[0]) == (uint16_t)(call.message + 1),
+              "an accepted step moves its desk's message number on");
     }
     if (read_only)
         again_on_read_only_pages(&call, answer, &footprint);
@@ -234,32 +249,38 @@ static uint32_t perform(struct call call)
 
 static uint32_t open_hall(uint16_t desks, uint16_t screens, uint16_t positions)
 {
-    return perform((struct call){room, OPEN, {desks, screens, positions}});
+    return perform((struct call){room, OPEN, 0, {desks, screens, positions}});
+}
+
+/* A step with the message number that is due. */
+static uint32_t step(enum function function, uint16_t desk, uint16_t second, uint16_t third)
+{
+    return perform((struct call){room, function, due(desk), {desk, second, third}});
 }
 
 static uint32_t take(uint16_t desk, uint16_t screen, uint16_t position)
 {
-    return perform((struct call){room, TAKE, {desk, screen, position}});
+    return step(TAKE, desk, screen, position);
 }
 
 static uint32_t drop(uint16_t desk, uint16_t screen)
 {
-    return perform((struct call){room, DROP, {desk, screen, 0}});
+    return step(DROP, desk, screen, 0);
 }
 
 static uint32_t swap(uint16_t desk, uint16_t position, uint16_t session)
 {
-    return perform((struct call){room, SWAP, {desk, position, session}});
+    return step(SWAP, desk, position, session);
 }
 
 static uint32_t retire(uint16_t desk)
 {
-    return perform((struct call){room, RETIRE, {desk, 0, 0}});
+    return step(RETIRE, desk, 0, 0);
 }
 
 static uint32_t collect(uint16_t desk)
 {
-    return perform((struct call){room, COLLECT, {desk, 0, 0}});
+    return step(COLLECT, desk, 0, 0);
 }
 
 static void accepts(uint32_t answer, uint16_t session, const char *what)
@@ -285,6 +306,14 @@ static void set_word(size_t at, uint16_t value)
 static size_t record(uint16_t desk)
 {
     return record_index(lent.table, desk);
+}
+
+/* Has the last call, a step of this desk, changed its message number alone? */
+static bool only_message_changed(uint16_t desk)
+{
+    size_t message = 2 * message_index(lent.table, desk), past = message + 2;
+    return memcmp(before, lent.table, message) == 0 &&
+           memcmp(before + past, lent.table + past, lent.bytes - past) == 0;
 }
 
 /* ---- the hall book --------------------------------------------------- */
@@ -325,16 +354,16 @@ static void show(uint16_t desk, uint16_t session)
 
 static void case_a(void)
 {
-    check(board_need(1, 1, 1) == 20, "A: need 20");
-    lend(book_place, 2 * 19);
-    refuses(open_hall(1, 1, 1), BOARD_TABLE_SHORT, "A: 19 words give 4");
+    check(board_need(1, 1, 1) == 21, "A: need 21");
+    lend(book_place, 2 * 20);
+    refuses(open_hall(1, 1, 1), BOARD_TABLE_SHORT, "A: 20 words give 4");
     hall(1, 1, 1);
 }
 
 static void case_b(void)
 {
-    check(board_need(16, 4, 64) == BOARD_MAX_WORDS, "B: need 2387");
-    check(2 * BOARD_MAX_WORDS == BOARD_MAX_BYTES, "B: 4774 bytes");
+    check(board_need(16, 4, 64) == 2403, "B: need 2403");
+    check(BOARD_MAX_WORDS == 2403 && BOARD_MAX_BYTES == 4806, "B: the header's numbers");
     hall(limits->desks, limits->screens, limits->positions);
     refuses(open_hall(17, 4, 64), BOARD_BAD_DESKS, "B: 17 desks give 1");
 }
@@ -411,14 +440,14 @@ static void case_i(void)
 {
     hall(1, 1, 1);
     accepts(collect(1), 0, "I: nothing to collect");
-    check(memcmp(before, lent.table, lent.bytes) == 0, "I: nothing written");
+    check(only_message_changed(1), "I: nothing else written");
 }
 
 static void case_j(void)
 {
     hall(1, 1, 1);
     accepts(swap(1, 1, 0), 0, "J: nothing for nothing");
-    check(memcmp(before, lent.table, lent.bytes) == 0, "J: nothing written");
+    check(only_message_changed(1), "J: nothing else written");
     refuses(retire(1), BOARD_OWES_NOTHING, "J: nothing owed");
 }
 
@@ -510,14 +539,14 @@ static void every_length(int place)
     static const uint8_t header[6] = {1, 0, 1, 0, 1, 0};
     for (size_t bytes = 0; bytes <= 50; bytes++) {
         lend(place, bytes);
-        if (bytes / 2 < 20) {
+        if (bytes / 2 < 21) {
             refuses(open_hall(1, 1, 1), BOARD_TABLE_SHORT, "too short to open");
             refuses(open_hall(0, 1, 1), BOARD_BAD_DESKS, "1 is asked before 4");
             memset(lent.table, 0, bytes);
             memcpy(lent.table, header, bytes < 6 ? bytes : 6);
             steps_refuse_with_5();
         } else {
-            writable = 40;
+            writable = 42;
             accepts(open_hall(1, 1, 1), 0, "long enough to open");
             accepts(swap(1, 1, 9), 0, "a swap");
             accepts(take(1, 1, 1), 9, "a take");
@@ -537,11 +566,11 @@ static void no_table(void)
     refuses(board->open(1, 5, 0, NULL, 0), BOARD_BAD_SCREENS, "open gives 2");
     refuses(board->open(1, 1, 65, NULL, 0), BOARD_BAD_POSITIONS, "open gives 3");
     refuses(board->open(1, 1, 1, NULL, 0), BOARD_TABLE_SHORT, "open gives 4");
-    refuses(board->take(1, 1, 1, NULL, 0), BOARD_UNSOUND, "take gives 5");
-    refuses(board->drop(1, 1, NULL, 0), BOARD_UNSOUND, "drop gives 5");
-    refuses(board->swap(1, 1, 1, NULL, 0), BOARD_UNSOUND, "swap gives 5");
-    refuses(board->retire(1, NULL, 0), BOARD_UNSOUND, "retire gives 5");
-    refuses(board->collect(1, NULL, 0), BOARD_UNSOUND, "collect gives 5");
+    refuses(board->take(0, 1, 1, 1, NULL, 0), BOARD_UNSOUND, "take gives 5");
+    refuses(board->drop(0, 1, 1, NULL, 0), BOARD_UNSOUND, "drop gives 5");
+    refuses(board->swap(0, 1, 1, 1, NULL, 0), BOARD_UNSOUND, "swap gives 5");
+    refuses(board->retire(0, 1, NULL, 0), BOARD_UNSOUND, "retire gives 5");
+    refuses(board->collect(0, 1, NULL, 0), BOARD_UNSOUND, "collect gives 5");
 }
 
 static uint32_t random_state = 1;
@@ -568,7 +597,7 @@ static void fill(enum filling with)
 
 static void unopened(int place, enum filling with)
 {
-    static const size_t lengths[] = {0, 1, 2, 3, 5, 6, 7, 39, 40, 41, 50, 76, 77,
+    static const size_t lengths[] = {0, 1, 2, 3, 5, 6, 7, 41, 42, 43, 50, 80, 81, 85, 86, 87,
                                      1000, BOARD_MAX_BYTES - 1, BOARD_MAX_BYTES};
     for (size_t i = 0; i < sizeof lengths / sizeof *lengths; i++) {
         lend(place, lengths[i]);
@@ -655,7 +684,7 @@ static uint16_t held_at(uint16_t position)
 static void repeat(uint16_t desk, uint16_t position)
 {
     accepts(swap(desk, position, held_at(position)), held_at(position), "a repeat replies what is there");
-    check(memcmp(before, lent.table, lent.bytes) == 0, "a repeat leaves every byte");
+    check(only_message_changed(desk), "a repeat leaves every other byte");
     refuses(retire(desk), BOARD_OWES_NOTHING, "a repeat owes nothing");
 }
 
@@ -721,6 +750,108 @@ static void repeats(uint16_t desks, uint16_t screens, uint16_t positions)
     repeat(1, 1);
 }
 
+/* ---- message numbers ------------------------------------------------- */
+
+static void set_due(uint16_t desk, uint16_t message)
+{
+    set_word(message_index(lent.table, desk), message);
+}
+
+/* A step with another number, near the one that is due or with a byte of it. */
+static void other_numbers(enum function function, uint16_t desk, uint16_t second, uint16_t third)
+{
+    static const uint16_t distances[] = {65535, 1, 2, 255, 256, 257, 0x7F00, 0x8000, 0xFF00};
+    uint16_t number = due(desk);
+    for (size_t i = 0; i < sizeof distances / sizeof *distances; i++) {
+        uint16_t message = (uint16_t)(number + distances[i]);
+        refuses(perform((struct call){room, function, message, {desk, second, third}}), BOARD_OTHER_MESSAGE,
+                "another number gives 23");
+    }
+}
+
+/* A step that is answered thus, with its number only; accepted, it is then refused
+ * as sent twice. */
+static void numbered(enum function function, uint16_t desk, uint16_t second, uint16_t third, uint32_t answer)
+{
+    const struct call call = {room, function, due(desk), {desk, second, third}};
+    other_numbers(function, desk, second, third);
+    check(perform(call) == answer, "the answer to the number that is due");
+    if (board_number(answer) == BOARD_ACCEPTED)
+        refuses(perform(call), BOARD_OTHER_MESSAGE, "the same message again gives 23");
+    else
+        check(due(desk) == call.message, "the number is still due");
+}
+
+static uint32_t refusal(enum board_reply number)
+{
+    return (uint32_t)number << 16;
+}
+
+/* 23 is asked after 6 and before everything else. */
+static void numbered_refusals(uint16_t desk)
+{
+    uint16_t desks = word(0), no_screen = (uint16_t)(word(1) + 1), no_position = (uint16_t)(word(2) + 1);
+    for (enum function function = TAKE; function <= COLLECT; function++)
+        for (uint16_t message = 0; message < 3; message++) {
+            const struct call none = {room, function, message, {0, 1, 1}};
+            const struct call past = {room, function, message, {(uint16_t)(desks + 1), 1, 1}};
+            refuses(perform(none), BOARD_NO_DESK, "6 is asked before 23");
+            refuses(perform(past), BOARD_NO_DESK, "6 is asked before 23");
+        }
+    numbered(TAKE, desk, no_screen, no_position, refusal(BOARD_NO_SCREEN));
+    numbered(DROP, desk, no_screen, 0, refusal(BOARD_NO_SCREEN));
+    numbered(TAKE, desk, 1, no_position, refusal(BOARD_NO_POSITION));
+    numbered(SWAP, desk, no_position, 65535, refusal(BOARD_NO_POSITION));
+    if (room == TRAINING)
+        numbered(SWAP, desk, 1, 1000, refusal(BOARD_OVER_LIMITS));
+    numbered(TAKE, desk, 1, 1, refusal(BOARD_POSITION_EMPTY));
+    numbered(DROP, desk, 1, 0, refusal(BOARD_SCREEN_EMPTY));
+    numbered(RETIRE, desk, 0, 0, refusal(BOARD_OWES_NOTHING));
+}
+
+/* All steps of a desk whose numbers start here; they run on from 65535 to 0. */
+static void numbered_steps(uint16_t desks, uint16_t screens, uint16_t positions, uint16_t desk, uint16_t first)
+{
+    hall(desks, screens, positions);
+    for (uint16_t other = 1; other <= desks; other++)
+        set_due(other, (uint16_t)(other == desk ? first : first + other));
+    numbered_refusals(desk);
+    numbered(COLLECT, desk, 0, 0, 0);
+    numbered(SWAP, desk, 1, 0, 0); /* a repeat */
+    numbered(SWAP, desk, 1, 300, 0);
+    numbered(SWAP, desk, 1, 300, 300); /* a repeat */
+    numbered(TAKE, desk, 1, 1, 300);
+    numbered(TAKE, desk, 1, 1, refusal(BOARD_SCREEN_FULL));
+    numbered(SWAP, desk, 1, 301, 300);
+    numbered(SWAP, desk, 1, 301, refusal(BOARD_OWING));
+    numbered(RETIRE, desk, 0, 0, 300);
+    numbered(DROP, desk, 1, 0, 300);
+    for (uint16_t reads = 2; reads < desks * screens; reads += 2)
+        numbered(COLLECT, desk, 0, 0, 0);
+    numbered(COLLECT, desk, 0, 0, 300);
+    for (uint16_t other = 1; other <= desks; other++)
+        check(other == desk || due(other) == (uint16_t)(first + other), "other desks' numbers stay");
+}
+
+/* A collect that is sent twice hands back one session, and an opening begins again
+ * with 0. */
+static void twice(uint16_t desks)
+{
+    hall(desks, 1, 1);
+    wait_on_list(desks, 5);
+    wait_on_list(desks, 6);
+    for (uint16_t reads = 2; reads < desks; reads += 2)
+        accepts(collect(desks), 0, "reading the hall");
+    numbered(COLLECT, desks, 0, 0, 5);
+    numbered(COLLECT, desks, 0, 0, 6);
+    set_word(record(desks) + WAITING, 1); /* unsound */
+    for (uint16_t message = 0; message < 20; message++)
+        refuses(perform((struct call){room, COLLECT, message, {desks, 0, 0}}), BOARD_UNSOUND, "5 is asked before 23");
+    accepts(open_hall(desks, 1, 1), 0, "open again");
+    for (uint16_t desk = 1; desk <= desks; desk++)
+        accepts(perform((struct call){room, COLLECT, 0, {desk, 0, 0}}), 0, "number 0");
+}
+
 /* ---- over the limits of the training room ---------------------------- */
 
 /* The hall opens a table that is too large for the training room, which then
@@ -775,24 +906,30 @@ enum { STACK_SAID = 1024, STACK = 64 * 1024, UNTOUCHED = 0xA5 };
 
 static uint16_t busy_desks, busy_screens, busy_positions;
 
+static inline bool is_accepted(uint32_t answer)
+{
+    return board_number(answer) == BOARD_ACCEPTED;
+}
+
 /* Lists that fill up, and then collects that mark, settle and hand back. */
 static void busy_hall(void)
 {
     static uint8_t table[BOARD_MAX_BYTES];
     const struct board *board = &boards[room];
     size_t bytes = sizeof table;
+    uint16_t message = 0;
     board->open(busy_desks, busy_screens, busy_positions, table, bytes);
     for (uint16_t session = 1; session <= 130; session++) {
-        board->swap(1, 1, session, table, bytes);
-        board->swap(1, 1, session, table, bytes); /* a repeat */
-        board->take(1, 1, 1, table, bytes);
-        board->swap(1, 1, 0, table, bytes);
-        board->retire(1, table, bytes);
+        message += is_accepted(board->swap(message, 1, 1, session, table, bytes));
+        message += is_accepted(board->swap(message, 1, 1, session, table, bytes)); /* a repeat */
+        message += is_accepted(board->take(message, 1, 1, 1, table, bytes));
+        message += is_accepted(board->swap(message, 1, 1, 0, table, bytes));
+        message += is_accepted(board->retire(message, 1, table, bytes));
         if (session % 3 == 0)
-            board->drop(1, 1, table, bytes);
+            message += is_accepted(board->drop(message, 1, 1, table, bytes));
     }
     for (int collects = 0; collects < 400; collects++)
-        board->collect(1, table, bytes);
+        message += is_accepted(board->collect(message, 1, table, bytes));
 }
 
 static void no_calls(void)
@@ -887,7 +1024,7 @@ static void every_answer_on_read_only_pages(void)
 
 static void repeats_on_read_only_pages(void)
 {
-    begin("repeats, with all pages read-only");
+    begin("repeats, with all pages but that of the message number read-only");
     read_only = true;
     for (int place = AT_START; place < PLACES; place++) {
         book_place = place;
@@ -899,6 +1036,27 @@ static void repeats_on_read_only_pages(void)
         repeats(3, 3, 1);
     }
     repeats(limits->desks, limits->screens, limits->positions);
+    read_only = false;
+    end();
+}
+
+static void message_numbers_on_read_only_pages(void)
+{
+    static const uint16_t first[] = {0, 1, 255, 32767, 65525, 65530, 65534, 65535};
+    begin("message numbers, with all pages outside the footprint read-only");
+    read_only = true;
+    for (size_t i = 0; i < sizeof first / sizeof *first; i++) {
+        book_place = ALIGNED_0 + (int)i;
+        numbered_steps(1, 1, 1, 1, first[i]);
+        for (uint16_t desk = 1; desk <= 3; desk++)
+            numbered_steps(3, 1, 2, desk, first[i]);
+        numbered_steps(limits->desks, limits->screens, limits->positions, limits->desks, first[i]);
+    }
+    for (int place = AT_START; place < PLACES; place++) {
+        book_place = place;
+        twice(1);
+        twice(3);
+    }
     read_only = false;
     end();
 }
@@ -962,6 +1120,7 @@ int main(void)
         hall_books();
         every_answer_on_read_only_pages();
         repeats_on_read_only_pages();
+        message_numbers_on_read_only_pages();
         stack();
         any_table();
     }

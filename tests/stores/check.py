@@ -13,13 +13,9 @@ import subprocess
 import sys
 import tempfile
 
-# Accepted, and not a repeat, these always change a word: if the trace shows no store of theirs, the trace is broken.
-ALWAYS_STORE = ('open', 'take', 'drop', 'swap', 'retire')
-
-
 class Call:
-    """A call as the driver prints it. The footprint is a list of ranges of bytes of the table, empty for a refusal and for a
-    swap to what is already at the position."""
+    """A call as the driver prints it. The footprint is a list of ranges of bytes of the table, empty for a refusal. The last
+    range must be stored to: that of an opening is all of it, that of a step is the desk's message number."""
 
     def __init__(self, line):
         self.name, self.hall, table, memory, footprint = line.removeprefix('call ').split('|')
@@ -27,8 +23,15 @@ class Call:
         self.first, self.past = map(int, memory.split())
         self.footprint = [tuple(map(int, part.split('-'))) for part in footprint.split()]
         self.call = self.name.split()[0]            # board_take
-        self.function = self.call.split('_')[1]     # take
-        self.stores = 0
+        self.stored = set()
+
+    def store(self, address, size):
+        """Notes the bytes of the table that are stored to."""
+        self.stored.update(range(address - self.table, address - self.table + size))
+
+    def is_complete(self):
+        """An accepted call changes its last range: if the trace shows no store to it, the trace is broken, or the board."""
+        return not self.footprint or self.stored.issuperset(range(*self.footprint[-1]))
 
     def stray_byte(self, address, size):
         """The offset in the table of the first byte of this store that is outside the footprint, or None."""
@@ -89,7 +92,7 @@ def main():
         if address + size <= call.first or address >= call.past:
             continue
         count += 1
-        call.stores += 1
+        call.store(address, size)
         byte = call.stray_byte(address, size)
         if byte is not None:
             stray.setdefault(call.call, []).append((call, byte, size))
@@ -97,8 +100,8 @@ def main():
         print(f'stores: {call.name} in a hall of {call.hall}: a store of {size} bytes to byte {byte} of the table (word '
               f'{byte // 2}), outside its footprint')
     for call in calls:
-        if call.footprint and call.function in ALWAYS_STORE and not call.stores:
-            sys.exit(f'stores: {call.name} in a hall of {call.hall}: accepted, but the trace shows no store')
+        if not call.is_complete():
+            sys.exit(f'stores: {call.name} in a hall of {call.hall}: accepted, but the trace does not show all its stores')
     strays = sum(map(len, stray.values()))
     print(f'stores: {len(calls)} calls, {count} stores into tables, {strays} stray')
     sys.exit(1 if strays else 0)

@@ -9,8 +9,9 @@
  * order of the lines. TABLE is an address, MEMORY is the range of addresses
  * around the table, and the ranges at the end are bytes of the table: the
  * footprint of an accepted call, from documents 01 and 02 and the table's words
- * before the call. A refusal and a repeat have none. The code below says of each
- * call whether it is accepted.
+ * before the call. The last of a step's is the desk's message number, to which it
+ * must store. A refusal has none. The code below says of each call whether it is
+ * accepted.
  */
 #include "layout.h"
 
@@ -67,14 +68,13 @@ static void print_line(const struct call *call, const uint8_t *table, bool accep
 }
 
 /* Makes the call, which must get this reply number; returns its session. */
-static uint16_t call(enum function function, uint16_t a, uint16_t b, uint16_t c, enum board_reply number)
+static uint16_t make(const struct call *call, enum board_reply number)
 {
-    const struct call made = {room, function, {a, b, c}};
     uint8_t *table = memory + MARGIN + calls % PLACES;
     memcpy(table, kept, lent_bytes);
-    print_line(&made, table, number == BOARD_ACCEPTED);
+    print_line(call, table, number == BOARD_ACCEPTED);
     marker = 1;
-    uint32_t answer = send_call(&made, table, lent_bytes);
+    uint32_t answer = send_call(call, table, lent_bytes);
     marker = 0;
     memcpy(kept, table, lent_bytes);
     calls++;
@@ -83,6 +83,12 @@ static uint16_t call(enum function function, uint16_t a, uint16_t b, uint16_t c,
         exit(1);
     }
     return board_session(answer);
+}
+
+/* A call with the message number that is due. */
+static uint16_t call(enum function function, uint16_t a, uint16_t b, uint16_t c, enum board_reply number)
+{
+    return make(&(struct call){room, function, due_message(kept, lent_bytes, a), {a, b, c}}, number);
 }
 
 static void expect(bool good, const char *what)
@@ -137,8 +143,19 @@ static void unsound(uint16_t desk, size_t at, unsigned value)
     set_word(at, held);
 }
 
+/* All five steps with another number than the one that is due. */
+static void other_message(uint16_t desk, uint16_t distance)
+{
+    uint16_t message = (uint16_t)(due_message(kept, lent_bytes, desk) + distance);
+    for (int function = TAKE; function <= COLLECT; function++)
+        make(&(struct call){room, (enum function)function, message, {desk, 1, 1}}, BOARD_OTHER_MESSAGE);
+}
+
 static void refusals(uint16_t desk)
 {
+    other_message(desk, 1);
+    other_message(desk, 65535); /* the one before */
+    other_message(desk, 256);
     all_refused(0, BOARD_NO_DESK);
     all_refused((uint16_t)(hall_desks + 1), BOARD_NO_DESK);
     call(TAKE, desk, 0, 1, BOARD_NO_SCREEN);
@@ -191,11 +208,13 @@ static void screens_and_positions(uint16_t desk)
 }
 
 /* A desk's list, all waiting, and nothing owed. Every third is the session 9; the
- * others are over the limit of the training room, which asks only swaps for it. */
+ * others are over the limit of the training room, which asks only swaps for it. The
+ * message numbers are about to run on from 65535 to 0. */
 static void set_list(uint16_t desk, size_t used)
 {
     size_t at = record(desk);
     memset(kept + 2 * at, 0, 2 * (LIST + 2 * all_screens(kept)));
+    set_word(message_index(kept, desk), 65535);
     set_word(at + WAITING, (unsigned)used);
     for (size_t slot = 0; slot < used; slot++)
         set_word(at + LIST + slot, slot % 3 == 0 ? 9 : 1000 + (unsigned)slot);
