@@ -9,13 +9,15 @@
  *     the bytes given
  *     calls to the end: 1 byte for the function, those of the training room after
  *     the hall's, then three numbers, of one byte each, or of two if the function's
- *     byte has its top bit set
+ *     byte has its top bit set. If it has the next bit set, a number before them says
+ *     how far the message number is from the one that is due, else it is that one
  *
  * Lengths wrap, so that every input is valid. After each call the harness checks
  * what the header promises, first from the header alone, then against the
  * reference.
  */
 #include "guarded_memory.h"
+#include "layout.h"
 #include "reference_in_c.h"
 #include "tally.h"
 
@@ -47,16 +49,6 @@ static uint16_t two_bytes(void)
     return (uint16_t)(low | byte() << 8);
 }
 
-static struct call next_call(void)
-{
-    uint8_t first = byte();
-    unsigned which = (first & 0x7F) % (ROOMS * FUNCTIONS);
-    struct call call = {.room = which / FUNCTIONS, .function = which % FUNCTIONS};
-    for (int i = 0; i < 3; i++)
-        call.numbers[i] = first & 0x80 ? two_bytes() : byte();
-    return call;
-}
-
 /* ---- the tables ------------------------------------------------------ */
 
 static struct guarded_memory lent, reachable;
@@ -75,6 +67,20 @@ static void read_table(void)
     memcpy(lent.table, at_first, bytes);
     memcpy(of_reference, at_first, bytes);
     passed = bytes == 0 && place == ALIGNED_0 ? NULL : lent.table;
+}
+
+static struct call next_call(void)
+{
+    uint8_t first = byte();
+    bool is_wide = first & 0x80, is_other = first & 0x40;
+    unsigned which = (first & 0x3F) % (ROOMS * FUNCTIONS);
+    struct call call = {.room = which / FUNCTIONS, .function = which % FUNCTIONS};
+    int distance = !is_other ? 0 : is_wide ? two_bytes() : (int8_t)byte();
+    for (int i = 0; i < 3; i++)
+        call.numbers[i] = is_wide ? two_bytes() : byte();
+    if (call.function != OPEN)
+        call.message = (uint16_t)(due_message(lent.table, lent.bytes, call.numbers[0]) + distance);
+    return call;
 }
 
 /* The archive is not instrumented, so the address sanitizer does not see its
@@ -132,6 +138,28 @@ static void require(bool good, const char *what)
     abort(); /* the fuzzer saves the input */
 }
 
+/* Of an accepted call. */
+static void keeps_the_message_numbers(const struct call *call)
+{
+    for (uint16_t desk = 1; desk <= read_word(lent.table, 0); desk++) {
+        uint16_t old = due_message(before, lent.bytes, desk), now = due_message(lent.table, lent.bytes, desk);
+        if (call->function == OPEN)
+            require(now == 0, "an opening sets the message numbers to 0");
+        else if (desk == call->numbers[0])
+            require(old == call->message && now == (uint16_t)(old + 1),
+                    "an accepted step has the message number that is due, and moves it on");
+        else
+            require(now == old, "an accepted step leaves the message numbers of other desks");
+    }
+}
+
+static bool only_message_changed(uint16_t desk)
+{
+    size_t message = 2 * message_index(before, desk), past = message + 2;
+    return memcmp(before, lent.table, message) == 0 &&
+           memcmp(before + past, lent.table + past, lent.bytes - past) == 0;
+}
+
 static void keeps_the_headers_promises(const struct call *call, uint32_t answer)
 {
     size_t touched = reach(call, before, lent.bytes);
@@ -144,11 +172,12 @@ static void keeps_the_headers_promises(const struct call *call, uint32_t answer)
         require(memcmp(before, lent.table, lent.bytes) == 0, "a refusal leaves every byte");
     } else {
         /* No hall has a desk 0, so a sound table gives 6. */
-        require(board_number(boards[call->room].collect(0, passed, lent.bytes)) == BOARD_NO_DESK,
+        require(board_number(boards[call->room].collect(0, 0, passed, lent.bytes)) == BOARD_NO_DESK,
                 "an accepted call leaves a sound table");
+        keeps_the_message_numbers(call);
     }
     if (is_repeat(call, answer))
-        require(memcmp(before, lent.table, lent.bytes) == 0, "a repeat leaves every byte");
+        require(only_message_changed(call->numbers[0]), "a repeat leaves every other byte");
 }
 
 /* Makes the call again, with all bytes that it may not access on an inaccessible
@@ -166,7 +195,7 @@ static void reaches_no_further(const struct call *call, uint32_t answer)
 
 static void agrees_with_the_reference(const struct call *call, uint32_t answer)
 {
-    uint32_t expected = reference_call((uint8_t)call->room, (uint8_t)call->function, call->numbers,
+    uint32_t expected = reference_call((uint8_t)call->room, (uint8_t)call->function, call->message, call->numbers,
                                        of_reference, lent.bytes);
     require(answer == expected, "the answer of the reference");
     require(memcmp(of_reference, lent.table, lent.bytes) == 0, "the bytes of the reference");
@@ -178,7 +207,7 @@ static void agrees_with_the_reference(const struct call *call, uint32_t answer)
 __attribute__((section("__libfuzzer_extra_counters")))
 static uint8_t this_input[ROOMS][FUNCTIONS][NUMBERS];
 __attribute__((section("__libfuzzer_extra_counters")))
-static uint8_t repeats_of_0, repeats_of_a_session;
+static uint8_t repeats_of_0, repeats_of_a_session, runs_on_to_0;
 
 static void count_up(uint8_t *counter)
 {
@@ -215,6 +244,8 @@ int LLVMFuzzerTestOneInput(const uint8_t *bytes, size_t length)
         count_up(&this_input[call->room][call->function][board_number(answer)]);
         if (is_repeat(call, answer))
             count_up(board_session(answer) == 0 ? &repeats_of_0 : &repeats_of_a_session);
+        if (runs_on(call, answer))
+            count_up(&runs_on_to_0);
         count_answer(call, answer);
     }
     return 0;

@@ -6,8 +6,9 @@
 #include <stdint.h>
 
 /* Rooms 0 and 1: the hall and the training room. Functions 0 to 5: open, take, drop,
- * swap, retire, collect. */
-uint32_t reference_call(uint8_t room, uint8_t function, const uint16_t numbers[3],
+ * swap, retire, collect. The message number and the other numbers that a function does
+ * not have are ignored. */
+uint32_t reference_call(uint8_t room, uint8_t function, uint16_t message, const uint16_t numbers[3],
                         uint8_t *table, size_t bytes);
 
 /* What a sheet program writes, valid until the next call. Programs 0 to 5: day_sheet,

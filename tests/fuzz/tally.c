@@ -5,11 +5,11 @@
 /* A bit for each reply number. */
 static const unsigned answers[FUNCTIONS] = {
     [OPEN] = 1 << 0 | 1 << 1 | 1 << 2 | 1 << 3 | 1 << 4,
-    [TAKE] = 1 << 0 | 1 << 5 | 1 << 6 | 1 << 7 | 1 << 8 | 1 << 9 | 1 << 10,
-    [DROP] = 1 << 0 | 1 << 5 | 1 << 6 | 1 << 7 | 1 << 11,
-    [SWAP] = 1 << 0 | 1 << 5 | 1 << 6 | 1 << 8 | 1 << 12,
-    [RETIRE] = 1 << 0 | 1 << 5 | 1 << 6 | 1 << 13 | 1 << 14,
-    [COLLECT] = 1 << 0 | 1 << 5 | 1 << 6,
+    [TAKE] = 1 << 0 | 1 << 5 | 1 << 6 | 1 << 23 | 1 << 7 | 1 << 8 | 1 << 9 | 1 << 10,
+    [DROP] = 1 << 0 | 1 << 5 | 1 << 6 | 1 << 23 | 1 << 7 | 1 << 11,
+    [SWAP] = 1 << 0 | 1 << 5 | 1 << 6 | 1 << 23 | 1 << 8 | 1 << 12,
+    [RETIRE] = 1 << 0 | 1 << 5 | 1 << 6 | 1 << 23 | 1 << 13 | 1 << 14,
+    [COLLECT] = 1 << 0 | 1 << 5 | 1 << 6 | 1 << 23,
 };
 /* Those that only the training room gives. */
 static const unsigned training_answers[FUNCTIONS] = {[OPEN] = 1 << 22, [SWAP] = 1 << 22};
@@ -28,13 +28,20 @@ bool is_repeat(const struct call *call, uint32_t answer)
            board_session(answer) == call->numbers[2];
 }
 
+bool runs_on(const struct call *call, uint32_t answer)
+{
+    return call->function != OPEN && board_number(answer) == BOARD_ACCEPTED && call->message == 65535;
+}
+
 static unsigned long tally[ROOMS][NUMBERS][FUNCTIONS], with_session[ROOMS][FUNCTIONS], repeats[ROOMS][FUNCTIONS];
+static unsigned long run_on[ROOMS][FUNCTIONS];
 
 void count_answer(const struct call *call, uint32_t answer)
 {
     tally[call->room][board_number(answer)][call->function]++;
     with_session[call->room][call->function] += board_session(answer) != 0;
     repeats[call->room][call->function] += is_repeat(call, answer);
+    run_on[call->room][call->function] += runs_on(call, answer);
 }
 
 static void print_row(const char *name, const unsigned long of[FUNCTIONS])
@@ -64,6 +71,7 @@ static unsigned long print_room(int room)
     }
     print_row("with session", with_session[room]);
     print_row("repeats", repeats[room]);
+    print_row("65535 accepted", run_on[room]);
     printf("\n");
     return calls;
 }

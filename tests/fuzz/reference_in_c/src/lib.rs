@@ -6,8 +6,8 @@ use reference::{answer, Limits};
 use std::slice;
 
 /// A call: rooms 0 and 1 are the hall and the training room; functions 0 to 5 are
-/// open, take, drop, swap, retire and collect, with the numbers that they have, in
-/// the order of the header.
+/// open, take, drop, swap, retire and collect, with the message number that all but
+/// open have, and then the other numbers that they have, in the order of the header.
 ///
 /// # Safety
 /// `table` points to `bytes` bytes, or `bytes` is 0.
@@ -15,6 +15,7 @@ use std::slice;
 pub unsafe extern "C" fn reference_call(
     room: u8,
     function: u8,
+    message: u16,
     numbers: *const [u16; 3],
     table: *mut u8,
     bytes: usize,
@@ -24,11 +25,11 @@ pub unsafe extern "C" fn reference_call(
     let table = if bytes == 0 { &mut [] } else { slice::from_raw_parts_mut(table, bytes) };
     answer(match function {
         0 => reference::open(limits, a, b, c, table),
-        1 => reference::take(limits, a, b, c, table),
-        2 => reference::drop(limits, a, b, table),
-        3 => reference::swap(limits, a, b, c, table),
-        4 => reference::retire(limits, a, table),
-        5 => reference::collect(limits, a, table),
+        1 => reference::take(limits, message, a, b, c, table),
+        2 => reference::drop(limits, message, a, b, table),
+        3 => reference::swap(limits, message, a, b, c, table),
+        4 => reference::retire(limits, message, a, table),
+        5 => reference::collect(limits, message, a, table),
         _ => unreachable!("six functions"),
     })
 }

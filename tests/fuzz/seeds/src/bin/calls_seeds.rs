@@ -10,6 +10,9 @@ mod call;
 mod case;
 #[path = "../../../../compare/src/damage.rs"]
 mod damage;
+#[path = "../../../../compare/src/distances.rs"]
+#[allow(dead_code)]
+mod distances;
 #[path = "../../../../compare/src/make.rs"]
 mod make;
 #[path = "../../../../compare/src/rng.rs"]
@@ -19,6 +22,7 @@ mod tables;
 
 use call::FUNCTIONS;
 use case::Case;
+use distances::with_distances;
 use std::path::Path;
 use std::{env, fs};
 
@@ -42,11 +46,14 @@ fn input(case: &Case) -> Vec<u8> {
     input.extend((given as u16).to_le_bytes());
     input.push(0);
     input.extend(&case.table[..given]);
-    for call in &case.calls {
-        let wide = call.numbers.iter().any(|&number| number > 255);
+    for call in with_distances(case).calls {
+        let distance = Some(call.message).filter(|&distance| distance != 0);
+        let is_narrow = |distance: u16| i8::try_from(distance as i16).is_ok();
+        let wide = !is_narrow(call.message) || call.numbers.iter().any(|&number| number > 255);
         let function = call.room as u8 * FUNCTIONS.len() as u8 + call.function as u8;
-        input.push(function | if wide { 0x80 } else { 0 });
-        for number in call.numbers {
+        let other = if distance.is_some() { 0x40 } else { 0 };
+        input.push(function | other | if wide { 0x80 } else { 0 });
+        for number in distance.into_iter().chain(call.numbers) {
             input.extend(&number.to_le_bytes()[..if wide { 2 } else { 1 }]);
         }
     }
