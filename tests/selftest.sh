@@ -6,8 +6,9 @@
 #
 #     KIND       what must catch them     the wrong ones
 #     boards     compare, and vectors     wrong/boards: patches of the reference, which replaces the archive
-#                if wrong about repeats
-#                or the training room
+#                if wrong about repeats,
+#                the training room or
+#                message numbers
 #     programs   sheets or converted,     wrong/programs: patches of the reference, which replaces the programs that the
 #                and sheet_vectors        name says (`replaced`)
 #     stores     stores and host_test     wrong/stores.c: right answers, but a store outside the call's footprint
@@ -88,10 +89,11 @@ vectors() {
 # No published call is an accepted swap between sessions that share only their low byte.
 unseen_by_vectors=repeat-of-one-byte
 
-# caught_by_vectors NAME: the published calls must catch a board that is wrong about repeats or the training room.
+# caught_by_vectors NAME: the published calls must catch a board that is wrong about repeats, the training room or
+# message numbers.
 caught_by_vectors() {
-    grep -q -e '^Case: repeats ' -e '^Case: training_room ' "$tests/wrong/boards/$1.patch" &&
-        [ "$1" != "$unseen_by_vectors" ] || return 0
+    grep -q -e '^Case: repeats ' -e '^Case: training_room ' -e '^Case: message_numbers ' \
+        "$tests/wrong/boards/$1.patch" && [ "$1" != "$unseen_by_vectors" ] || return 0
     if vectors; then fail "$1: not caught by vectors"; fi
 }
 
@@ -305,8 +307,12 @@ stores_wrong() {
 # Wrong boards that only the reference can tell.
 fuzz_boards="keeps-every-copy joins-in-mid-reading room-one-early position-before-screen newest-first"
 fuzz_boards="$fuzz_boards training-size-after-length training-sound-as-the-hall"
+fuzz_boards="$fuzz_boards message-before-desk message-after-screen"
 # Wrong boards that the header's promises rule out: the reference is patched too.
 fuzz_boards_and_reference="opening-clears-all opening-clears-odd-byte refused-swap-writes repeat-owes"
+fuzz_boards_and_reference="$fuzz_boards_and_reference message-of-one-byte message-left-by-an-opening"
+fuzz_boards_and_reference="$fuzz_boards_and_reference message-moved-by-a-refused-call message-not-moved-by-a-repeat"
+fuzz_boards_and_reference="$fuzz_boards_and_reference message-of-every-desk-moved message-first-in-the-record"
 fuzz_programs="reads-once two-groups stops-at-refusal counts-exchanged offset-of-the-failing-byte"
 fuzz_programs="$fuzz_programs padded-zero-only shorten-keeps-padded-fields shorten-offset-without-zero-groups"
 fuzz_programs="$fuzz_programs edition-2-desk-of-an-accepted-record edition-2-edition-asked-after-both"

@@ -7,14 +7,14 @@
 
 #include <string.h>
 
-uint32_t right_drop(uint16_t desk, uint16_t screen, uint8_t *table, size_t bytes);
+uint32_t right_drop(uint16_t message, uint16_t desk, uint16_t screen, uint8_t *table, size_t bytes);
 
 /* Not static, so that the compiler keeps the stores to it. */
 uint8_t board_drop_copy[1 << 16];
 
-uint32_t board_drop(uint16_t desk, uint16_t screen, uint8_t *table, size_t bytes)
+uint32_t board_drop(uint16_t message, uint16_t desk, uint16_t screen, uint8_t *table, size_t bytes)
 {
-    uint32_t answer = right_drop(desk, screen, table, bytes);
+    uint32_t answer = right_drop(message, desk, screen, table, bytes);
     volatile uint8_t *lent = table;
     if (board_number(answer) != BOARD_ACCEPTED)
         return answer;

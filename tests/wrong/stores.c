@@ -16,15 +16,22 @@ static void rewrite(uint8_t *table, size_t byte)
 static size_t record_byte(const uint8_t *table, uint16_t desk, size_t word)
 {
     size_t all = (size_t)table[0] * table[2];
-    return 2 * (3 + table[4] + all + (desk - 1u) * (LIST + 2 * all) + word);
+    return 2 * (3 + table[4] + all + (desk - 1u) * (LIST + 2 * all + 1) + word);
+}
+
+static size_t message_byte(const uint8_t *table, uint16_t desk)
+{
+    return record_byte(table, desk, LIST + 2 * (size_t)table[0] * table[2]);
 }
 
 #if defined TAKE_REWRITES_THE_FIRST_WORD || defined TAKE_REWRITES_THE_NEXT_SCREEN
-uint32_t __real_board_take(uint16_t desk, uint16_t screen, uint16_t position, uint8_t *table, size_t bytes);
+uint32_t __real_board_take(uint16_t message, uint16_t desk, uint16_t screen, uint16_t position,
+                           uint8_t *table, size_t bytes);
 
-uint32_t __wrap_board_take(uint16_t desk, uint16_t screen, uint16_t position, uint8_t *table, size_t bytes)
+uint32_t __wrap_board_take(uint16_t message, uint16_t desk, uint16_t screen, uint16_t position,
+                           uint8_t *table, size_t bytes)
 {
-    uint32_t answer = __real_board_take(desk, screen, position, table, bytes);
+    uint32_t answer = __real_board_take(message, desk, screen, position, table, bytes);
     if (board_number(answer) == BOARD_ACCEPTED) {
         size_t shown = 3 + (size_t)table[4] + (desk - 1u) * (size_t)table[2] + screen - 1u;
 #if defined TAKE_REWRITES_THE_FIRST_WORD
@@ -36,22 +43,29 @@ uint32_t __wrap_board_take(uint16_t desk, uint16_t screen, uint16_t position, ui
     }
     return answer;
 }
-#elif defined DROP_REFUSED_REWRITES_THE_LAST_BYTE
-uint32_t __real_board_drop(uint16_t desk, uint16_t screen, uint8_t *table, size_t bytes);
+#elif defined DROP_REFUSED_REWRITES_THE_LAST_BYTE || defined DROP_OF_NOTHING_REWRITES_THE_MESSAGE
+uint32_t __real_board_drop(uint16_t message, uint16_t desk, uint16_t screen, uint8_t *table, size_t bytes);
 
-uint32_t __wrap_board_drop(uint16_t desk, uint16_t screen, uint8_t *table, size_t bytes)
+uint32_t __wrap_board_drop(uint16_t message, uint16_t desk, uint16_t screen, uint8_t *table, size_t bytes)
 {
-    uint32_t answer = __real_board_drop(desk, screen, table, bytes);
+    uint32_t answer = __real_board_drop(message, desk, screen, table, bytes);
+#if defined DROP_REFUSED_REWRITES_THE_LAST_BYTE
     if (board_number(answer) != BOARD_ACCEPTED)
         rewrite(table, bytes - 1);
+#else
+    if (board_number(answer) == BOARD_SCREEN_EMPTY)
+        rewrite(table, message_byte(table, desk));
+#endif
     return answer;
 }
 #elif defined SWAP_OF_NONE_REWRITES_OWED || defined SWAP_REPEAT_REWRITES_THE_POSITION
-uint32_t __real_board_swap(uint16_t desk, uint16_t position, uint16_t session, uint8_t *table, size_t bytes);
+uint32_t __real_board_swap(uint16_t message, uint16_t desk, uint16_t position, uint16_t session,
+                           uint8_t *table, size_t bytes);
 
-uint32_t __wrap_board_swap(uint16_t desk, uint16_t position, uint16_t session, uint8_t *table, size_t bytes)
+uint32_t __wrap_board_swap(uint16_t message, uint16_t desk, uint16_t position, uint16_t session,
+                           uint8_t *table, size_t bytes)
 {
-    uint32_t answer = __real_board_swap(desk, position, session, table, bytes);
+    uint32_t answer = __real_board_swap(message, desk, position, session, table, bytes);
 #if defined SWAP_OF_NONE_REWRITES_OWED
     if (answer == 0)
         rewrite(table, record_byte(table, desk, 0));
@@ -62,21 +76,26 @@ uint32_t __wrap_board_swap(uint16_t desk, uint16_t position, uint16_t session, u
     return answer;
 }
 #elif defined RETIRE_REWRITES_K
-uint32_t __real_board_retire(uint16_t desk, uint8_t *table, size_t bytes);
+uint32_t __real_board_retire(uint16_t message, uint16_t desk, uint8_t *table, size_t bytes);
 
-uint32_t __wrap_board_retire(uint16_t desk, uint8_t *table, size_t bytes)
+uint32_t __wrap_board_retire(uint16_t message, uint16_t desk, uint8_t *table, size_t bytes)
 {
-    uint32_t answer = __real_board_retire(desk, table, bytes);
+    uint32_t answer = __real_board_retire(message, desk, table, bytes);
     if (board_number(answer) == BOARD_ACCEPTED)
         rewrite(table, record_byte(table, desk, 1));
     return answer;
 }
-#elif defined COLLECT_REWRITES_OWED || defined COLLECT_WRITES_AND_RESTORES
-uint32_t __real_board_collect(uint16_t desk, uint8_t *table, size_t bytes);
+#elif defined COLLECT_REWRITES_OWED || defined COLLECT_WRITES_AND_RESTORES || \
+    defined COLLECT_SENT_TWICE_REWRITES_THE_MESSAGE
+uint32_t __real_board_collect(uint16_t message, uint16_t desk, uint8_t *table, size_t bytes);
 
-uint32_t __wrap_board_collect(uint16_t desk, uint8_t *table, size_t bytes)
+uint32_t __wrap_board_collect(uint16_t message, uint16_t desk, uint8_t *table, size_t bytes)
 {
-    uint32_t answer = __real_board_collect(desk, table, bytes);
+    uint32_t answer = __real_board_collect(message, desk, table, bytes);
+#if defined COLLECT_SENT_TWICE_REWRITES_THE_MESSAGE
+    if (board_number(answer) == BOARD_OTHER_MESSAGE)
+        rewrite(table, message_byte(table, desk) + 1);
+#else
     if (board_number(answer) == BOARD_ACCEPTED) {
 #if defined COLLECT_REWRITES_OWED
         rewrite(table, record_byte(table, desk, 0) + 1);
@@ -86,6 +105,7 @@ uint32_t __wrap_board_collect(uint16_t desk, uint8_t *table, size_t bytes)
         *position ^= 1;
 #endif
     }
+#endif
     return answer;
 }
 #elif defined OPEN_WRITES_BEHIND_THE_NEED
@@ -109,11 +129,13 @@ uint32_t __wrap_training_open(uint16_t desks, uint16_t screens, uint16_t positio
     return answer;
 }
 #elif defined TRAINING_SWAP_OVER_THE_LIMIT_REWRITES_THE_POSITION
-uint32_t __real_training_swap(uint16_t desk, uint16_t position, uint16_t session, uint8_t *table, size_t bytes);
+uint32_t __real_training_swap(uint16_t message, uint16_t desk, uint16_t position, uint16_t session,
+                              uint8_t *table, size_t bytes);
 
-uint32_t __wrap_training_swap(uint16_t desk, uint16_t position, uint16_t session, uint8_t *table, size_t bytes)
+uint32_t __wrap_training_swap(uint16_t message, uint16_t desk, uint16_t position, uint16_t session,
+                              uint8_t *table, size_t bytes)
 {
-    uint32_t answer = __real_training_swap(desk, position, session, table, bytes);
+    uint32_t answer = __real_training_swap(message, desk, position, session, table, bytes);
     if (board_number(answer) == BOARD_OVER_LIMITS)
         rewrite(table, 2 * (3 + position - 1u));
     return answer;
