@@ -27,7 +27,8 @@
 #define ROOM_SESSIONS BOARD_MAX_SESSION
 #endif
 
-/* The words of a desk's record. K are the screens read so far. */
+/* The words of a desk's record. K are the screens read so far. Behind the list is
+ * the desk's next message number. */
 enum { OWED = 0, K = 1, READY = 2, TESTED = 3, WAITING = 4, MARKS = 5, LIST = 13 };
 
 enum { HEADER = 3, LANES = 8 /* words of a vector */ };
@@ -114,7 +115,7 @@ static inline struct hall hall_of(unsigned desks, unsigned screens, unsigned pos
     hall.places = 2 * hall.all;
     hall.first_screen = HEADER + positions;
     hall.first_record = hall.first_screen + hall.all;
-    hall.width = LIST + hall.places;
+    hall.width = LIST + hall.places + 1;
     hall.need = hall.first_record + desks * hall.width;
     return hall;
 }
@@ -215,6 +216,18 @@ static inline uint8_t *screen_of(uint8_t *table, const struct hall *hall, unsign
     return table + 2 * (hall->first_screen + (desk - 1) * hall->screens + screen - 1);
 }
 
+static inline uint8_t *message_of(uint8_t *table, const struct hall *hall, unsigned desk)
+{
+    return record_of(table, hall, desk) + 2 * (LIST + hall->places);
+}
+
+/* Only an accepted call moves the number on. */
+static inline uint32_t accepted(uint8_t *next, unsigned message, unsigned session)
+{
+    set(next, 0, message + 1);
+    return session;
+}
+
 uint32_t CALL(open)(uint16_t desks, uint16_t screens, uint16_t positions, uint8_t *table, size_t bytes)
 {
     if (desks - 1u >= BOARD_MAX_DESKS)
@@ -235,13 +248,17 @@ uint32_t CALL(open)(uint16_t desks, uint16_t screens, uint16_t positions, uint8_
     return 0;
 }
 
-uint32_t CALL(take)(uint16_t desk, uint16_t screen, uint16_t position, uint8_t *table, size_t bytes)
+uint32_t CALL(take)(uint16_t message, uint16_t desk, uint16_t screen, uint16_t position,
+                    uint8_t *table, size_t bytes)
 {
     struct hall hall;
     if (!sound(table, bytes, &hall))
         return refused(BOARD_UNSOUND);
     if (desk - 1u >= hall.desks)
         return refused(BOARD_NO_DESK);
+    uint8_t *next = message_of(table, &hall, desk);
+    if (get(next, 0) != message)
+        return refused(BOARD_OTHER_MESSAGE);
     if (screen - 1u >= hall.screens)
         return refused(BOARD_NO_SCREEN);
     if (position - 1u >= hall.positions)
@@ -253,16 +270,19 @@ uint32_t CALL(take)(uint16_t desk, uint16_t screen, uint16_t position, uint8_t *
     if (session == 0)
         return refused(BOARD_POSITION_EMPTY);
     set(shown, 0, session);
-    return session;
+    return accepted(next, message, session);
 }
 
-uint32_t CALL(drop)(uint16_t desk, uint16_t screen, uint8_t *table, size_t bytes)
+uint32_t CALL(drop)(uint16_t message, uint16_t desk, uint16_t screen, uint8_t *table, size_t bytes)
 {
     struct hall hall;
     if (!sound(table, bytes, &hall))
         return refused(BOARD_UNSOUND);
     if (desk - 1u >= hall.desks)
         return refused(BOARD_NO_DESK);
+    uint8_t *next = message_of(table, &hall, desk);
+    if (get(next, 0) != message)
+        return refused(BOARD_OTHER_MESSAGE);
     if (screen - 1u >= hall.screens)
         return refused(BOARD_NO_SCREEN);
     uint8_t *shown = screen_of(table, &hall, desk, screen);
@@ -270,10 +290,11 @@ uint32_t CALL(drop)(uint16_t desk, uint16_t screen, uint8_t *table, size_t bytes
     if (session == 0)
         return refused(BOARD_SCREEN_EMPTY);
     set(shown, 0, 0);
-    return session;
+    return accepted(next, message, session);
 }
 
-uint32_t CALL(swap)(uint16_t desk, uint16_t position, uint16_t session, uint8_t *table, size_t bytes)
+uint32_t CALL(swap)(uint16_t message, uint16_t desk, uint16_t position, uint16_t session,
+                    uint8_t *table, size_t bytes)
 {
     struct hall hall;
     unsigned put = session;
@@ -281,6 +302,9 @@ uint32_t CALL(swap)(uint16_t desk, uint16_t position, uint16_t session, uint8_t 
         return refused(BOARD_UNSOUND);
     if (desk - 1u >= hall.desks)
         return refused(BOARD_NO_DESK);
+    uint8_t *next = message_of(table, &hall, desk);
+    if (get(next, 0) != message)
+        return refused(BOARD_OTHER_MESSAGE);
     if (position - 1u >= hall.positions)
         return refused(BOARD_NO_POSITION);
     if (put > ROOM_SESSIONS)
@@ -290,20 +314,23 @@ uint32_t CALL(swap)(uint16_t desk, uint16_t position, uint16_t session, uint8_t 
         return refused(BOARD_OWING);
     unsigned old = get(table, HEADER + position - 1u);
     if (old == put) /* a repeat */
-        return old;
+        return accepted(next, message, old);
     set(table, HEADER + position - 1u, put);
     if (old != 0)
         set(record, OWED, old);
-    return old;
+    return accepted(next, message, old);
 }
 
-uint32_t CALL(retire)(uint16_t desk, uint8_t *table, size_t bytes)
+uint32_t CALL(retire)(uint16_t message, uint16_t desk, uint8_t *table, size_t bytes)
 {
     struct hall hall;
     if (!sound(table, bytes, &hall))
         return refused(BOARD_UNSOUND);
     if (desk - 1u >= hall.desks)
         return refused(BOARD_NO_DESK);
+    uint8_t *next = message_of(table, &hall, desk);
+    if (get(next, 0) != message)
+        return refused(BOARD_OTHER_MESSAGE);
     uint8_t *record = record_of(table, &hall, desk);
     unsigned owed = get(record, OWED), waiting = get(record, WAITING);
     if (owed == 0)
@@ -314,7 +341,7 @@ uint32_t CALL(retire)(uint16_t desk, uint8_t *table, size_t bytes)
     set(record, LIST + used, owed);
     set(record, WAITING, waiting + 1);
     set(record, OWED, 0);
-    return owed;
+    return accepted(next, message, owed);
 }
 
 /* ---- collect ---------------------------------------------------------- */
@@ -385,19 +412,22 @@ static inline void move_up(uint8_t *list, unsigned used, unsigned places)
     set(list, used - 1, 0);
 }
 
-uint32_t CALL(collect)(uint16_t desk, uint8_t *table, size_t bytes)
+uint32_t CALL(collect)(uint16_t message, uint16_t desk, uint8_t *table, size_t bytes)
 {
     struct hall hall;
     if (!sound(table, bytes, &hall))
         return refused(BOARD_UNSOUND);
     if (desk - 1u >= hall.desks)
         return refused(BOARD_NO_DESK);
+    uint8_t *next = message_of(table, &hall, desk);
+    if (get(next, 0) != message)
+        return refused(BOARD_OTHER_MESSAGE);
     uint8_t *record = record_of(table, &hall, desk);
     unsigned k = get(record, K), ready = get(record, READY);
     unsigned tested = get(record, TESTED), waiting = get(record, WAITING);
     unsigned used = ready + tested + waiting;
     if (used == 0)
-        return 0;
+        return accepted(next, message, 0);
     if (tested == 0) {
         tested = waiting;
         waiting = 0;
@@ -423,5 +453,5 @@ uint32_t CALL(collect)(uint16_t desk, uint8_t *table, size_t bytes)
     }
     uint64_t numbers = k | (uint64_t)ready << 16 | (uint64_t)tested << 32 | (uint64_t)waiting << 48;
     memcpy(record + 2 * K, &numbers, 8);
-    return session;
+    return accepted(next, message, session);
 }

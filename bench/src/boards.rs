@@ -1,5 +1,6 @@
 //! The three boards: the archive, the one in Rust and the one in C.
 
+/// A call and its numbers, but for the message number.
 #[derive(Clone, Copy)]
 pub enum Call {
     Open(u16, u16, u16),
@@ -10,22 +11,38 @@ pub enum Call {
     Collect(u16),
 }
 
-pub type Board = fn(Call, &mut [u8]) -> u32;
+impl Call {
+    /// Of a step; 0 of an opening.
+    pub fn desk(self) -> u16 {
+        match self {
+            Call::Open(..) => 0,
+            Call::Take(desk, ..) | Call::Drop(desk, _) | Call::Swap(desk, ..) => desk,
+            Call::Retire(desk) | Call::Collect(desk) => desk,
+        }
+    }
+}
+
+/// Makes a call with this message number; an opening has none.
+pub type Board = fn(Call, u16, &mut [u8]) -> u32;
 
 /// In the order of the printed columns.
 pub const BOARDS: [Board; 3] = [to_archive, to_reference, to_c];
 
 #[inline(never)]
-fn to_archive(call: Call, table: &mut [u8]) -> u32 {
+fn to_archive(call: Call, message: u16, table: &mut [u8]) -> u32 {
     match call {
         Call::Open(desks, screens, positions) => {
             archive::HALL.open(desks, screens, positions, table)
         }
-        Call::Take(desk, screen, position) => archive::HALL.take(desk, screen, position, table),
-        Call::Drop(desk, screen) => archive::HALL.drop(desk, screen, table),
-        Call::Swap(desk, position, session) => archive::HALL.swap(desk, position, session, table),
-        Call::Retire(desk) => archive::HALL.retire(desk, table),
-        Call::Collect(desk) => archive::HALL.collect(desk, table),
+        Call::Take(desk, screen, position) => {
+            archive::HALL.take(message, desk, screen, position, table)
+        }
+        Call::Drop(desk, screen) => archive::HALL.drop(message, desk, screen, table),
+        Call::Swap(desk, position, session) => {
+            archive::HALL.swap(message, desk, position, session, table)
+        }
+        Call::Retire(desk) => archive::HALL.retire(message, desk, table),
+        Call::Collect(desk) => archive::HALL.collect(message, desk, table),
     }
 }
 
@@ -51,16 +68,16 @@ mod rust {
 
     calls! {
         open(desks, screens, positions);
-        take(desk, screen, position);
-        drop(desk, screen);
-        swap(desk, position, session);
-        retire(desk);
-        collect(desk);
+        take(message, desk, screen, position);
+        drop(message, desk, screen);
+        swap(message, desk, position, session);
+        retire(message, desk);
+        collect(message, desk);
     }
 }
 
 #[inline(never)]
-pub fn to_reference(call: Call, table: &mut [u8]) -> u32 {
+pub fn to_reference(call: Call, message: u16, table: &mut [u8]) -> u32 {
     let (bytes, table) = (table.len(), table.as_mut_ptr());
     // A slice points to as many bytes as it says.
     unsafe {
@@ -68,13 +85,15 @@ pub fn to_reference(call: Call, table: &mut [u8]) -> u32 {
             Call::Open(desks, screens, positions) => {
                 rust::open(desks, screens, positions, table, bytes)
             }
-            Call::Take(desk, screen, position) => rust::take(desk, screen, position, table, bytes),
-            Call::Drop(desk, screen) => rust::drop(desk, screen, table, bytes),
-            Call::Swap(desk, position, session) => {
-                rust::swap(desk, position, session, table, bytes)
+            Call::Take(desk, screen, position) => {
+                rust::take(message, desk, screen, position, table, bytes)
             }
-            Call::Retire(desk) => rust::retire(desk, table, bytes),
-            Call::Collect(desk) => rust::collect(desk, table, bytes),
+            Call::Drop(desk, screen) => rust::drop(message, desk, screen, table, bytes),
+            Call::Swap(desk, position, session) => {
+                rust::swap(message, desk, position, session, table, bytes)
+            }
+            Call::Retire(desk) => rust::retire(message, desk, table, bytes),
+            Call::Collect(desk) => rust::collect(message, desk, table, bytes),
         }
     }
 }
@@ -82,16 +101,16 @@ pub fn to_reference(call: Call, table: &mut [u8]) -> u32 {
 mod c {
     extern "C" {
         pub fn c_board_open(p: u16, c: u16, l: u16, table: *mut u8, bytes: usize) -> u32;
-        pub fn c_board_take(d: u16, s: u16, p: u16, table: *mut u8, bytes: usize) -> u32;
-        pub fn c_board_drop(d: u16, s: u16, table: *mut u8, bytes: usize) -> u32;
-        pub fn c_board_swap(d: u16, p: u16, session: u16, table: *mut u8, bytes: usize) -> u32;
-        pub fn c_board_retire(d: u16, table: *mut u8, bytes: usize) -> u32;
-        pub fn c_board_collect(d: u16, table: *mut u8, bytes: usize) -> u32;
+        pub fn c_board_take(m: u16, d: u16, s: u16, p: u16, table: *mut u8, bytes: usize) -> u32;
+        pub fn c_board_drop(m: u16, d: u16, s: u16, table: *mut u8, bytes: usize) -> u32;
+        pub fn c_board_swap(m: u16, d: u16, p: u16, new: u16, table: *mut u8, bytes: usize) -> u32;
+        pub fn c_board_retire(m: u16, d: u16, table: *mut u8, bytes: usize) -> u32;
+        pub fn c_board_collect(m: u16, d: u16, table: *mut u8, bytes: usize) -> u32;
     }
 }
 
 #[inline(never)]
-fn to_c(call: Call, table: &mut [u8]) -> u32 {
+fn to_c(call: Call, message: u16, table: &mut [u8]) -> u32 {
     let (bytes, table) = (table.len(), table.as_mut_ptr());
     // A slice points to as many bytes as it says.
     unsafe {
@@ -100,14 +119,14 @@ fn to_c(call: Call, table: &mut [u8]) -> u32 {
                 c::c_board_open(desks, screens, positions, table, bytes)
             }
             Call::Take(desk, screen, position) => {
-                c::c_board_take(desk, screen, position, table, bytes)
+                c::c_board_take(message, desk, screen, position, table, bytes)
             }
-            Call::Drop(desk, screen) => c::c_board_drop(desk, screen, table, bytes),
+            Call::Drop(desk, screen) => c::c_board_drop(message, desk, screen, table, bytes),
             Call::Swap(desk, position, session) => {
-                c::c_board_swap(desk, position, session, table, bytes)
+                c::c_board_swap(message, desk, position, session, table, bytes)
             }
-            Call::Retire(desk) => c::c_board_retire(desk, table, bytes),
-            Call::Collect(desk) => c::c_board_collect(desk, table, bytes),
+            Call::Retire(desk) => c::c_board_retire(message, desk, table, bytes),
+            Call::Collect(desk) => c::c_board_collect(message, desk, table, bytes),
         }
     }
 }

@@ -1,7 +1,7 @@
 //! The halls that are timed, and a busy table for each call.
 
 use crate::boards::{to_reference, Call};
-use reference::{place, set_word, Hall};
+use reference::{next_message, place, set_word, Hall};
 
 /// The smallest, the one in use so far, one with many screens, the largest.
 pub const HALLS: [(u16, u16, u16); 4] = [(1, 1, 1), (6, 1, 12), (4, 4, 64), (16, 4, 64)];
@@ -15,8 +15,14 @@ const LISTED: u16 = 1000;
 pub struct Task {
     pub name: &'static str,
     pub call: Call,
+    pub message: u16,
     pub table: Vec<u8>,
     pub number: u32,
+}
+
+/// The message number that is due from a call's desk, or any if there is no such desk.
+fn due_message(call: Call, table: &[u8]) -> u16 {
+    next_message(table, call.desk()).unwrap_or(0)
 }
 
 /// Every call on a hall where every screen but the last desk's last shows a
@@ -52,7 +58,11 @@ pub fn tasks(hall: &Hall, marks: bool) -> Option<Vec<Task>> {
     let left = collects_left(hall, marks);
 
     let mut tasks = Vec::new();
-    let mut add = |name, call, table, number| tasks.push(Task { name, call, table, number });
+    let mut add = |name, call, table: Vec<u8>, number| {
+        let due = due_message(call, &table);
+        let message = if number == 23 { due + 1 } else { due };
+        tasks.push(Task { name, call, message, table, number });
+    };
     add("open", open, busy.clone(), 0);
     add("take", take, busy.clone(), 0);
     add("drop", drop, after(&[take]), 0);
@@ -69,8 +79,9 @@ pub fn tasks(hall: &Hall, marks: bool) -> Option<Vec<Task>> {
     let short = busy[..busy.len() - 1].to_vec();
     add("open refused, 4: table short", open, short, 4);
     add("take refused, 5: 17 desks", take, with_word(0, 17), 5);
-    add("take refused, 5: last word wrong", take, with_word(hall.need() - 1, 9), 5);
+    add("take refused, 5: last place wrong", take, with_word(hall.need() - 2, 9), 5);
     add("take refused, 6: no such desk", Call::Take(desk + 1, 1, 1), busy.clone(), 6);
+    add("take refused, 23: another message", take, busy.clone(), 23);
     add("take refused, 9: screen full", take, after(&[take]), 9);
     add("drop refused, 11: screen empty", drop, busy.clone(), 11);
     add("swap refused, 12: owing", swap, after(&[swap]), 12);
@@ -135,6 +146,6 @@ fn set_list(hall: &Hall, table: &mut [u8], desk: u16, which: usize, used: usize)
 
 /// Sends a call that must be accepted.
 fn play(call: Call, table: &mut [u8]) {
-    let answer = to_reference(call, table);
+    let answer = to_reference(call, due_message(call, table), table);
     assert!(answer >> 16 == 0, "a call of the preparation was refused with {}", answer >> 16);
 }

@@ -145,11 +145,12 @@ fn title(hall: &Hall, marks: bool) -> String {
 /// All boards give the answer that is to be timed, and the same bytes.
 fn agree(task: &Task) {
     let mut first = task.table.clone();
-    let reply = boards::to_reference(task.call, &mut first);
+    let reply = boards::to_reference(task.call, task.message, &mut first);
     assert_eq!(reply >> 16, task.number, "{}: another reply than planned", task.name);
     for (board, name) in BOARDS.iter().zip(NAMES) {
         let mut table = task.table.clone();
-        assert_eq!(board(task.call, &mut table), reply, "{}: {name} answers else", task.name);
+        let answer = board(task.call, task.message, &mut table);
+        assert_eq!(answer, reply, "{}: {name} answers else", task.name);
         assert!(first == table, "{}: {name} leaves another table", task.name);
     }
 }

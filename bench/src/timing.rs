@@ -105,7 +105,7 @@ impl Clock {
         let begun = Instant::now();
         for _ in 0..passes(task) {
             for table in tables.chunks_exact_mut(layout.stride) {
-                black_box(board(black_box(task.call), &mut table[..bytes]));
+                black_box(board(black_box(task.call), task.message, &mut table[..bytes]));
             }
         }
         begun.elapsed().as_nanos() as f64
