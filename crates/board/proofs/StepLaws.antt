@@ -11,64 +11,70 @@ use lib.Seq.{getD-drop, getD-set-other, getD-take, length-take-le, set-getD}
 use borrow.Author.Tests.{eq-eqb, le-leb, lt-leb, ne-eqb}
 use borrow.Rule.Slice.PartMut.{put-same}
 use Rattle.rules.specs.Hall.{Desk, Hall, Limits, allScreens, deskOf}
-use Rattle.rules.specs.Steps.{Call, Collect, Collected, Drop, Retire, Swap, Take, collect, collectSeeing, firstNo, inRange, isRepeat, nextScreens, perform, retire, _sends_, accept, refuse}
-use Rattle.rules.specs.Steps.{retireQuestions}
-use Rattle.rules.specs.Table.{decode, decodeDesk, encodeDesk, hallIn, headerWords, owedOffset, positionWord, putRecord, recordOf, recordStart, scannedOffset, stepTable, tableAfter}
+use Rattle.rules.specs.Steps.{Collect, Collected, Drop, Retire, Step, Swap, Take, accept, collect, collectSeeing, decide, firstNo, inRange, isRepeat, nextScreens}
+use Rattle.rules.specs.Steps.{performStep, refuse, retire, retireQuestions, stepQuestions}
+use Rattle.rules.specs.Table.{decode, decodeDesk, encodeDesk, hallIn, headerWords, owedOffset, positionWord, putRecord, recordOf, recordStart, scannedOffset, tableAfterStep}
 use Rattle.rules.specs.laws.table.EncodedStep.{some-screens}
-use Rattle.rules.specs.laws.table.TableSteps.{accepted-step, asked, collect-seeing, owed-word, refused-step, shown-at}
+use Rattle.rules.specs.laws.table.TableSteps.{collect-seeing, owed-word, shown-at}
 use Rattle.desk.specs.Record.{Retired}
 use Rattle.reply.specs.Answer.{answerOf, tableResult}
 use Rattle.reply.specs.declared.Reply.{Reply}
 use Rattle.reply.specs.declared.Reply.the-variants.{Accepted, NoPosition, NoScreen, OverLimits, Owing, PositionEmpty, ScreenEmpty, ScreenFull}
 use Rattle.words.proofs.Scan.{ended, rest}
 use Rattle.desk.proofs.DeskTie.{scanned-below}
+use Rattle.board.specs.Results.{admittedStep}
 use Rattle.board.specs.declared.Location.{Location}
 use Rattle.board.proofs.AdmissionLaws.{Admitted}
 use Rattle.board.proofs.LocationLaws.{AtPosition, AtScreen, Lent, lentRecord, withRecord}
 
 module _ {limits : Limits} {t : List ℕ} {d : ℕ} {p : Location} (e : Admitted limits t d p) where
-  -- a step of the rules, by the number that its questions give
-  refused-as : (n : ℕ) (c : Call) → asked limits t c ≡ suc n → refuse (suc n) t ≡ stepTable limits t c
-  refused-as n c q = sym (refused-step limits t c n (e .yes-sound) q)
+  -- a step, by the number that its own questions give
+  abbrev ownAsked : Step → ℕ
+  ownAsked step = firstNo (stepQuestions limits (hallIn t) (decode (hallIn t) t) d step)
 
-  accepted-as : (c : Call) → asked limits t c ≡ 0 → accept (perform (hallIn t) (decode (hallIn t) t) c .session) (tableAfter t c) ≡ stepTable limits t c
-  accepted-as c q = sym (accepted-step limits t c (e .yes-sound) q)
+  refused-as : (n : ℕ) (step : Step) → ownAsked step ≡ suc n → refuse (suc n) t ≡ admittedStep limits t d step
+  unfolding admittedStep
+  refused-as n step q = sym (ap (λ (k : ℕ). decide k t (performStep (hallIn t) (decode (hallIn t) t) d step .session) (tableAfterStep t d step)) q)
+
+  accepted-as : (step : Step) → ownAsked step ≡ 0 → accept (performStep (hallIn t) (decode (hallIn t) t) d step .session) (tableAfterStep t d step) ≡ admittedStep limits t d step
+  unfolding admittedStep
+  accepted-as step q = sym (ap (λ (k : ℕ). decide k t (performStep (hallIn t) (decode (hallIn t) t) d step .session) (tableAfterStep t d step)) q)
 
   -- ---- drop
-  pub drop-no-screen : (i : ℕ) → inRange i (p .screens) ≡ false → tableResult NoScreen t ≡ stepTable limits t (d sends Drop i)
-  drop-no-screen i out = refused-as 6 (d sends Drop i) (rw (e .yes-desk, ← e .screens-is, out))
+  pub drop-no-screen : (i : ℕ) → inRange i (p .screens) ≡ false → tableResult NoScreen t ≡ admittedStep limits t d (Drop i)
+  drop-no-screen i out = refused-as 6 (Drop i) (rw (← e .screens-is, out))
 
   module _ {i a : ℕ} (s : AtScreen t d i a) where
-    pub drop-screen-empty : getD t a 0 ≡ 0 → tableResult ScreenEmpty t ≡ stepTable limits t (d sends Drop i)
-    drop-screen-empty none = refused-as 10 (d sends Drop i) (rw (e .yes-desk, s .yes-screen, s .shows, none))
+    pub drop-screen-empty : getD t a 0 ≡ 0 → tableResult ScreenEmpty t ≡ admittedStep limits t d (Drop i)
+    drop-screen-empty none = refused-as 10 (Drop i) (rw (s .yes-screen, s .shows, none))
 
     pub drop-accepted : (getD t a 0 ≡ 0 → ⊥)
-        → tableResult (Accepted (getD t a 0)) (set t a 0) ≡ stepTable limits t (d sends Drop i)
+        → tableResult (Accepted (getD t a 0)) (set t a 0) ≡ admittedStep limits t d (Drop i)
     drop-accepted some =
         (λ j. record { answer = record { number = 0; session = sym (s .shows) j }; after = set t (s .is j) 0 })
-        ∙ accepted-as (d sends Drop i) (rw (e .yes-desk, s .yes-screen, s .shows, ne-eqb (getD t a 0) 0 some))
+        ∙ accepted-as (Drop i) (rw (s .yes-screen, s .shows, ne-eqb (getD t a 0) 0 some))
 
   -- ---- take
-  pub take-no-screen : (i q : ℕ) → inRange i (p .screens) ≡ false → tableResult NoScreen t ≡ stepTable limits t (d sends Take i q)
-  take-no-screen i q out = refused-as 6 (d sends Take i q) (rw (e .yes-desk, ← e .screens-is, out))
+  pub take-no-screen : (i q : ℕ) → inRange i (p .screens) ≡ false → tableResult NoScreen t ≡ admittedStep limits t d (Take i q)
+  take-no-screen i q out = refused-as 6 (Take i q) (rw (← e .screens-is, out))
 
   module _ {i a : ℕ} (s : AtScreen t d i a) where
-    pub take-no-position : (q : ℕ) → inRange q (p .positions) ≡ false → tableResult NoPosition t ≡ stepTable limits t (d sends Take i q)
-    take-no-position q out = refused-as 7 (d sends Take i q) (rw (e .yes-desk, s .yes-screen, ← e .positions-is, out))
+    pub take-no-position : (q : ℕ) → inRange q (p .positions) ≡ false → tableResult NoPosition t ≡ admittedStep limits t d (Take i q)
+    take-no-position q out = refused-as 7 (Take i q) (rw (s .yes-screen, ← e .positions-is, out))
 
     module _ {q : ℕ} (h : AtPosition t d q) where
-      pub take-screen-full : (getD t a 0 ≡ 0 → ⊥) → tableResult ScreenFull t ≡ stepTable limits t (d sends Take i q)
+      pub take-screen-full : (getD t a 0 ≡ 0 → ⊥) → tableResult ScreenFull t ≡ admittedStep limits t d (Take i q)
       take-screen-full some =
-          refused-as 8 (d sends Take i q) (rw (e .yes-desk, s .yes-screen, h .yes-position, s .shows, ne-eqb (getD t a 0) 0 some))
+          refused-as 8 (Take i q) (rw (s .yes-screen, h .yes-position, s .shows, ne-eqb (getD t a 0) 0 some))
 
-      pub take-position-empty : getD t a 0 ≡ 0 → getD t (positionWord q) 0 ≡ 0 → tableResult PositionEmpty t ≡ stepTable limits t (d sends Take i q)
-      take-position-empty free none = refused-as 9 (d sends Take i q) (rw (e .yes-desk, s .yes-screen, h .yes-position, s .shows, free, h .holds, none))
+      pub take-position-empty : getD t a 0 ≡ 0 → getD t (positionWord q) 0 ≡ 0 → tableResult PositionEmpty t ≡ admittedStep limits t d (Take i q)
+      take-position-empty free none = refused-as 9 (Take i q) (rw (s .yes-screen, h .yes-position, s .shows, free, h .holds, none))
 
       pub take-accepted : getD t a 0 ≡ 0 → (getD t (positionWord q) 0 ≡ 0 → ⊥)
-          → tableResult (Accepted (getD t (positionWord q) 0)) (set t a (getD t (positionWord q) 0)) ≡ stepTable limits t (d sends Take i q)
+          → tableResult (Accepted (getD t (positionWord q) 0)) (set t a (getD t (positionWord q) 0)) ≡ admittedStep limits t d (Take i q)
       take-accepted free some =
           (λ j. record { answer = record { number = 0; session = sym (h .holds) j }; after = set t (s .is j) (getD t (positionWord q) 0) })
-          ∙ accepted-as (d sends Take i q) (rw (e .yes-desk, s .yes-screen, h .yes-position, s .shows, free, h .holds, ne-eqb (getD t (positionWord q) 0) 0 some))
+          ∙ accepted-as (Take i q) (rw (s .yes-screen, h .yes-position, s .shows, free, h .holds, ne-eqb (getD t (positionWord q) 0) 0 some))
 
   -- ---- swap: the owed word and the word of the position, as the code reads them
   owed-at : p .start + owedOffset ≡ recordStart (hallIn t) d
@@ -78,40 +84,40 @@ module _ {limits : Limits} {t : List ℕ} {d : ℕ} {p : Location} (e : Admitted
   owes = owed-word t d (e .range .0) (e .range .1) ∙ ap (λ (k : ℕ). getD t k 0) (sym owed-at)
 
   module _ (q v : ℕ) where
-    pub swap-no-position : inRange q (p .positions) ≡ false → tableResult NoPosition t ≡ stepTable limits t (d sends Swap q v)
-    swap-no-position out = refused-as 7 (d sends Swap q v) (rw (e .yes-desk, ← e .positions-is, out))
+    pub swap-no-position : inRange q (p .positions) ≡ false → tableResult NoPosition t ≡ admittedStep limits t d (Swap q v)
+    swap-no-position out = refused-as 7 (Swap q v) (rw (← e .positions-is, out))
 
-    pub swap-over-limits : AtPosition t d q → limits .sessions < v → tableResult OverLimits t ≡ stepTable limits t (d sends Swap q v)
-    swap-over-limits h over = refused-as 21 (d sends Swap q v) (rw (e .yes-desk, h .yes-position, lt-leb v (limits .sessions) over))
+    pub swap-over-limits : AtPosition t d q → limits .sessions < v → tableResult OverLimits t ≡ admittedStep limits t d (Swap q v)
+    swap-over-limits h over = refused-as 21 (Swap q v) (rw (h .yes-position, lt-leb v (limits .sessions) over))
 
     module _ (h : AtPosition t d q) (in-limits : v ≤ limits .sessions) {owed : ℕ} (owed-is : owed ≡ getD t (p .start + owedOffset) 0) where
       yes-session : leb v (limits .sessions) ≡ true
       yes-session = le-leb v (limits .sessions) in-limits
 
-      pub swap-owing : (owed ≡ 0 → ⊥) → tableResult Owing t ≡ stepTable limits t (d sends Swap q v)
-      swap-owing some = refused-as 11 (d sends Swap q v) (rw (e .yes-desk, h .yes-position, yes-session, owes, ← owed-is, ne-eqb owed 0 some))
+      pub swap-owing : (owed ≡ 0 → ⊥) → tableResult Owing t ≡ admittedStep limits t d (Swap q v)
+      swap-owing some = refused-as 11 (Swap q v) (rw (h .yes-position, yes-session, owes, ← owed-is, ne-eqb owed 0 some))
 
       module _ (none : owed ≡ 0) {old : ℕ} (old-is : old ≡ getD t (positionWord q) 0) where
         -- an accepted swap, given whether it is a repeat
         swap-accepted-as : (repeat : Bool) → isRepeat old v ≡ repeat
-            → tableResult (Accepted old) (cond repeat t (set (set t (positionWord q) v) (p .start + owedOffset) old)) ≡ stepTable limits t (d sends Swap q v)
+            → tableResult (Accepted old) (cond repeat t (set (set t (positionWord q) v) (p .start + owedOffset) old)) ≡ admittedStep limits t d (Swap q v)
         swap-accepted-as repeat is =
             (λ j. record {
               answer = record { number = 0; session = (old-is ∙ sym (h .holds)) j };
               after = cond ((sym is ∙ ap (λ (x : ℕ). isRepeat x v) old-is) j) t (set (set t (positionWord q) v) (owed-at j) (old-is j));
             })
-            ∙ accepted-as (d sends Swap q v) (rw (e .yes-desk, h .yes-position, yes-session, owes, ← owed-is, none))
+            ∙ accepted-as (Swap q v) (rw (h .yes-position, yes-session, owes, ← owed-is, none))
 
         -- the position holds it already: nothing is written
-        pub swap-repeated : old ≡ v → tableResult (Accepted old) t ≡ stepTable limits t (d sends Swap q v)
+        pub swap-repeated : old ≡ v → tableResult (Accepted old) t ≡ admittedStep limits t d (Swap q v)
         swap-repeated same = swap-accepted-as true (eq-eqb old v same)
 
         pub swap-accepted : (old ≡ v → ⊥)
-            → tableResult (Accepted old) (set (set t (positionWord q) v) (p .start + owedOffset) old) ≡ stepTable limits t (d sends Swap q v)
+            → tableResult (Accepted old) (set (set t (positionWord q) v) (p .start + owedOffset) old) ≡ admittedStep limits t d (Swap q v)
         swap-accepted other = swap-accepted-as false (ne-eqb old v other)
 
         -- nothing stood there: the owed word stays 0
-        pub swap-accepted-none : (old ≡ v → ⊥) → old ≡ 0 → tableResult (Accepted old) (set t (positionWord q) v) ≡ stepTable limits t (d sends Swap q v)
+        pub swap-accepted-none : (old ≡ v → ⊥) → old ≡ 0 → tableResult (Accepted old) (set t (positionWord q) v) ≡ admittedStep limits t d (Swap q v)
         swap-accepted-none other empty =
             let after : List ℕ = set t (positionWord q) v in
             let at : ℕ = p .start + owedOffset in
@@ -121,31 +127,31 @@ module _ {limits : Limits} {t : List ℕ} {d : ℕ} {p : Location} (e : Admitted
   -- ---- retire
   module _ (l : Lent t d p) where
     pub retire-result : (x : Reply) (ys : List ℕ) → Retired (p .all) (lentRecord t p) (answerOf x) ys
-        → tableResult x (withRecord t p ys) ≡ stepTable limits t (d sends Retire)
+        → tableResult x (withRecord t p ys) ≡ admittedStep limits t d Retire
     retire-result x ys r = go (answerOf x .number) refl
       where
-        all-asked : asked limits t (d sends Retire) ≡ answerOf x .number
-        all-asked = rw (e .yes-desk) (sym (r .number ∙ ap₂ (λ (n : ℕ) (D : Desk). firstNo (retireQuestions n D)) (e .all-is) (l .desk-is)))
+        all-asked : ownAsked Retire ≡ answerOf x .number
+        all-asked = sym (r .number ∙ ap₂ (λ (n : ℕ) (D : Desk). firstNo (retireQuestions n D)) (e .all-is) (l .desk-is))
 
-        go : (n : ℕ) → answerOf x .number ≡ n → tableResult x (withRecord t p ys) ≡ stepTable limits t (d sends Retire)
+        go : (n : ℕ) → answerOf x .number ≡ n → tableResult x (withRecord t p ys) ≡ admittedStep limits t d Retire
         go zero z =
             let session : answerOf x .session ≡ deskOf (decode (hallIn t) t) d .owed = rw z at (r .session) ∙ ap (λ (D : Desk). D .owed) (l .desk-is) in
             let after : ys ≡ encodeDesk (allScreens (hallIn t)) (retire (decodeDesk (allScreens (hallIn t)) (recordOf (hallIn t) t d))) =
             rw z at (r .after) ∙ ap₂ (λ (n : ℕ) (x : List ℕ). encodeDesk n (retire (decodeDesk n x))) (e .all-is) (l .part) in
             (λ i. record { answer = record { number = z i; session = session i }; after = (l .put ys ∙ ap (putRecord (hallIn t) t d) after) i })
-            ∙ accepted-as (d sends Retire) (all-asked ∙ z)
+            ∙ accepted-as Retire (all-asked ∙ z)
         go (suc n) z =
             let session : answerOf x .session ≡ 0 = rw (z, eqb·suc-zero) at (r .session) in
             let after : ys ≡ lentRecord t p = rw (z, eqb·suc-zero) at (r .after) in
             let same : withRecord t p ys ≡ t = ap (withRecord t p) after ∙ put-same (p .start) (p .end - p .start) t in
             (λ i. record { answer = record { number = z i; session = session i }; after = same i })
-            ∙ refused-as n (d sends Retire) (all-asked ∙ z)
+            ∙ refused-as n Retire (all-asked ∙ z)
 
     -- ---- collect
     pub collect-result : (vs : List ℕ) → vs ≡ nextScreens (decode (hallIn t) t .shown) (decodeDesk (p .all) (lentRecord t p)) → (x : ℕ) (ys : List ℕ)
         → x ≡ collectSeeing (p .all) vs (decodeDesk (p .all) (lentRecord t p)) .session
         → ys ≡ encodeDesk (p .all) (collectSeeing (p .all) vs (decodeDesk (p .all) (lentRecord t p)) .after)
-        → tableResult (Accepted x) (withRecord t p ys) ≡ stepTable limits t (d sends Collect)
+        → tableResult (Accepted x) (withRecord t p ys) ≡ admittedStep limits t d Collect
     collect-result vs seen x ys ex ey =
         let H : Hall = hallIn t in
         let D : Desk = decodeDesk (p .all) (lentRecord t p) in
@@ -158,7 +164,7 @@ module _ {limits : Limits} {t : List ℕ} {d : ℕ} {p : Location} (e : Admitted
         ∙ ap (λ (n : ℕ). encodeDesk (allScreens H) (collect (allScreens H) shown (decodeDesk n (lentRecord t p)) .after)) (e .all-is)
         ∙ ap (λ (r : List ℕ). encodeDesk (allScreens H) (collect (allScreens H) shown (decodeDesk (allScreens H) r) .after)) (l .part) in
         (λ i. record { answer = record { number = 0; session = session i }; after = (l .put ys ∙ ap (putRecord H t d) after) i })
-        ∙ accepted-as (d sends Collect) (rw (e .yes-desk))
+        ∙ accepted-as Collect refl
 
 -- the screens that a collect reads
 scanned-word : (s : ℕ) (r : List ℕ) → getD r scannedOffset 0 ≡ decodeDesk s r .scanned

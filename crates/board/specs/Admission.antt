@@ -1,19 +1,20 @@
--- What every step asks first: is the table sound, is the desk 1 to P; and the location of the desk's words in the table.
+-- What every step asks first: is the table sound, is the desk 1 to P, is the message number the desk's next; and the location of the desk's
+-- words in the table.
 use Prim.Native.Nat.{ℕ, _+_, _-_, _*_}
 use mathlib.Core.Bool.{_&&_, cond, true}
 use mathlib.Core.List.{List}
 use mathlib.Core.Path.{_≡_}
-use lib.Dec.{leb}
-use lib.ListN.{length}
+use lib.Dec.{eqb, leb}
+use lib.ListN.{getD, length}
 use Rattle.rules.specs.Hall.{Limits, allScreens}
 use Rattle.rules.specs.Steps.{inRange}
-use Rattle.rules.specs.Table.{hallIn, headerWords, inLimits, need, recordStart, sound, startFor}
+use Rattle.rules.specs.Table.{hallIn, headerWords, inLimits, need, nextWord, recordStart, sound, startFor}
 use Rattle.board.specs.declared.Hall.{Hall}
 use Rattle.board.specs.declared.Header.{Header}
 use Rattle.board.specs.declared.Header.the-variants.{Broken, Of}
 use Rattle.board.specs.declared.Location.{Location}
 use Rattle.board.specs.declared.Admission.{Admission}
-use Rattle.board.specs.declared.Admission.the-variants.{At, NoDesk, Unsound}
+use Rattle.board.specs.declared.Admission.the-variants.{At, NoDesk, OtherNumber, Unsound}
 
 abbrev pub numbersIn : List ℕ → Hall
 numbersIn t = let H = hallIn t in record { desks = H .desks; screens = H .screens; positions = H .positions; all = allScreens H }
@@ -25,12 +26,22 @@ headerOf limits t = cond (inLimits limits (hallIn t) && leb (need (hallIn t)) (l
 abbrev pub locationOf : List ℕ → ℕ → Location
 locationOf t desk =
     let H = hallIn t in
-    record { positions = H .positions; screens = H .screens; all = allScreens H; start = recordStart H desk; end = startFor (H .positions) (allScreens H) desk }
+    record {
+      positions = H .positions;
+      screens = H .screens;
+      all = allScreens H;
+      start = recordStart H desk;
+      end = startFor (H .positions) (allScreens H) desk;
+      next = nextWord H desk;
+    }
 
-unfoldable pub admissionOf : Limits → List ℕ → ℕ → Admission
-admissionOf limits t desk = cond (sound limits t) (cond (inRange desk (hallIn t .desks)) (At (locationOf t desk)) NoDesk) Unsound
+unfoldable pub admissionOf : Limits → List ℕ → ℕ → ℕ → Admission
+admissionOf limits t message desk =
+    cond (sound limits t)
+    (cond (inRange desk (hallIn t .desks)) (cond (eqb message (getD t (nextWord (hallIn t) desk) 0)) (At (locationOf t desk)) OtherNumber) NoDesk)
+    Unsound
 
--- Both questions are answered yes, and this is the desk's location.
+-- The first two are answered yes, and this is the desk's location.
 pub record Admits (limits : Limits) (t : List ℕ) (desk : ℕ) (location : Location) : Type 0 where
   pub yes-sound : sound limits t ≡ true
   pub yes-desk : inRange desk (hallIn t .desks) ≡ true

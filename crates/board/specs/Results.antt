@@ -1,12 +1,14 @@
 -- A call on a table sent as bytes, compared with the rules on its words.
 use Prim.Native.Nat.{ℕ, _*_}
+use mathlib.Core.Bool.{cond}
 use mathlib.Core.List.{List}
 use mathlib.Core.Path.{_≡_}
-use lib.ListN.{length, drop}
+use lib.Dec.{eqb}
+use lib.ListN.{length, drop, set}
 use Rattle.rules.specs.Bytes.{wordsOfBytes}
 use Rattle.rules.specs.Hall.{Hall, Limits}
-use Rattle.rules.specs.Steps.{Call, Result}
-use Rattle.rules.specs.Table.{openTable, stepTable}
+use Rattle.rules.specs.Steps.{Call, Result, Step, advance, decide, firstNo, performStep, stepQuestions}
+use Rattle.rules.specs.Table.{decode, hallIn, openTable, stepTable, tableAfterStep}
 use Rattle.reply.specs.Answer.{tableResult}
 use Rattle.reply.specs.declared.Reply.{Reply}
 
@@ -21,3 +23,20 @@ Stepped limits call before = Matches (stepTable limits (wordsOfBytes before) cal
 
 abbrev pub Opened : Limits → Hall → List ℕ → Reply → List ℕ → Type 0
 Opened limits hall before = Matches (openTable limits hall (wordsOfBytes before)) before
+
+-- A step of an admitted desk, all but the message number: its own questions, and if none is answered no, what it does.
+unfoldable pub admittedStep : Limits → List ℕ → ℕ → Step → Result (List ℕ)
+admittedStep limits table d step =
+    let hall = hallIn table in
+    let state = decode hall table in
+    decide (firstNo (stepQuestions limits hall state d step)) table (performStep hall state d step .session) (tableAfterStep table d step)
+
+abbrev pub Performed : Limits → ℕ → Step → List ℕ → Reply → List ℕ → Type 0
+Performed limits d step before = Matches (admittedStep limits (wordsOfBytes before) d step) before
+
+-- The same result, but after an acceptance the word at this offset holds the message number after this one.
+abbrev pub movedOn : ℕ → ℕ → Result (List ℕ) → Result (List ℕ)
+movedOn next message result = record {
+  answer = result .answer;
+  after = cond (eqb (result .answer .number) 0) (set (result .after) next (advance message)) (result .after);
+}

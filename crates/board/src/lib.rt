@@ -1,10 +1,10 @@
-use desk::LIST;
 use desk::OWED;
 use desk::SCANNED;
 use desk::collect_record;
 use desk::record_words;
 use desk::retire_record;
 use desk::sound_record;
+use desk::tail_offset;
 use limits::Limits;
 use limits::within;
 use reply::Reply;
@@ -19,14 +19,15 @@ ghost use lib.ListN.{length, drop as dropWords};
 ghost use Rattle.rules.specs.Bytes.{wordsOfBytes};
 ghost use Rattle.rules.specs.Hall.{hallLimits, hallOf, maxAllScreens, maxDesks, maxPositions, trainingLimits};
 ghost use Rattle.rules.specs.Lists.{chunks, every};
-ghost use Rattle.rules.specs.Steps.{Collect, Drop, Retire, Swap, Take, _sends_, inRange};
-ghost use Rattle.rules.specs.Table.{headerWords, inLimits, maxWords, need as hallNeed, recordSound, startFor, widthFor};
+ghost use Rattle.rules.specs.Messages.{nextIn};
+ghost use Rattle.rules.specs.Steps.{Collect, Drop, Retire, Swap, Take, _numbered_, _sends_, inRange};
+ghost use Rattle.rules.specs.Table.{headerWords, inHall, inLimits, maxWords, need as hallNeed, recordSound, startFor, widthFor};
 ghost use Rattle.limits.specs.Room.{limitsOf};
-ghost use Rattle.reply.specs.Answer.{answerOf};
+ghost use Rattle.reply.specs.Answer.{answerOf, tableResult};
 ghost use Rattle.board.specs.Admission.{Admits, admissionOf, headerOf, screenFor};
 ghost use Rattle.board.specs.declared.Header.the-variants.{Of};
 ghost use Rattle.board.specs.Opening.{OpeningAnswer};
-ghost use Rattle.board.specs.Results.{Opened, Stepped};
+ghost use Rattle.board.specs.Results.{Matches, Opened, Performed, Stepped, movedOn};
 
 // Offsets in a table: P, the desks.
 const DESKS: usize = 0;
@@ -76,17 +77,17 @@ impl Board {
     };
 
     // The words that the largest hall needs, and their bytes.
-    pub const MAX_WORDS: usize = 2387;
+    pub const MAX_WORDS: usize = 2403;
 
     pub const MAX_BYTES: usize = 2 * Board::MAX_WORDS;
 
-    // The words that a hall needs: 3 + L + S + P times (13 + 2S).
+    // The words that a hall needs: 3 + L + S + P times the words of a record.
     pub fn need(desks: u16, screens: u16, positions: u16) -> usize
         ensures { λ r. ⌜ r ≡ hallNeed (hallOf desks screens positions) ⌝ }
     {
         let p = desks as usize;
         let s = p * screens as usize;
-        HEADER + (positions as usize + (s + p * (LIST + 2 * s)))
+        HEADER + (positions as usize + (s + p * record_words(s)))
     }
 }
 
@@ -112,9 +113,9 @@ fn in_range(n: u16, most: usize) -> bool
     1 <= x && x <= most
 }
 
-// Whether P, c and L are in range, in a room with these limits.
-fn in_limits(limits: Limits, desks: u16, screens: u16, positions: u16) -> bool
-    ensures { λ r. ⌜ r ≡ inLimits (limitsOf limits) (hallOf desks screens positions) ⌝ }
+// Whether P, c and L are in range.
+fn in_hall(desks: u16, screens: u16, positions: u16) -> bool
+    ensures { λ r. ⌜ r ≡ inHall (hallOf desks screens positions) ⌝ }
 {
     if !in_range(desks, Board::MAX_DESKS) {
         return false;
@@ -122,7 +123,14 @@ fn in_limits(limits: Limits, desks: u16, screens: u16, positions: u16) -> bool
     if !in_range(screens, Board::MAX_SCREENS) {
         return false;
     }
-    in_range(positions, Board::MAX_POSITIONS) && within(limits, desks, screens, positions)
+    in_range(positions, Board::MAX_POSITIONS)
+}
+
+// Whether P, c and L are in range, in a room with these limits.
+fn in_limits(limits: Limits, desks: u16, screens: u16, positions: u16) -> bool
+    ensures { λ r. ⌜ r ≡ inLimits (limitsOf limits) (hallOf desks screens positions) ⌝ }
+{
+    in_hall(desks, screens, positions) && within(limits, desks, screens, positions)
 }
 
 // The offset of the record of desk d, with d counted from 0, in a hall of l positions and s screens.
@@ -205,27 +213,30 @@ fn read_header(t: &[u8], limits: Limits) -> Header
     })
 }
 
-// A desk's location in a sound table: the numbers of positions, of screens per desk and of all screens, and the start and the end
-// of the desk's record.
+// A desk's location in a sound table: the numbers of positions, of screens per desk and of all screens, the start and the end of the
+// desk's record, and the offset of its next message number.
 struct Location {
     pub positions: usize,
     pub screens: usize,
     pub all: usize,
     pub start: usize,
     pub end: usize,
+    pub next: usize,
 }
 
 // The result of the first questions of a step: one of their refusals, or the location of the desk.
 enum Admission {
     Unsound,
     NoDesk,
+    OtherNumber,
     At(Location),
 }
 
-// What every step asks first: is the table sound, is the desk 1 to P. Precondition: `hall` is the one in the header, within the limits.
-fn admit(t: &[u8], limits: Limits, hall: Hall, desk: u16) -> Admission
+// What every step asks first: is the table sound, is the desk 1 to P, is the message number the desk's next. Precondition: `hall` is the
+// one in the header, within the limits.
+fn admit(t: &[u8], limits: Limits, hall: Hall, message: u16, desk: u16) -> Admission
     requires { ⌜ Of hall ≡ headerOf (limitsOf limits) (wordsOfBytes (now t)) ⌝ }
-    ensures { λ r. ⌜ r ≡ admissionOf (limitsOf limits) (wordsOfBytes (now (t .entry))) desk ⌝ }
+    ensures { λ r. ⌜ r ≡ admissionOf (limitsOf limits) (wordsOfBytes (now (t .entry))) message desk ⌝ }
 {
     let p = hall.desks;
     let l = hall.positions;
@@ -239,12 +250,17 @@ fn admit(t: &[u8], limits: Limits, hall: Hall, desk: u16) -> Admission
     let d = desk as usize;
     let a = record_start(l, s, d - 1);
     let e = record_start(l, s, d);
+    let next = a + tail_offset(s);
+    if word(t, next) != message {
+        return Admission::OtherNumber;
+    }
     Admission::At(Location {
         positions: l,
         screens: hall.screens,
         all: s,
         start: a,
         end: e,
+        next: next,
     })
 }
 
@@ -286,8 +302,46 @@ pub fn open(t: &mut [u8], limits: Limits, desks: u16, screens: u16, positions: u
     Reply::Accepted(0)
 }
 
+// The next message number of a desk. The table need not be sound: if P, c or L is out of range, the hall has no such desk or the table ends
+// before the number, it is 0.
+pub fn next_message(t: &[u8], desk: u16) -> u16
+    ensures { λ r. ⌜ r ≡ nextIn (wordsOfBytes (now (t .entry))) desk ⌝ }
+{
+    let n = t.len() / 2;
+    if n < HEADER {
+        return 0;
+    }
+    let desks = word(t, DESKS);
+    let screens = word(t, SCREENS);
+    let positions = word(t, POSITIONS);
+    if !in_hall(desks, screens, positions) {
+        return 0;
+    }
+    if !in_range(desk, desks as usize) {
+        return 0;
+    }
+    let s = desks as usize * screens as usize;
+    let next = record_start(positions as usize, s, desk as usize - 1) + tail_offset(s);
+    if n <= next {
+        return 0;
+    }
+    word(t, next)
+}
+
+// Ends an admitted step, given its reply: after an acceptance the desk's next message number, word `next`, is the one after the call's; 0
+// comes after 65,535. Precondition: the table has that word.
+fn move_on(t: &mut [u8], next: usize, message: u16, r: Reply) -> Reply
+    requires { ⌜ 2 * next + 1 < length (now t) ⌝ }
+    ensures { λ x. ⌜ Matches (movedOn next message (tableResult r (wordsOfBytes (now (t .entry))))) (now (t .entry)) x (now (t .exit)) ⌝ }
+{
+    if number(r) == 0 {
+        put_word(t, next, std::num::wrapping_add_u16(message, 1));
+    }
+    r
+}
+
 // Take, of an admitted desk. Precondition, here and for the other steps: the table is sound in a room with these limits, it has the desk,
-// and this is its location. (Only a swap asks the limits again.)
+// and this is its location. (Only a swap asks the limits again.) The message number is left to `move_on`.
 fn take_at(
     t: &mut [u8],
     limits: Limits,
@@ -297,7 +351,7 @@ fn take_at(
     position: u16,
 ) -> Reply
     requires { ⌜ Admits (limitsOf limits) (wordsOfBytes (now t)) desk location ⌝ }
-    ensures { λ r. ⌜ Stepped (limitsOf limits) (desk sends Take screen position) (now (t .entry)) r (now (t .exit)) ⌝ }
+    ensures { λ r. ⌜ Performed (limitsOf limits) desk (Take screen position) (now (t .entry)) r (now (t .exit)) ⌝ }
 {
     let c = location.screens;
     let l = location.positions;
@@ -320,18 +374,29 @@ fn take_at(
 }
 
 // Take: the screen shows the position's session; the reply is that session.
-pub fn take(t: &mut [u8], limits: Limits, desk: u16, screen: u16, position: u16) -> Reply
-    ensures { λ r. ⌜ Stepped (limitsOf limits) (desk sends Take screen position) (now (t .entry)) r (now (t .exit)) ⌝ }
+pub fn take(
+    t: &mut [u8],
+    limits: Limits,
+    message: u16,
+    desk: u16,
+    screen: u16,
+    position: u16,
+) -> Reply
+    ensures { λ r. ⌜ Stepped (limitsOf limits) (desk sends Take screen position numbered message) (now (t .entry)) r (now (t .exit)) ⌝ }
 {
     let header = read_header(t, limits);
     match header {
         Header::Broken => Reply::Unsound,
         Header::Of(hall) => {
-            let admission = admit(t, limits, hall, desk);
+            let admission = admit(t, limits, hall, message, desk);
             match admission {
                 Admission::Unsound => Reply::Unsound,
                 Admission::NoDesk => Reply::NoDesk,
-                Admission::At(location) => take_at(t, limits, desk, location, screen, position),
+                Admission::OtherNumber => Reply::OtherNumber,
+                Admission::At(location) => {
+                    let r = take_at(t, limits, desk, location, screen, position);
+                    move_on(t, location.next, message, r)
+                }
             }
         }
     }
@@ -340,7 +405,7 @@ pub fn take(t: &mut [u8], limits: Limits, desk: u16, screen: u16, position: u16)
 // Drop, of an admitted desk.
 fn drop_at(t: &mut [u8], limits: Limits, desk: u16, location: Location, screen: u16) -> Reply
     requires { ⌜ Admits (limitsOf limits) (wordsOfBytes (now t)) desk location ⌝ }
-    ensures { λ r. ⌜ Stepped (limitsOf limits) (desk sends Drop screen) (now (t .entry)) r (now (t .exit)) ⌝ }
+    ensures { λ r. ⌜ Performed (limitsOf limits) desk (Drop screen) (now (t .entry)) r (now (t .exit)) ⌝ }
 {
     let c = location.screens;
     let l = location.positions;
@@ -357,18 +422,22 @@ fn drop_at(t: &mut [u8], limits: Limits, desk: u16, location: Location, screen: 
 }
 
 // Drop: the screen becomes 0; the reply is what it showed.
-pub fn drop(t: &mut [u8], limits: Limits, desk: u16, screen: u16) -> Reply
-    ensures { λ r. ⌜ Stepped (limitsOf limits) (desk sends Drop screen) (now (t .entry)) r (now (t .exit)) ⌝ }
+pub fn drop(t: &mut [u8], limits: Limits, message: u16, desk: u16, screen: u16) -> Reply
+    ensures { λ r. ⌜ Stepped (limitsOf limits) (desk sends Drop screen numbered message) (now (t .entry)) r (now (t .exit)) ⌝ }
 {
     let header = read_header(t, limits);
     match header {
         Header::Broken => Reply::Unsound,
         Header::Of(hall) => {
-            let admission = admit(t, limits, hall, desk);
+            let admission = admit(t, limits, hall, message, desk);
             match admission {
                 Admission::Unsound => Reply::Unsound,
                 Admission::NoDesk => Reply::NoDesk,
-                Admission::At(location) => drop_at(t, limits, desk, location, screen),
+                Admission::OtherNumber => Reply::OtherNumber,
+                Admission::At(location) => {
+                    let r = drop_at(t, limits, desk, location, screen);
+                    move_on(t, location.next, message, r)
+                }
             }
         }
     }
@@ -384,7 +453,7 @@ fn swap_at(
     session: u16,
 ) -> Reply
     requires { ⌜ Admits (limitsOf limits) (wordsOfBytes (now t)) desk location ⌝ }
-    ensures { λ r. ⌜ Stepped (limitsOf limits) (desk sends Swap position session) (now (t .entry)) r (now (t .exit)) ⌝ }
+    ensures { λ r. ⌜ Performed (limitsOf limits) desk (Swap position session) (now (t .entry)) r (now (t .exit)) ⌝ }
 {
     if !in_range(position, location.positions) {
         return Reply::NoPosition;
@@ -409,19 +478,30 @@ fn swap_at(
 }
 
 // Swap: the position holds the new session or 0; the reply is the old one, and the desk owes it if it is not 0. A repeat, a swap to what
-// the position holds already, writes nothing.
-pub fn swap(t: &mut [u8], limits: Limits, desk: u16, position: u16, session: u16) -> Reply
-    ensures { λ r. ⌜ Stepped (limitsOf limits) (desk sends Swap position session) (now (t .entry)) r (now (t .exit)) ⌝ }
+// the position holds already, only moves the message number on.
+pub fn swap(
+    t: &mut [u8],
+    limits: Limits,
+    message: u16,
+    desk: u16,
+    position: u16,
+    session: u16,
+) -> Reply
+    ensures { λ r. ⌜ Stepped (limitsOf limits) (desk sends Swap position session numbered message) (now (t .entry)) r (now (t .exit)) ⌝ }
 {
     let header = read_header(t, limits);
     match header {
         Header::Broken => Reply::Unsound,
         Header::Of(hall) => {
-            let admission = admit(t, limits, hall, desk);
+            let admission = admit(t, limits, hall, message, desk);
             match admission {
                 Admission::Unsound => Reply::Unsound,
                 Admission::NoDesk => Reply::NoDesk,
-                Admission::At(location) => swap_at(t, limits, desk, location, position, session),
+                Admission::OtherNumber => Reply::OtherNumber,
+                Admission::At(location) => {
+                    let r = swap_at(t, limits, desk, location, position, session);
+                    move_on(t, location.next, message, r)
+                }
             }
         }
     }
@@ -430,7 +510,7 @@ pub fn swap(t: &mut [u8], limits: Limits, desk: u16, position: u16, session: u16
 // Retire, of an admitted desk: on its record.
 fn retire_at(t: &mut [u8], limits: Limits, desk: u16, location: Location) -> Reply
     requires { ⌜ Admits (limitsOf limits) (wordsOfBytes (now t)) desk location ⌝ }
-    ensures { λ r. ⌜ Stepped (limitsOf limits) (desk sends Retire) (now (t .entry)) r (now (t .exit)) ⌝ }
+    ensures { λ r. ⌜ Performed (limitsOf limits) desk Retire (now (t .entry)) r (now (t .exit)) ⌝ }
 {
     let a = location.start;
     let e = location.end;
@@ -438,18 +518,22 @@ fn retire_at(t: &mut [u8], limits: Limits, desk: u16, location: Location) -> Rep
 }
 
 // Retire: the owed session goes to the end of the list as waiting; nothing is owed; the reply is that session.
-pub fn retire(t: &mut [u8], limits: Limits, desk: u16) -> Reply
-    ensures { λ r. ⌜ Stepped (limitsOf limits) (desk sends Retire) (now (t .entry)) r (now (t .exit)) ⌝ }
+pub fn retire(t: &mut [u8], limits: Limits, message: u16, desk: u16) -> Reply
+    ensures { λ r. ⌜ Stepped (limitsOf limits) (desk sends Retire numbered message) (now (t .entry)) r (now (t .exit)) ⌝ }
 {
     let header = read_header(t, limits);
     match header {
         Header::Broken => Reply::Unsound,
         Header::Of(hall) => {
-            let admission = admit(t, limits, hall, desk);
+            let admission = admit(t, limits, hall, message, desk);
             match admission {
                 Admission::Unsound => Reply::Unsound,
                 Admission::NoDesk => Reply::NoDesk,
-                Admission::At(location) => retire_at(t, limits, desk, location),
+                Admission::OtherNumber => Reply::OtherNumber,
+                Admission::At(location) => {
+                    let r = retire_at(t, limits, desk, location);
+                    move_on(t, location.next, message, r)
+                }
             }
         }
     }
@@ -458,7 +542,7 @@ pub fn retire(t: &mut [u8], limits: Limits, desk: u16) -> Reply
 // Collect, of an admitted desk: on its record, with the next two screens of the hall or the last one alone.
 fn collect_at(t: &mut [u8], limits: Limits, desk: u16, location: Location) -> Reply
     requires { ⌜ Admits (limitsOf limits) (wordsOfBytes (now t)) desk location ⌝ }
-    ensures { λ r. ⌜ Stepped (limitsOf limits) (desk sends Collect) (now (t .entry)) r (now (t .exit)) ⌝ }
+    ensures { λ r. ⌜ Performed (limitsOf limits) desk Collect (now (t .entry)) r (now (t .exit)) ⌝ }
 {
     let s = location.all;
     let a = location.start;
@@ -475,18 +559,22 @@ fn collect_at(t: &mut [u8], limits: Limits, desk: u16, location: Location) -> Re
 }
 
 // Collect: (a) to (d); the reply is the session that is handed back, or 0.
-pub fn collect(t: &mut [u8], limits: Limits, desk: u16) -> Reply
-    ensures { λ r. ⌜ Stepped (limitsOf limits) (desk sends Collect) (now (t .entry)) r (now (t .exit)) ⌝ }
+pub fn collect(t: &mut [u8], limits: Limits, message: u16, desk: u16) -> Reply
+    ensures { λ r. ⌜ Stepped (limitsOf limits) (desk sends Collect numbered message) (now (t .entry)) r (now (t .exit)) ⌝ }
 {
     let header = read_header(t, limits);
     match header {
         Header::Broken => Reply::Unsound,
         Header::Of(hall) => {
-            let admission = admit(t, limits, hall, desk);
+            let admission = admit(t, limits, hall, message, desk);
             match admission {
                 Admission::Unsound => Reply::Unsound,
                 Admission::NoDesk => Reply::NoDesk,
-                Admission::At(location) => collect_at(t, limits, desk, location),
+                Admission::OtherNumber => Reply::OtherNumber,
+                Admission::At(location) => {
+                    let r = collect_at(t, limits, desk, location);
+                    move_on(t, location.next, message, r)
+                }
             }
         }
     }

@@ -1,10 +1,8 @@
--- `board::collect` meets its contract.
+-- `board::collect` meets its contract: each answer is that of `admit` or of the header, or the step was done and `move_on` followed.
 use mathlib.Core.Path.{sym, _∙_}
 use borrow.Author.Needs.{needs}
-use Rattle.rules.specs.Bytes.{wordsOfBytes}
-use Rattle.rules.specs.Steps.{Collect, _sends_}
-use Rattle.limits.specs.Room.{limitsOf}
-use Rattle.board.proofs.AdmissionLaws.{admits, refused-desk, refused-header, refused-table}
+use Rattle.board.proofs.AdmissionLaws.{admits, refused-desk, refused-header, refused-number, refused-table}
+use Rattle.board.proofs.MessageLaws.{number-in-bytes, stepped}
 use Rattle.board.proofs.ResultLaws.{matches-unchanged}
 use Rattle.board.proofs.collect.Statement.{statement}
 use Rattle.board.proofs.collect.Tie as tie
@@ -29,45 +27,53 @@ enum-told-2 c = search needs
 enum-told-3 : tie.Need-enum-told-3
 enum-told-3 c = search needs
 
+enum-told-4 : tie.Need-enum-told-4
+enum-told-4 c = search needs
+
 enum-known-admission : tie.Need-enum-known-admission
 enum-known-admission c = search needs
 
 collect-at-requires : tie.Need-collect-at-requires
 collect-at-requires c κs =
-    let at-match2-keys3 = c .before .before .before in let after-admit = at-match2-keys3 .before in
-    admits (sym (c .before .before .admission .given .1) ∙ after-admit .admit .ensures)
+    let at-match2-keys4 = c .before .before .before in let after-admit = at-match2-keys4 .before in
+    admits (c .before .before .admission .given .1) (after-admit .admit .ensures) .admits-desk
+
+move-on-requires : tie.Need-move-on-requires
+move-on-requires c κs =
+    let after-collect-at = c .before .before .before in let after-admission = after-collect-at .before .before .before in
+    let after-admit = after-admission .before .before in let after-header = after-admit .before .before .before in
+    let after-read-header-arg = after-header .before .before .before in let start = after-read-header-arg .before .before in
+    number-in-bytes (start .args .t .now) (after-collect-at .collect-at .last .0) (admits (after-admission .admission .given .1) (after-admit .admit .ensures)) (after-collect-at .collect-at .kept .0)
 
 same-length : tie.Need-same-length
 same-length c = search needs
 
 returns : tie.Need-returns
-returns c =
-    let after-read-header-arg = c .before .before .before in let start = after-read-header-arg .before .before in
-    matches-unchanged (refused-header (limitsOf (start .args .limits)) (wordsOfBytes (start .args .t .now)) (start .args .desk sends Collect) (sym (c .enum-told .given .1) ∙ c .before .before .read-header .ensures))
+returns c = search (matches-unchanged, refused-header, refused-table, refused-desk, refused-number, stepped, admits)
 
 same-length-2 : tie.Need-same-length-2
 same-length-2 c = search needs
 
 returns-2 : tie.Need-returns-2
-returns-2 c =
-    let after-admit-arg = c .before .before .before in let at-match-keys2 = after-admit-arg .before .before .before in
-    let after-slice-known = at-match-keys2 .before .before .before in let start = after-slice-known .before in
-    matches-unchanged (refused-table (limitsOf (start .args .limits)) (wordsOfBytes (start .args .t .now)) (start .args .desk sends Collect) (sym (c .enum-told2 .given .1) ∙ c .before .before .admit .ensures))
+returns-2 c = search (matches-unchanged, refused-header, refused-table, refused-desk, refused-number, stepped, admits)
 
 same-length-3 : tie.Need-same-length-3
 same-length-3 c = search needs
 
 returns-3 : tie.Need-returns-3
-returns-3 c =
-    let after-admit-arg = c .before .before .before in let at-match-keys2 = after-admit-arg .before .before .before in
-    let after-slice-known = at-match-keys2 .before .before .before in let start = after-slice-known .before in
-    matches-unchanged (refused-desk (limitsOf (start .args .limits)) (wordsOfBytes (start .args .t .now)) (start .args .desk sends Collect) (sym (c .enum-told3 .given .1) ∙ c .before .before .admit .ensures))
+returns-3 c = search (matches-unchanged, refused-header, refused-table, refused-desk, refused-number, stepped, admits)
 
 same-length-4 : tie.Need-same-length-4
 same-length-4 c = search needs
 
 returns-4 : tie.Need-returns-4
-returns-4 c = c .before .before .collect-at .ensures
+returns-4 c = search (matches-unchanged, refused-header, refused-table, refused-desk, refused-number, stepped, admits)
+
+same-length-5 : tie.Need-same-length-5
+same-length-5 c = search needs
+
+returns-5 : tie.Need-returns-5
+returns-5 c = search (matches-unchanged, refused-header, refused-table, refused-desk, refused-number, stepped, admits)
 
 pub collect-spec : {M : Type 1} → statement M
-collect-spec = tie.close (tie.spec read-header-requires enum-told enum-known-header admit-requires enum-told-2 enum-told-3 enum-known-admission collect-at-requires same-length returns same-length-2 returns-2 same-length-3 returns-3 same-length-4 returns-4)
+collect-spec = tie.close (tie.spec read-header-requires enum-told enum-known-header admit-requires enum-told-2 enum-told-3 enum-told-4 enum-known-admission collect-at-requires move-on-requires same-length returns same-length-2 returns-2 same-length-3 returns-3 same-length-4 returns-4 same-length-5 returns-5)

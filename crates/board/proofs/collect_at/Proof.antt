@@ -6,14 +6,15 @@ use mathlib.Core.Path.{_≡_, ap, subst, sym, _∙_}
 use borrow.Author.Needs.{needs}
 use borrow.Rule.Slice.PartMut.{midOf}
 use Rattle.rules.specs.Bytes.{wordsOfBytes}
-use Rattle.rules.specs.Steps.{Collect, _sends_, collectSeeing, nextScreens}
-use Rattle.rules.specs.Table.{decode, decodeDesk, encodeDesk, hallIn, stepTable}
+use Rattle.rules.specs.Steps.{Collect, collectSeeing, nextScreens}
+use Rattle.rules.specs.Table.{decode, decodeDesk, encodeDesk, hallIn}
 use Rattle.rules.specs.laws.bytes.Bytes.{words-are-16}
 use Rattle.limits.specs.Room.{limitsOf}
 use Rattle.words.proofs.Laws.{length-words}
 use Rattle.reply.specs.Answer.{tableResult}
 use Rattle.reply.specs.declared.Reply.the-variants.{Accepted}
 use Rattle.desk.specs.Record.{Encoded}
+use Rattle.board.specs.Results.{admittedStep}
 use Rattle.board.proofs.AdmissionLaws.{Admitted, admitted}
 use Rattle.board.proofs.LocationLaws.{Lent, lent, lent-back, lent-length, lent-words, lentRecord, withRecord}
 use Rattle.board.proofs.ResultLaws.{matches}
@@ -48,7 +49,7 @@ collected : (c : tie.After-count) (shown : List ℕ) → let o = start c .args i
     let words = wordsOfBytes (midOf (2 * o .location .start) (2 * o .location .end - 2 * o .location .start) (o .t .now)) in
     shown ≡ nextScreens (decode (hallIn (wordsOfBytes (o .t .now))) (wordsOfBytes (o .t .now)) .shown) (decodeDesk s (lentRecord (wordsOfBytes (o .t .now)) (o .location)))
     → (x : ℕ) (part : List ℕ) → x ≡ collectSeeing s shown (decodeDesk s words) .session → wordsOfBytes part ≡ encodeDesk s (collectSeeing s shown (decodeDesk s words) .after)
-    → tableResult (Accepted x) (withRecord (wordsOfBytes (o .t .now)) (o .location) (wordsOfBytes part)) ≡ stepTable (limitsOf (o .limits)) (wordsOfBytes (o .t .now)) (o .desk sends Collect)
+    → tableResult (Accepted x) (withRecord (wordsOfBytes (o .t .now)) (o .location) (wordsOfBytes part)) ≡ admittedStep (limitsOf (o .limits)) (wordsOfBytes (o .t .now)) (o .desk) Collect
 collected c shown seen x part session after =
     let s = start c .args .location .all in
     let words = lent-words (start c .args .t .now) (here c) in

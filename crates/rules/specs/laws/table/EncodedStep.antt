@@ -32,19 +32,21 @@ pub record Fits (H : Hall) : Type 0 where
   pub screens : (1 ≤ H .screens) × (H .screens ≤ maxScreens)
   pub positions : (1 ≤ H .positions) × (H .positions ≤ maxPositions)
 
--- one within the limits of a room is one
-pub limits-fit : (limits : Limits) (H : Hall) → inLimits limits H ≡ true → Fits H
-limits-fit limits H inside =
+-- one whose numbers are in range is one, and so is one within the limits of a room
+pub hall-fits : (H : Hall) → inHall H ≡ true → Fits H
+hall-fits H in-hall =
     let desks = inRange (H .desks) maxDesks in
     let screens = inRange (H .screens) maxScreens in
     let positions = inRange (H .positions) maxPositions in
-    let in-hall = and-left (inHall H) (within limits H) inside in
     let later = and-right desks (screens && positions) in-hall in
     record {
       desks = in-range (H .desks) maxDesks (and-left desks (screens && positions) in-hall);
       screens = in-range (H .screens) maxScreens (and-left screens positions later);
       positions = in-range (H .positions) maxPositions (and-right screens positions later);
     }
+
+pub limits-fit : (limits : Limits) (H : Hall) → inLimits limits H ≡ true → Fits H
+limits-fit limits H inside = hall-fits H (and-left (inHall H) (within limits H) inside)
 
 abbrev pub All : (Desk → Type 0) → List Desk → Type 0
 All P [] = Unit {0}
