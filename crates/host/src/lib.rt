@@ -10,11 +10,12 @@ use reply::answer;
 ghost use mathlib.Core.Path.{_≡_};
 ghost use Rattle.rules.specs.Bytes.{openBytes, stepBytes};
 ghost use Rattle.rules.specs.Hall.{hallLimits, hallOf, trainingLimits};
-ghost use Rattle.rules.specs.Steps.{Collect, Drop, Retire, Swap, Take, _sends_};
+ghost use Rattle.rules.specs.Steps.{Collect, Drop, Retire, Swap, Take, _numbered_, _sends_};
 ghost use Rattle.limits.specs.Room.{limitsOf};
 ghost use Rattle.host.specs.Results.{bytesResult};
 
-// ---- The calls in a room with any limits: on bytes, answered by one number.
+// ---- The calls in a room with any limits: on bytes, answered by one number. A step carries its desk's next message number, which moves on
+// if it is accepted.
 
 // The opening of a hall: its three numbers and zeros up to its need are written.
 fn call_open(desks: u16, screens: u16, positions: u16, table: &mut [u8], limits: Limits) -> u32
@@ -24,39 +25,53 @@ fn call_open(desks: u16, screens: u16, positions: u16, table: &mut [u8], limits:
 }
 
 // Take: the screen shows the position's session.
-fn call_take(desk: u16, screen: u16, position: u16, table: &mut [u8], limits: Limits) -> u32
-    ensures { λ r. ⌜ bytesResult r (now (table .exit)) ≡ stepBytes (limitsOf limits) (now (table .entry)) (desk sends Take screen position) ⌝ }
+fn call_take(
+    message: u16,
+    desk: u16,
+    screen: u16,
+    position: u16,
+    table: &mut [u8],
+    limits: Limits,
+) -> u32
+    ensures { λ r. ⌜ bytesResult r (now (table .exit)) ≡ stepBytes (limitsOf limits) (now (table .entry)) (desk sends Take screen position numbered message) ⌝ }
 {
-    answer(take(table, limits, desk, screen, position))
+    answer(take(table, limits, message, desk, screen, position))
 }
 
 // Drop: the screen shows nothing.
-fn call_drop(desk: u16, screen: u16, table: &mut [u8], limits: Limits) -> u32
-    ensures { λ r. ⌜ bytesResult r (now (table .exit)) ≡ stepBytes (limitsOf limits) (now (table .entry)) (desk sends Drop screen) ⌝ }
+fn call_drop(message: u16, desk: u16, screen: u16, table: &mut [u8], limits: Limits) -> u32
+    ensures { λ r. ⌜ bytesResult r (now (table .exit)) ≡ stepBytes (limitsOf limits) (now (table .entry)) (desk sends Drop screen numbered message) ⌝ }
 {
-    answer(drop(table, limits, desk, screen))
+    answer(drop(table, limits, message, desk, screen))
 }
 
 // Swap: the position holds the session, or nothing for 0. If this changes the position, the desk owes the one that it held before, if any;
-// a repeat writes nothing.
-fn call_swap(desk: u16, position: u16, session: u16, table: &mut [u8], limits: Limits) -> u32
-    ensures { λ r. ⌜ bytesResult r (now (table .exit)) ≡ stepBytes (limitsOf limits) (now (table .entry)) (desk sends Swap position session) ⌝ }
+// a repeat only moves the message number on.
+fn call_swap(
+    message: u16,
+    desk: u16,
+    position: u16,
+    session: u16,
+    table: &mut [u8],
+    limits: Limits,
+) -> u32
+    ensures { λ r. ⌜ bytesResult r (now (table .exit)) ≡ stepBytes (limitsOf limits) (now (table .entry)) (desk sends Swap position session numbered message) ⌝ }
 {
-    answer(swap(table, limits, desk, position, session))
+    answer(swap(table, limits, message, desk, position, session))
 }
 
 // Retire: the owed session goes to the end of the desk's list.
-fn call_retire(desk: u16, table: &mut [u8], limits: Limits) -> u32
-    ensures { λ r. ⌜ bytesResult r (now (table .exit)) ≡ stepBytes (limitsOf limits) (now (table .entry)) (desk sends Retire) ⌝ }
+fn call_retire(message: u16, desk: u16, table: &mut [u8], limits: Limits) -> u32
+    ensures { λ r. ⌜ bytesResult r (now (table .exit)) ≡ stepBytes (limitsOf limits) (now (table .entry)) (desk sends Retire numbered message) ⌝ }
 {
-    answer(retire(table, limits, desk))
+    answer(retire(table, limits, message, desk))
 }
 
 // Collect: at most two screens are read, and at most one session is handed back.
-fn call_collect(desk: u16, table: &mut [u8], limits: Limits) -> u32
-    ensures { λ r. ⌜ bytesResult r (now (table .exit)) ≡ stepBytes (limitsOf limits) (now (table .entry)) (desk sends Collect) ⌝ }
+fn call_collect(message: u16, desk: u16, table: &mut [u8], limits: Limits) -> u32
+    ensures { λ r. ⌜ bytesResult r (now (table .exit)) ≡ stepBytes (limitsOf limits) (now (table .entry)) (desk sends Collect numbered message) ⌝ }
 {
-    answer(collect(table, limits, desk))
+    answer(collect(table, limits, message, desk))
 }
 
 // ---- The calls in the hall.
@@ -69,38 +84,50 @@ pub extern "C" fn board_open(desks: u16, screens: u16, positions: u16, table: &m
 }
 
 #[no_mangle]
-pub extern "C" fn board_take(desk: u16, screen: u16, position: u16, table: &mut [u8]) -> u32
-    ensures { λ r. ⌜ bytesResult r (now (table .exit)) ≡ stepBytes hallLimits (now (table .entry)) (desk sends Take screen position) ⌝ }
+pub extern "C" fn board_take(
+    message: u16,
+    desk: u16,
+    screen: u16,
+    position: u16,
+    table: &mut [u8],
+) -> u32
+    ensures { λ r. ⌜ bytesResult r (now (table .exit)) ≡ stepBytes hallLimits (now (table .entry)) (desk sends Take screen position numbered message) ⌝ }
 {
-    call_take(desk, screen, position, table, Board::HALL)
+    call_take(message, desk, screen, position, table, Board::HALL)
 }
 
 #[no_mangle]
-pub extern "C" fn board_drop(desk: u16, screen: u16, table: &mut [u8]) -> u32
-    ensures { λ r. ⌜ bytesResult r (now (table .exit)) ≡ stepBytes hallLimits (now (table .entry)) (desk sends Drop screen) ⌝ }
+pub extern "C" fn board_drop(message: u16, desk: u16, screen: u16, table: &mut [u8]) -> u32
+    ensures { λ r. ⌜ bytesResult r (now (table .exit)) ≡ stepBytes hallLimits (now (table .entry)) (desk sends Drop screen numbered message) ⌝ }
 {
-    call_drop(desk, screen, table, Board::HALL)
+    call_drop(message, desk, screen, table, Board::HALL)
 }
 
 #[no_mangle]
-pub extern "C" fn board_swap(desk: u16, position: u16, session: u16, table: &mut [u8]) -> u32
-    ensures { λ r. ⌜ bytesResult r (now (table .exit)) ≡ stepBytes hallLimits (now (table .entry)) (desk sends Swap position session) ⌝ }
+pub extern "C" fn board_swap(
+    message: u16,
+    desk: u16,
+    position: u16,
+    session: u16,
+    table: &mut [u8],
+) -> u32
+    ensures { λ r. ⌜ bytesResult r (now (table .exit)) ≡ stepBytes hallLimits (now (table .entry)) (desk sends Swap position session numbered message) ⌝ }
 {
-    call_swap(desk, position, session, table, Board::HALL)
+    call_swap(message, desk, position, session, table, Board::HALL)
 }
 
 #[no_mangle]
-pub extern "C" fn board_retire(desk: u16, table: &mut [u8]) -> u32
-    ensures { λ r. ⌜ bytesResult r (now (table .exit)) ≡ stepBytes hallLimits (now (table .entry)) (desk sends Retire) ⌝ }
+pub extern "C" fn board_retire(message: u16, desk: u16, table: &mut [u8]) -> u32
+    ensures { λ r. ⌜ bytesResult r (now (table .exit)) ≡ stepBytes hallLimits (now (table .entry)) (desk sends Retire numbered message) ⌝ }
 {
-    call_retire(desk, table, Board::HALL)
+    call_retire(message, desk, table, Board::HALL)
 }
 
 #[no_mangle]
-pub extern "C" fn board_collect(desk: u16, table: &mut [u8]) -> u32
-    ensures { λ r. ⌜ bytesResult r (now (table .exit)) ≡ stepBytes hallLimits (now (table .entry)) (desk sends Collect) ⌝ }
+pub extern "C" fn board_collect(message: u16, desk: u16, table: &mut [u8]) -> u32
+    ensures { λ r. ⌜ bytesResult r (now (table .exit)) ≡ stepBytes hallLimits (now (table .entry)) (desk sends Collect numbered message) ⌝ }
 {
-    call_collect(desk, table, Board::HALL)
+    call_collect(message, desk, table, Board::HALL)
 }
 
 // ---- The same calls in the training room.
@@ -113,36 +140,48 @@ pub extern "C" fn training_open(desks: u16, screens: u16, positions: u16, table:
 }
 
 #[no_mangle]
-pub extern "C" fn training_take(desk: u16, screen: u16, position: u16, table: &mut [u8]) -> u32
-    ensures { λ r. ⌜ bytesResult r (now (table .exit)) ≡ stepBytes trainingLimits (now (table .entry)) (desk sends Take screen position) ⌝ }
+pub extern "C" fn training_take(
+    message: u16,
+    desk: u16,
+    screen: u16,
+    position: u16,
+    table: &mut [u8],
+) -> u32
+    ensures { λ r. ⌜ bytesResult r (now (table .exit)) ≡ stepBytes trainingLimits (now (table .entry)) (desk sends Take screen position numbered message) ⌝ }
 {
-    call_take(desk, screen, position, table, Board::TRAINING)
+    call_take(message, desk, screen, position, table, Board::TRAINING)
 }
 
 #[no_mangle]
-pub extern "C" fn training_drop(desk: u16, screen: u16, table: &mut [u8]) -> u32
-    ensures { λ r. ⌜ bytesResult r (now (table .exit)) ≡ stepBytes trainingLimits (now (table .entry)) (desk sends Drop screen) ⌝ }
+pub extern "C" fn training_drop(message: u16, desk: u16, screen: u16, table: &mut [u8]) -> u32
+    ensures { λ r. ⌜ bytesResult r (now (table .exit)) ≡ stepBytes trainingLimits (now (table .entry)) (desk sends Drop screen numbered message) ⌝ }
 {
-    call_drop(desk, screen, table, Board::TRAINING)
+    call_drop(message, desk, screen, table, Board::TRAINING)
 }
 
 #[no_mangle]
-pub extern "C" fn training_swap(desk: u16, position: u16, session: u16, table: &mut [u8]) -> u32
-    ensures { λ r. ⌜ bytesResult r (now (table .exit)) ≡ stepBytes trainingLimits (now (table .entry)) (desk sends Swap position session) ⌝ }
+pub extern "C" fn training_swap(
+    message: u16,
+    desk: u16,
+    position: u16,
+    session: u16,
+    table: &mut [u8],
+) -> u32
+    ensures { λ r. ⌜ bytesResult r (now (table .exit)) ≡ stepBytes trainingLimits (now (table .entry)) (desk sends Swap position session numbered message) ⌝ }
 {
-    call_swap(desk, position, session, table, Board::TRAINING)
+    call_swap(message, desk, position, session, table, Board::TRAINING)
 }
 
 #[no_mangle]
-pub extern "C" fn training_retire(desk: u16, table: &mut [u8]) -> u32
-    ensures { λ r. ⌜ bytesResult r (now (table .exit)) ≡ stepBytes trainingLimits (now (table .entry)) (desk sends Retire) ⌝ }
+pub extern "C" fn training_retire(message: u16, desk: u16, table: &mut [u8]) -> u32
+    ensures { λ r. ⌜ bytesResult r (now (table .exit)) ≡ stepBytes trainingLimits (now (table .entry)) (desk sends Retire numbered message) ⌝ }
 {
-    call_retire(desk, table, Board::TRAINING)
+    call_retire(message, desk, table, Board::TRAINING)
 }
 
 #[no_mangle]
-pub extern "C" fn training_collect(desk: u16, table: &mut [u8]) -> u32
-    ensures { λ r. ⌜ bytesResult r (now (table .exit)) ≡ stepBytes trainingLimits (now (table .entry)) (desk sends Collect) ⌝ }
+pub extern "C" fn training_collect(message: u16, desk: u16, table: &mut [u8]) -> u32
+    ensures { λ r. ⌜ bytesResult r (now (table .exit)) ≡ stepBytes trainingLimits (now (table .entry)) (desk sends Collect numbered message) ⌝ }
 {
-    call_collect(desk, table, Board::TRAINING)
+    call_collect(message, desk, table, Board::TRAINING)
 }

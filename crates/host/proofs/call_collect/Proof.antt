@@ -1,6 +1,6 @@
 -- `host::call_collect` meets its contract.
 use borrow.Author.Needs.{needs}
-use Rattle.rules.specs.Steps.{Collect, _sends_}
+use Rattle.rules.specs.Steps.{Collect, _numbered_, _sends_}
 use Rattle.limits.specs.Room.{limitsOf}
 use Rattle.host.proofs.CallLaws.{stepped-on-bytes}
 use Rattle.host.proofs.call_collect.Statement.{statement}
@@ -18,7 +18,7 @@ same-length c = search needs
 returns : tie.Need-returns
 returns c =
     let after-collect = c .before .before .before in let start = after-collect .before .before .before in
-    stepped-on-bytes (c .answer .result) (λ i. c .before .slice-known2 .given i .fits) (after-collect .collect .kept .0) (c .answer .ensures) (limitsOf (start .args .limits)) (start .args .desk sends Collect) (after-collect .collect .ensures)
+    stepped-on-bytes (c .answer .result) (λ i. c .before .slice-known2 .given i .fits) (after-collect .collect .kept .0) (c .answer .ensures) (limitsOf (start .args .limits)) ((start .args .desk sends Collect) numbered start .args .message) (after-collect .collect .ensures)
 
 pub call-collect-spec : {M : Type 1} → statement M
 call-collect-spec = tie.close (tie.spec collect-requires answer-requires same-length returns)

@@ -1,6 +1,6 @@
 -- `host::call_drop` meets its contract.
 use borrow.Author.Needs.{needs}
-use Rattle.rules.specs.Steps.{Drop, _sends_}
+use Rattle.rules.specs.Steps.{Drop, _numbered_, _sends_}
 use Rattle.limits.specs.Room.{limitsOf}
 use Rattle.host.proofs.CallLaws.{stepped-on-bytes}
 use Rattle.host.proofs.call_drop.Statement.{statement}
@@ -18,7 +18,7 @@ same-length c = search needs
 returns : tie.Need-returns
 returns c =
     let after-drop = c .before .before .before in let start = after-drop .before .before .before in
-    stepped-on-bytes (c .answer .result) (λ i. c .before .slice-known2 .given i .fits) (after-drop .drop .kept .0) (c .answer .ensures) (limitsOf (start .args .limits)) (start .args .desk sends Drop (start .args .screen)) (after-drop .drop .ensures)
+    stepped-on-bytes (c .answer .result) (λ i. c .before .slice-known2 .given i .fits) (after-drop .drop .kept .0) (c .answer .ensures) (limitsOf (start .args .limits)) ((start .args .desk sends Drop (start .args .screen)) numbered start .args .message) (after-drop .drop .ensures)
 
 pub call-drop-spec : {M : Type 1} → statement M
 call-drop-spec = tie.close (tie.spec drop-requires answer-requires same-length returns)

@@ -1,6 +1,6 @@
 -- `host::call_swap` meets its contract.
 use borrow.Author.Needs.{needs}
-use Rattle.rules.specs.Steps.{Swap, _sends_}
+use Rattle.rules.specs.Steps.{Swap, _numbered_, _sends_}
 use Rattle.limits.specs.Room.{limitsOf}
 use Rattle.host.proofs.CallLaws.{stepped-on-bytes}
 use Rattle.host.proofs.call_swap.Statement.{statement}
@@ -18,7 +18,7 @@ same-length c = search needs
 returns : tie.Need-returns
 returns c =
     let after-swap = c .before .before .before in let start = after-swap .before .before .before in
-    stepped-on-bytes (c .answer .result) (λ i. c .before .slice-known2 .given i .fits) (after-swap .swap .kept .0) (c .answer .ensures) (limitsOf (start .args .limits)) (start .args .desk sends Swap (start .args .position) (start .args .session)) (after-swap .swap .ensures)
+    stepped-on-bytes (c .answer .result) (λ i. c .before .slice-known2 .given i .fits) (after-swap .swap .kept .0) (c .answer .ensures) (limitsOf (start .args .limits)) ((start .args .desk sends Swap (start .args .position) (start .args .session)) numbered start .args .message) (after-swap .swap .ensures)
 
 pub call-swap-spec : {M : Type 1} → statement M
 call-swap-spec = tie.close (tie.spec swap-requires answer-requires same-length returns)

@@ -1,6 +1,6 @@
 -- `host::call_take` meets its contract.
 use borrow.Author.Needs.{needs}
-use Rattle.rules.specs.Steps.{Take, _sends_}
+use Rattle.rules.specs.Steps.{Take, _numbered_, _sends_}
 use Rattle.limits.specs.Room.{limitsOf}
 use Rattle.host.proofs.CallLaws.{stepped-on-bytes}
 use Rattle.host.proofs.call_take.Statement.{statement}
@@ -18,7 +18,7 @@ same-length c = search needs
 returns : tie.Need-returns
 returns c =
     let after-take = c .before .before .before in let start = after-take .before .before .before in
-    stepped-on-bytes (c .answer .result) (λ i. c .before .slice-known2 .given i .fits) (after-take .take .kept .0) (c .answer .ensures) (limitsOf (start .args .limits)) (start .args .desk sends Take (start .args .screen) (start .args .position)) (after-take .take .ensures)
+    stepped-on-bytes (c .answer .result) (λ i. c .before .slice-known2 .given i .fits) (after-take .take .kept .0) (c .answer .ensures) (limitsOf (start .args .limits)) ((start .args .desk sends Take (start .args .screen) (start .args .position)) numbered start .args .message) (after-take .take .ensures)
 
 pub call-take-spec : {M : Type 1} → statement M
 call-take-spec = tie.close (tie.spec take-requires answer-requires same-length returns)
