@@ -5,7 +5,7 @@ use native.Mathlib.Omega.{arith}
 use mathlib.Core.Path.{_≡_}
 use mathlib.Core.Bool.{Bool, true, false}
 use mathlib.Core.List.{List}
-use lib.ListN.{getD, length, replicate, take}
+use lib.ListN.{getD, length, take}
 use Rattle.rules.specs.Cases.{wide}
 use Rattle.rules.specs.Closing.{ClosingRule, HandBackCloses, PutFresh, ShownNowhere, StandsNowhere, Unreferenced, putAt}
 use Rattle.rules.specs.Demands.{Demand1, Demand2, Demand3, Guarantee, HandedBackWithin, SwapPromise, countsOfDesk, listOfDesk}
@@ -15,9 +15,10 @@ use Rattle.rules.specs.History.{collectsOf, drops, effectAt, handBacks, 
 use Rattle.rules.specs.History.{retirementsOf, retires, swaps, takes}
 use Rattle.rules.specs.Lists.{occurrences}
 use Rattle.rules.specs.Locality.{OthersStay, SameView, StepsAlike, deskAt, namedWords, positionAt, screenAt, screensRead, mayWritePosition, mayWriteScreen}
-use Rattle.rules.specs.Messages.{AnsweredAsBefore, MessageNumbers, Redelivered, acceptedBetween, acceptedOf, answersOf, callAt, sentHistory, stepUnnumbered}
+use Rattle.rules.specs.Messages.{AnsweredAsBefore, MessageNumbers, Redelivered, RightNumbers, acceptedBetween, acceptedOf, answersOf, callAt}
+use Rattle.rules.specs.Messages.{stepUnnumbered}
 use Rattle.rules.specs.Steps.{Call, Drop, Event, Result, Swap, _sends_, run}
-use Rattle.rules.specs.Table.{openTable, owedOffset, positionWord, recordOf, screenWord}
+use Rattle.rules.specs.Table.{owedOffset, positionWord, recordOf, screenWord}
 
 -- ---- Demand 1, for any refusals, footprint and result.
 module _ (refusals : List ℕ) (mayChange : ℕ → Bool) (before : List ℕ) (result : Result (List ℕ)) (demand : Demand1 refusals mayChange before result) where
@@ -203,11 +204,14 @@ module _ (history : List Event) (tables : ℕ → List ℕ) (numbers : MessageNu
       → (4 < 7) × (7 < length history) × (numberAt history 4 ≡ 0) × (callAt history 7 .desk ≡ callAt history 4 .desk) × (callAt history 7 .message ≡ callAt history 4 .message)
   says-redelivered twice = (twice .later, twice .within, twice .accepted, twice .desk, twice .message)
 
--- Calls with the right numbers, sent to the table that the opening of the wide hall leaves of 70 words of 9.
-module _ (before : AnsweredAsBefore hallLimits wide (replicate 70 9)) where
-  pub says-as-before : (calls : List Call)
-      → answersOf (sentHistory hallLimits (openTable hallLimits wide (replicate 70 9) .after) calls) ≡ answersOf (run (stepUnnumbered hallLimits wide) (fresh wide) calls)
-  says-as-before = before .answers
+-- A history of the wide hall that carries the right numbers: desk 2's call at index 5.
+module _ (calls : List Call) (history : List Event) (before : AnsweredAsBefore hallLimits wide calls history) (right : RightNumbers wide history) where
+  pub says-right : 5 < length history → 1 ≤ callAt history 5 .desk → callAt history 5 .desk ≤ 2
+      → callAt history 5 .message ≡ acceptedOf (callAt history 5 .desk) (take 5 history) % 65536
+  says-right = right 5
 
-  pub says-never-23 : (calls : List Call) → numberAt (sentHistory hallLimits (openTable hallLimits wide (replicate 70 9) .after) calls) 5 ≡ 23 → ⊥
-  says-never-23 calls = before .never-23 calls 5
+  pub says-as-before : answersOf history ≡ answersOf (run (stepUnnumbered hallLimits wide) (fresh wide) calls)
+  says-as-before = before .answers right
+
+  pub says-never-23 : numberAt history 5 ≡ 23 → ⊥
+  says-never-23 = before .never-23 right 5

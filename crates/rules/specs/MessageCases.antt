@@ -7,15 +7,15 @@ use mathlib.Core.List.{List, [], _∷_, _++_, map}
 use lib.ListN.{drop, getD, replicate, take}
 use Rattle.rules.specs.Cases.{Case, Computed, _⇒_, busyTable, delivers, ok, refusedWith}
 use Rattle.rules.specs.Hall.{fresh, hallLimits, hallOf}
-use Rattle.rules.specs.Messages.{MessageNumbers, Redelivered, acceptedBetween, acceptedOf, answersOf, callAt, nextIn, nextOf, rightlyNumbered, sentTo}
-use Rattle.rules.specs.Messages.{stepUnnumbered}
-use Rattle.rules.specs.Steps.{Call, Collect, Drop, Event, Retire, Swap, Take, _numbered_, _sends_, end, run, step}
+use Rattle.rules.specs.Messages.{AnsweredAsBefore, MessageNumbers, Redelivered, RightNumbers, acceptedBetween, acceptedOf, answersOf, callAt, nextIn, nextOf}
+use Rattle.rules.specs.Messages.{rightlyNumbered, sentTo, stepUnnumbered}
+use Rattle.rules.specs.Steps.{Answer, Call, Collect, Drop, Event, Retire, Swap, Take, _numbered_, _sends_, end, run, step}
 use Rattle.rules.specs.Table.{decodeDesk, encodeDesk, openTable, recordSound, sound, stepTable}
 
--- ---- One desk with one screen and one position: the session at the position, what the screen shows, what is owed, the count of waiting and of
--- ready, the first place of the list, and the next message number.
-abbrev pub one : ℕ → ℕ → ℕ → ℕ → ℕ → ℕ → ℕ → List ℕ
-one held shown owed ready waiting place next =
+-- ---- One desk with one screen and one position: the session at the position, what the screen shows, what is owed, the counts of ready and of
+-- waiting, the first place of the list, and the next message number.
+abbrev pub tableOfOne : ℕ → ℕ → ℕ → ℕ → ℕ → ℕ → ℕ → List ℕ
+tableOfOne held shown owed ready waiting place next =
     (1 ∷ 1 ∷ 1 ∷ held ∷ shown ∷ owed ∷ 0 ∷ ready ∷ 0 ∷ waiting ∷ replicate 8 0) ++ (place ∷ 0 ∷ next ∷ [])
 
 -- "Calls from the host carry the number; only an accepted call moves it on": the messages of a shift, some of them delivered twice. All five steps
@@ -23,17 +23,17 @@ one held shown owed ready waiting place next =
 -- delivered three times, and hands 5 back once.
 abbrev shift : List Case
 shift =
-    delivers (one 0 0 0 0 0 0 0)
+    delivers (tableOfOne 0 0 0 0 0 0 0)
     ((1 sends Swap 1 5 numbered 1 ⇒ refusedWith 23) ∷ (1 sends Swap 1 5 numbered 65535 ⇒ refusedWith 23) ∷ (1 sends Swap 1 5 numbered 0 ⇒ ok 0)
     ∷ (1 sends Swap 1 5 numbered 0 ⇒ refusedWith 23) ∷ (1 sends Retire numbered 1 ⇒ refusedWith 13) ∷ (1 sends Take 1 1 numbered 1 ⇒ ok 5)
     ∷ (1 sends Take 1 1 numbered 1 ⇒ refusedWith 23) ∷ (1 sends Swap 1 5 numbered 2 ⇒ ok 5) ∷ (1 sends Swap 1 5 numbered 2 ⇒ refusedWith 23)
     ∷ (1 sends Swap 1 6 numbered 3 ⇒ ok 5) ∷ (1 sends Swap 1 6 numbered 3 ⇒ refusedWith 23) ∷ (1 sends Retire numbered 4 ⇒ ok 5)
     ∷ (1 sends Retire numbered 4 ⇒ refusedWith 23) ∷ [])
-    (one 6 5 0 0 1 5 5)
-    ∷ delivers (one 6 5 0 0 1 5 5)
+    (tableOfOne 6 5 0 0 1 5 5)
+    ∷ delivers (tableOfOne 6 5 0 0 1 5 5)
     ((1 sends Collect numbered 5 ⇒ ok 0) ∷ (1 sends Collect numbered 5 ⇒ refusedWith 23) ∷ (1 sends Drop 1 numbered 6 ⇒ ok 5) ∷ (1 sends Drop 1 numbered 6 ⇒ refusedWith 23)
     ∷ (1 sends Collect numbered 7 ⇒ ok 5) ∷ (1 sends Collect numbered 7 ⇒ refusedWith 23) ∷ (1 sends Collect numbered 7 ⇒ refusedWith 23) ∷ [])
-    (one 6 0 0 0 0 0 8)
+    (tableOfOne 6 0 0 0 0 0 8)
     ∷ []
 
 pub a-shift : Computed shift
@@ -43,15 +43,15 @@ a-shift = refl
 -- "running on from 65,535 to 0 without a fuss"; all 16 bits are compared; and each desk counts for itself: desk 1 of these two is at 0 and owes 9.
 abbrev around : List Case
 around =
-    delivers (one 6 0 0 0 0 0 65535)
+    delivers (tableOfOne 6 0 0 0 0 0 65535)
     ((1 sends Take 1 1 numbered 0 ⇒ refusedWith 23) ∷ (1 sends Take 1 1 numbered 65535 ⇒ ok 6) ∷ (1 sends Drop 1 numbered 65535 ⇒ refusedWith 23) ∷ (1 sends Drop 1 numbered 0 ⇒ ok 6) ∷ [])
-    (one 6 0 0 0 0 0 1)
-    ∷ delivers (one 6 0 0 0 0 0 65534)
+    (tableOfOne 6 0 0 0 0 0 1)
+    ∷ delivers (tableOfOne 6 0 0 0 0 0 65534)
     ((1 sends Collect numbered 65535 ⇒ refusedWith 23) ∷ (1 sends Collect numbered 65534 ⇒ ok 0) ∷ (1 sends Collect numbered 65535 ⇒ ok 0) ∷ [])
-    (one 6 0 0 0 0 0 0)
-    ∷ delivers (one 6 0 0 0 0 0 300)
+    (tableOfOne 6 0 0 0 0 0 0)
+    ∷ delivers (tableOfOne 6 0 0 0 0 0 300)
     ((1 sends Collect numbered 44 ⇒ refusedWith 23) ∷ (1 sends Collect numbered 556 ⇒ refusedWith 23) ∷ (1 sends Collect numbered 299 ⇒ refusedWith 23) ∷ (1 sends Collect numbered 301 ⇒ refusedWith 23) ∷ [])
-    (one 6 0 0 0 0 0 300)
+    (tableOfOne 6 0 0 0 0 0 300)
     ∷ delivers (take 42 busyTable ++ (7 ∷ []))
     ((2 sends Collect numbered 0 ⇒ refusedWith 23) ∷ (1 sends Collect numbered 7 ⇒ refusedWith 23) ∷ (2 sends Collect numbered 7 ⇒ ok 0) ∷ (1 sends Retire numbered 0 ⇒ refusedWith 14) ∷ [])
     (take 42 busyTable ++ (8 ∷ []))
@@ -80,11 +80,11 @@ order =
     ∷ (2 sends Swap 1 7 numbered 1 ⇒ refusedWith 23) ∷ (2 sends Collect numbered 1 ⇒ refusedWith 23) ∷ [])
     busyTable
     -- 10 and 11
-    ∷ delivers (one 0 0 0 0 0 0 3)
+    ∷ delivers (tableOfOne 0 0 0 0 0 0 3)
     ((1 sends Take 1 1 ⇒ refusedWith 23) ∷ (1 sends Take 1 1 numbered 3 ⇒ refusedWith 10) ∷ (1 sends Drop 1 ⇒ refusedWith 23) ∷ (1 sends Drop 1 numbered 3 ⇒ refusedWith 11) ∷ [])
-    (one 0 0 0 0 0 0 3)
+    (tableOfOne 0 0 0 0 0 0 3)
     -- "tables of the former layout are not converted": one is a word short
-    ∷ delivers (take 20 (one 0 0 0 0 0 0 0)) ((1 sends Collect ⇒ refusedWith 5) ∷ []) (take 20 (one 0 0 0 0 0 0 0))
+    ∷ delivers (take 20 (tableOfOne 0 0 0 0 0 0 0)) ((1 sends Collect ⇒ refusedWith 5) ∷ []) (take 20 (tableOfOne 0 0 0 0 0 0 0))
     ∷ []
 
 pub number-order : Computed order
@@ -92,7 +92,7 @@ unfolding stepTable sound recordSound encodeDesk decodeDesk
 number-order = refl
 
 -- ---- The right numbers. Desk 1 is at 9 and desk 2 at 7; desks 0 and 3, which the hall does not have, get 0, though more words follow. A table that
--- ends before the number gives 0, and so does one without a hall.
+-- ends before the number gives 0, and so does one whose P, c or L is out of range.
 abbrev twoNumbers : List ℕ
 twoNumbers = take 24 busyTable ++ (9 ∷ drop 25 (take 42 busyTable) ++ (7 ∷ replicate 20 5))
 
@@ -151,16 +151,12 @@ not-redelivered = (
   λ again. omega (arith, again .message),
 )
 
--- One desk's tables, by the next number after the first calls: 0, then 1 for good.
-abbrev numbersOf : ℕ → List ℕ
-numbersOf zero = one 0 0 0 1 0 5 0
-numbersOf (suc i) = one 0 0 0 0 0 0 1
+-- Of a hall of 1, 1, 1. The message of index 0, a collect that handed 5 back, is delivered again at index 1.
+abbrev Says : List Event → (ℕ → List ℕ) → Type 0
+Says = MessageNumbers (hallOf 1 1 1)
 
 abbrev collectTwice : Event → List Event
 collectTwice second = (1 sends Collect ⇒ ok 5) ∷ second ∷ []
-
-abbrev Says : List Event → (ℕ → List ℕ) → Type 0
-Says = MessageNumbers (hallOf 1 1 1)
 
 again-at-1 : (second : Event) → second .call ≡ 1 sends Collect → Redelivered (collectTwice second) 0 1
 again-at-1 second same = record {
@@ -171,20 +167,70 @@ again-at-1 second same = record {
   message = ap (λ (call : Call). call .message) same;
 }
 
--- The word is refused that does not move on, or that a refused call moves on; so is a second delivery that is accepted, one that is refused
--- with another number, and one that is refused and writes.
+-- Tables in which the number moves on once, or twice.
+abbrev movesOnce : ℕ → List ℕ
+movesOnce zero = tableOfOne 0 0 0 1 0 5 0
+movesOnce (suc i) = tableOfOne 0 0 0 0 0 0 1
+
+abbrev movesTwice : ℕ → List ℕ
+movesTwice zero = tableOfOne 0 0 0 1 0 5 0
+movesTwice (suc zero) = tableOfOne 0 0 0 0 0 0 1
+movesTwice (suc (suc i)) = tableOfOne 0 0 0 0 0 0 2
+
+-- Refused by `word`: a number that does not move on, and one that a refused call moves on.
 pub refuses-words :
-    (Says ((1 sends Collect ⇒ ok 5) ∷ []) (λ i. one 0 0 0 1 0 5 0) → ⊥) × (Says ((1 sends Collect numbered 7 ⇒ refusedWith 23) ∷ []) numbersOf → ⊥)
+    (Says ((1 sends Collect ⇒ ok 5) ∷ []) (λ i. tableOfOne 0 0 0 1 0 5 0) → ⊥) × (Says ((1 sends Collect numbered 7 ⇒ refusedWith 23) ∷ []) movesOnce → ⊥)
 refuses-words = (λ says. omega (arith, says .word 1 1 (omega arith) (omega arith)), λ says. omega (arith, says .word 1 1 (omega arith) (omega arith)))
 
+-- Refused by `again` alone: a second delivery that is accepted, that is refused with another number, or that is refused and writes what is owed.
+abbrev writesOwed : ℕ → List ℕ
+writesOwed zero = tableOfOne 0 0 0 1 0 5 0
+writesOwed (suc i) = tableOfOne 0 0 i 0 0 0 1
+
 pub refuses-second-delivery :
-    (Says (collectTwice (1 sends Collect ⇒ ok 0)) numbersOf → ⊥)
-    × (Says (collectTwice (1 sends Collect ⇒ refusedWith 7)) numbersOf → ⊥)
-    × (((i : ℕ) → Says (collectTwice (1 sends Collect ⇒ refusedWith 23)) (λ i. one 0 0 i 0 0 0 1)) → ⊥)
-    × (Says (collectTwice (1 sends Collect ⇒ ok 5)) numbersOf → ⊥)
+    (Says (collectTwice (1 sends Collect ⇒ ok 0)) movesTwice → ⊥)
+    × (Says (collectTwice (1 sends Collect ⇒ refusedWith 7)) movesOnce → ⊥)
+    × (Says (collectTwice (1 sends Collect ⇒ refusedWith 23)) writesOwed → ⊥)
 refuses-second-delivery = (
   λ says. omega (arith, says .again 0 1 (again-at-1 _ refl) (omega arith) .0),
   λ says. omega (arith, says .again 0 1 (again-at-1 _ refl) (omega arith) .0),
-  λ says. omega (arith, ap (λ (words : List ℕ). getD words 5 0) (says 0 .again 0 1 (again-at-1 _ refl) (omega arith) .1)),
-  λ says. says .once 0 1 1 5 (again-at-1 _ refl) (omega arith) refl,
+  λ says. omega (arith, ap (λ (words : List ℕ). getD words 5 0) (says .again 0 1 (again-at-1 _ refl) (omega arith) .1)),
 )
+
+-- `once` follows from `again`: it says what this means for a collect that hands back twice.
+pub refuses-handing-back-twice : Says (collectTwice (1 sends Collect ⇒ ok 5)) movesTwice → ⊥
+refuses-handing-back-twice says = says .once 0 1 1 5 (again-at-1 _ refl) (omega arith) refl
+
+-- The right numbers: desk 1's calls carry 0 and, after one was accepted, 1; a call of desk 2, which a hall of one desk does not have, any.
+abbrev numberedOne : ℕ → List Event
+numberedOne number = (1 sends Collect ⇒ ok 0) ∷ (2 sends Collect numbered 9 ⇒ refusedWith 6) ∷ (1 sends Retire numbered number ⇒ refusedWith 13) ∷ []
+
+pub right-numbers : RightNumbers (hallOf 1 1 1) (numberedOne 1) × (RightNumbers (hallOf 1 1 1) (numberedOne 0) → ⊥) × (RightNumbers (hallOf 2 1 1) (numberedOne 1) → ⊥)
+right-numbers = (
+  at,
+  λ right. omega (arith, right 2 (omega arith) (omega arith) (omega arith)),
+  λ right. omega (arith, right 1 (omega arith) (omega arith) (omega arith)),
+)
+  where
+    at : RightNumbers (hallOf 1 1 1) (numberedOne 1)
+    at zero inside l h = refl
+    at (suc zero) inside l h = absurd (omega (arith, h))
+    at (suc (suc zero)) inside l h = refl
+    at (suc (suc (suc i))) inside l h = absurd (omega (arith, inside))
+
+-- The answers of calls with right numbers are refused if they are not those without numbers, and a history with 23 is refused.
+pub refuses-other-answers :
+    (AnsweredAsBefore hallLimits (hallOf 1 1 1) (1 sends Collect ∷ []) ((1 sends Collect ⇒ ok 7) ∷ []) → ⊥)
+    × (AnsweredAsBefore hallLimits (hallOf 1 1 1) (1 sends Collect ∷ []) ((1 sends Collect ⇒ refusedWith 23) ∷ []) → ⊥)
+refuses-other-answers = (
+  λ before. omega (arith, ap (λ (answers : List Answer). sessionOf answers) (before .answers (first-right (ok 7)))),
+  λ before. before .never-23 (first-right (refusedWith 23)) 0 refl,
+)
+  where
+    sessionOf : List Answer → ℕ
+    sessionOf [] = 0
+    sessionOf (answer ∷ answers) = answer .session
+
+    first-right : (answer : Answer) → RightNumbers (hallOf 1 1 1) ((1 sends Collect ⇒ answer) ∷ [])
+    first-right answer zero inside l h = refl
+    first-right answer (suc i) inside l h = absurd (omega (arith, inside))

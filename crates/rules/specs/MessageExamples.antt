@@ -10,19 +10,19 @@ use borrow.Author.Tests.{eq-eqb}
 use Rattle.rules.specs.Cases.{_⇒_, ok, refusedWith}
 use Rattle.rules.specs.Hall.{fresh, hallLimits, hallOf}
 use Rattle.rules.specs.History.{_by_, effectAt, handsBack, numberAt}
-use Rattle.rules.specs.HistoryCases.{historyFrom, historyOf, openedIn, repeated}
-use Rattle.rules.specs.MessageCases.{one}
-use Rattle.rules.specs.Messages.{Redelivered, acceptedBetween, acceptedOf, answersOf, callAt, stepUnnumbered}
-use Rattle.rules.specs.Steps.{Call, Collect, Event, Result, Retire, Swap, _numbered_, _sends_, accept, advance, end, run}
+use Rattle.rules.specs.HistoryCases.{historyFrom, historyOf, openedIn, repeated, sentIn}
+use Rattle.rules.specs.MessageCases.{tableOfOne}
+use Rattle.rules.specs.Messages.{MessageNumbers, Redelivered, acceptedBetween, acceptedOf, answersOf, callAt, stepUnnumbered}
+use Rattle.rules.specs.Steps.{Answer, Call, Collect, Event, Result, Retire, Swap, _numbered_, _sends_, accept, advance, end, run}
 use Rattle.rules.specs.Table.{decodeDesk, encodeDesk, nextWord, openTable, recordSound, sound, stepTable}
-use Rattle.rules.specs.Theorems.{answered-as-before, message-numbers}
+use Rattle.rules.specs.Theorems.{answered-as-before, message-numbers, sent-numbers-right}
 use Rattle.rules.specs.laws.table.TableSteps.{accepted-step}
 
 -- ---- A number that comes round. One desk with nothing on its list sends n collects, each with the right number, and then number 0 again.
 
 -- its table, with this next number
 abbrev idle : ℕ → List ℕ
-idle next = one 0 0 0 0 0 0 next
+idle next = tableOfOne 0 0 0 0 0 0 next
 
 idle-collect : (number : ℕ) → stepTable hallLimits (idle number) (1 sends Collect numbered number) ≡ accept 0 (idle (advance number))
 unfolding sound recordSound encodeDesk decodeDesk
@@ -64,27 +64,43 @@ long-is : (n : ℕ) → long n ≡ collected (suc n) 0 ++ (lastEvent n ∷ [])
 unfolding openTable
 long-is n = idle-run (suc n) 0 (1 sends Collect ∷ [])
 
-at-end : (n number : ℕ) (event : Event) → (callAt (collected n number ++ (event ∷ [])) n ≡ event .call) × (length (collected n number ++ (event ∷ [])) ≡ suc n)
-at-end zero number event = (refl, refl)
-at-end (suc n) number event = (at-end n (advance number) event .0, ap suc (at-end n (advance number) event .1))
+at-end : (n number : ℕ) (event : Event)
+    → let history = collected n number ++ (event ∷ []) in
+    (callAt history n ≡ event .call) × (numberAt history n ≡ event .answer .number) × (length history ≡ suc n)
+at-end zero number event = (refl, refl, refl)
+at-end (suc n) number event = let rest = at-end n (advance number) event in (rest .0, rest .1, ap suc (rest .2))
 
 before-end : (n number : ℕ) (event : Event) → acceptedOf 1 (take n (collected n number ++ (event ∷ []))) ≡ n
 before-end zero number event = refl
 before-end (suc n) number event = omega (arith, before-end n (advance number) event)
 
-delivered-again : (n : ℕ) → Redelivered (long n) 0 (suc n) × (acceptedBetween (long n) 0 (suc n) ≡ n)
-delivered-again n =
-    subst (λ (history : List Event). Redelivered history 0 (suc n) × (acceptedBetween history 0 (suc n) ≡ n)) (sym (long-is n))
-    (let last = at-end n (advance 0) (lastEvent n) in (
+-- whatever the answer to the second delivery is
+delivered : (n : ℕ) (answer : Answer)
+    → let history = collected (suc n) 0 ++ ((1 sends Collect ⇒ answer) ∷ []) in
+    Redelivered history 0 (suc n) × (acceptedBetween history 0 (suc n) ≡ n)
+delivered n answer =
+    let event : Event = 1 sends Collect ⇒ answer in
+    let last = at-end n (advance 0) event in (
       record {
         later = omega arith;
-        within = omega (arith, last .1);
+        within = omega (arith, last .2);
         accepted = refl;
         desk = ap (λ (call : Call). call .desk) (last .0);
         message = ap (λ (call : Call). call .message) (last .0);
       },
-      before-end n (advance 0) (lastEvent n),
-    ))
+      before-end n (advance 0) event,
+    )
+
+delivered-again : (n : ℕ) → Redelivered (long n) 0 (suc n) × (acceptedBetween (long n) 0 (suc n) ≡ n)
+delivered-again n =
+    subst (λ (history : List Event). Redelivered history 0 (suc n) × (acceptedBetween history 0 (suc n) ≡ n)) (sym (long-is n))
+    (delivered n (stepTable hallLimits (idle (later (suc n) 0)) (1 sends Collect) .answer))
+
+-- Refused by `round` alone: a history of 65,537 calls in which the number has come round and is still answered 23.
+pub refuses-late-23 : (tables : ℕ → List ℕ) → MessageNumbers (hallOf 1 1 1) (collected 65536 0 ++ ((1 sends Collect ⇒ refusedWith 23) ∷ [])) tables → ⊥
+refuses-late-23 tables says =
+    let twice = delivered 65535 (refusedWith 23) in
+    says .round 0 65536 (twice .0) (twice .1) (at-end 65536 0 (1 sends Collect ⇒ refusedWith 23) .1)
 
 -- With 65,534 accepted in between it is refused with 23 and changes no word; with 65,535 the number has come round.
 pub again-refused : (numberAt (long 65534) 65535 ≡ 23)
@@ -119,10 +135,12 @@ resent-in-numbers =
     let twice : Redelivered (historyFrom (hallOf 1 1 1) 21 resent) 4 5 = record { later = omega arith; within = omega arith; accepted = refl; desk = refl; message = refl } in
     (refl, numbers .again 4 5 twice (omega arith) .0, numbers .once 4 5 1 5 twice (omega arith), numbers .word 1 6 (omega arith) (omega arith))
 
--- ---- The history with repeats, whose calls carry the right numbers: it is answered as without numbers, and never with 23.
+-- ---- The history with repeats, sent with the right numbers: it is answered as without numbers, and never with 23.
 pub repeated-as-before :
-    (answersOf (historyOf (hallOf 2 1 1) 50 repeated) ≡ answersOf (run (stepUnnumbered hallLimits (hallOf 2 1 1)) (fresh (hallOf 2 1 1)) repeated))
+    (answersOf (historyOf (hallOf 2 1 1) 50 repeated) ≡ answersOf (run (stepUnnumbered hallLimits (hallOf 2 1 1)) (fresh (hallOf 2 1 1)) (sentIn (hallOf 2 1 1) 50 repeated)))
     × (numberAt (historyOf (hallOf 2 1 1) 50 repeated) 5 ≡ 23 → ⊥)
 unfolding openTable
 repeated-as-before =
-    let before = answered-as-before hallLimits (hallOf 2 1 1) (replicate 50 9) refl in (before .answers repeated, before .never-23 repeated 5)
+    let right = sent-numbers-right hallLimits (hallOf 2 1 1) (replicate 50 9) refl repeated in
+    let before = answered-as-before hallLimits (hallOf 2 1 1) (replicate 50 9) refl (sentIn (hallOf 2 1 1) 50 repeated) in
+    (before .answers right, before .never-23 right 5)

@@ -9,13 +9,12 @@ use lib.Dec.{eqb}
 use Rattle.rules.specs.Hall.{Hall, Limits, State, deskOf, fresh}
 use Rattle.rules.specs.History.{_by_, effectAt, handsBack, numberAt}
 use Rattle.rules.specs.Lists.{count}
-use Rattle.rules.specs.Rooms.{without}
-use Rattle.rules.specs.Steps.{Answer, Call, Collect, Event, Result, _numbered_, _sends_, decide, firstNo, inRange, performStep, questions, run}
-use Rattle.rules.specs.Table.{hallIn, inHall, nextWord, openTable, stepTable}
+use Rattle.rules.specs.Steps.{Answer, Call, Collect, Event, Result, _numbered_, _sends_, ask, decide, end, firstNo, inRange, performStep, run, stepQuestions}
+use Rattle.rules.specs.Table.{hallIn, inHall, nextWord, stepTable}
 
 -- ---- Messages that are delivered again.
 
--- The number of desk d's accepted calls in a history.
+-- Is an event an accepted call of desk d? And how many such events has a history?
 abbrev pub isAcceptedFrom : ℕ → Event → Bool
 isAcceptedFrom d event = eqb (event .call .desk) d && eqb (event .answer .number) 0
 
@@ -53,6 +52,30 @@ pub record MessageNumbers (hall : Hall) (history : List Event) (tables : ℕ →
   -- So two deliveries of one collect hand back once.
   pub once : (i j d s : ℕ) → Redelivered history i j → acceptedBetween history i j < 65535 → effectAt history j ≡ handsBack s by d → ⊥
 
+-- ---- Calls that carry the right numbers.
+
+-- Every call of a desk of the hall carries the number of that desk's accepted calls before it, modulo 65,536. (For a desk outside the hall any
+-- number will do: 6 comes first.)
+abbrev pub RightNumbers : Hall → List Event → Type 0
+RightNumbers hall history =
+    (i : ℕ) → i < length history → 1 ≤ callAt history i .desk → callAt history i .desk ≤ hall .desks
+    → callAt history i .message ≡ acceptedOf (callAt history i .desk) (take i history) % 65536
+
+-- The steps as they were without message numbers: nothing asked 23, and no number moved on.
+abbrev pub stepUnnumbered : Limits → Hall → State → Call → Result State
+stepUnnumbered limits hall state call =
+    let asked = ask (inRange (call .desk) (hall .desks)) 6 ∷ stepQuestions limits hall state (call .desk) (call .step) in
+    let outcome = performStep hall state (call .desk) (call .step) in
+    decide (firstNo asked) state (outcome .session) (outcome .after)
+
+abbrev pub answersOf : List Event → List Answer
+answersOf history = map (λ event. event .answer) history
+
+-- A history of these calls from an accepted opening on is answered as it was without numbers, and never with 23, if it carries the right ones.
+pub record AnsweredAsBefore (limits : Limits) (hall : Hall) (calls : List Call) (history : List Event) : Type 0 where
+  pub answers : RightNumbers hall history → answersOf history ≡ answersOf (run (stepUnnumbered limits hall) (fresh hall) calls)
+  pub never-23 : RightNumbers hall history → (i : ℕ) → numberAt history i ≡ 23 → ⊥
+
 -- ---- "The sheet program fills in the right number itself."
 
 -- Calls, each with its desk's next message number, given how that number is read and how a call is done.
@@ -61,14 +84,15 @@ rightlyNumbered next does before [] = []
 rightlyNumbered next does before (call ∷ calls) =
     let sent = call numbered next before (call .desk) in sent ∷ rightlyNumbered next does (does before sent .after) calls
 
--- Desk d's next message number in a state, and in a table. (For a desk outside the hall any number will do: 6 comes first. Here it is 0.)
+-- Desk d's next message number in a state, and in a table. In a table it is 0 for a desk outside the hall.
 abbrev pub nextOf : State → ℕ → ℕ
 nextOf state d = deskOf state d .next
 
 abbrev pub nextIn : List ℕ → ℕ → ℕ
 nextIn table d = let hall = hallIn table in cond (inHall hall && inRange d (hall .desks)) (getD table (nextWord hall d) 0) 0
 
--- A call that is sent to a table with the right number; calls with the numbers that they are so sent with, one after another; and their history.
+-- A call, sent to a table with the right number; a list of calls, each with the number that is right when it is sent; their history; and the
+-- table after the first i of them.
 abbrev pub send : Limits → List ℕ → Call → Result (List ℕ)
 send limits table call = stepTable limits table (call numbered nextIn table (call .desk))
 
@@ -78,17 +102,5 @@ sentTo limits = rightlyNumbered nextIn (stepTable limits)
 abbrev pub sentHistory : Limits → List ℕ → List Call → List Event
 sentHistory limits table calls = run (stepTable limits) table (sentTo limits table calls)
 
--- ---- The steps as they were without message numbers: nothing asked 23, and no number moved on.
-abbrev pub stepUnnumbered : Limits → Hall → State → Call → Result State
-stepUnnumbered limits hall state call =
-    let outcome = performStep hall state (call .desk) (call .step) in
-    decide (firstNo (without 23 (questions limits hall state call))) state (outcome .session) (outcome .after)
-
-abbrev pub answersOf : List Event → List Answer
-answersOf history = map (λ event. event .answer) history
-
--- From an accepted opening on, calls that carry the right numbers are answered as they were without numbers, and none is answered 23.
-pub record AnsweredAsBefore (limits : Limits) (hall : Hall) (table : List ℕ) : Type 0 where
-  pub answers : (calls : List Call)
-      → answersOf (sentHistory limits (openTable limits hall table .after) calls) ≡ answersOf (run (stepUnnumbered limits hall) (fresh hall) calls)
-  pub never-23 : (calls : List Call) (i : ℕ) → numberAt (sentHistory limits (openTable limits hall table .after) calls) i ≡ 23 → ⊥
+abbrev pub sentTables : Limits → List ℕ → List Call → ℕ → List ℕ
+sentTables limits table calls i = end (send limits) table (take i calls)

@@ -4,7 +4,7 @@ use Prim.Native.Nat.{ℕ}
 use mathlib.Core.Path.{_≡_, refl}
 use mathlib.Core.List.{List, [], _∷_, _++_}
 use lib.ListN.{length, replicate}
-use lib.Dec.{leb}
+use lib.Dec.{eqb, leb}
 use Rattle.rules.specs.Cases.{Case, ComputedIn, _⇒_, board, caseA, casesFromC, delivers, leaves, ok, on, opens, refusedWith}
 use Rattle.rules.specs.Hall.{Hall, Limits, State, deskOf, hallLimits, hallOf, trainingLimits}
 use Rattle.rules.specs.Numbers.{decodeNumber}
@@ -128,15 +128,15 @@ pub still-the-hall :
 unfolding openTable stepTable sound recordSound encodeDesk decodeDesk
 still-the-hall = refl
 
--- ---- The questions that were asked before there were a training room and message numbers, whatever the limits: those of document 01.
+-- ---- The questions of the hall without a training room, whatever the limits: those of document 01, and 23.
 pub opening-asked-before : (limits : Limits) (hall : Hall) (table : List ℕ)
     → without 22 (openQuestions limits hall table)
     ≡ ask (inRange (hall .desks) 16) 1 ∷ ask (inRange (hall .screens) 4) 2 ∷ ask (inRange (hall .positions) 64) 3 ∷ ask (leb (need hall) (length table)) 4 ∷ []
 opening-asked-before limits hall table = refl
 
 pub swap-asked-before : (limits : Limits) (hall : Hall) (state : State) (d p session : ℕ)
-    → without 23 (without 22 (questions limits hall state (d sends Swap p session)))
-    ≡ ask (inRange d (hall .desks)) 6 ∷ ask (inRange p (hall .positions)) 8 ∷ ask (isNone (deskOf state d .owed)) 12 ∷ []
+    → without 22 (questions limits hall state (d sends Swap p session))
+    ≡ ask (inRange d (hall .desks)) 6 ∷ ask (eqb 0 (deskOf state d .next)) 23 ∷ ask (inRange p (hall .positions)) 8 ∷ ask (isNone (deskOf state d .owed)) 12 ∷ []
 swap-asked-before limits hall state d p session = refl
 
 -- The other steps do not ask 22.

@@ -1,5 +1,5 @@
--- Two rooms, one set of rules: what the demands say of the calls of a room, whatever its limits; and what the hall's calls did before there was
--- a training room. There is no proof here. Document 02, "A training room": "Room, pairing and hand-back hold in both rooms by a single argument."
+-- Two rooms, one set of rules: what the demands say of the calls of a room, whatever its limits; and what the hall's calls do without a training
+-- room. There is no proof here. Document 02, "A training room": "Room, pairing and hand-back hold in both rooms by a single argument."
 use Prim.Native.Nat.{ℕ}
 use mathlib.Core.Path.{_≡_}
 use mathlib.Core.Bool.{Bool, cond, _&&_}
@@ -27,7 +27,7 @@ pub record MeetsDemands (limits : Limits) : Type 0 where
       → Demand3 hall (run (stepBytes limits) (openBytes limits hall bytes .after) calls)
       (λ i. wordsOfBytes (end (stepBytes limits) (openBytes limits hall bytes .after) (take i calls)))
 
--- ---- The hall before there was a training room: nothing asked 22, and soundness asked the ranges of document 01 alone.
+-- ---- The hall without a training room: nothing asks 22, and soundness asks the ranges of document 01 alone.
 
 -- The questions but those with one number.
 abbrev pub without : ℕ → List Question → List Question
@@ -50,7 +50,8 @@ stepBefore table call =
 abbrev pub openBefore : Hall → List ℕ → Result (List ℕ)
 openBefore hall table = decide (firstNo (without 22 (openQuestions hallLimits hall table))) table 0 (openedTable hall table)
 
--- Every call of the hall, with 16-bit numbers, on words and on bytes, answers and writes what it did, and none is answered 22.
+-- Every call of the hall, with 16-bit numbers, on words and on bytes, answers and writes what it does without a training room, and none is
+-- answered 22.
 pub record HallUnchanged : Type 0 where
   pub steps : (table : List ℕ) (call : Call) → Call16 call → stepTable hallLimits table call ≡ stepBefore table call
   pub openings : (hall : Hall) (table : List ℕ) → openTable hallLimits hall table ≡ openBefore hall table

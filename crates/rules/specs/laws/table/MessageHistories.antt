@@ -1,5 +1,5 @@
--- Message numbers along a list of calls: the word is the number of the desk's accepted calls, so a message that is delivered again is refused;
--- and calls that carry the right numbers are answered as they were without numbers.
+-- Message numbers along a list of calls: the word is the number of the desk's accepted calls, so a message that was accepted and is delivered
+-- again is refused.
 use Prim.Native.Nat.{ℕ, zero, suc, _+_, _-_, _%_, _≤_, _<_}
 use native.Mathlib.Omega.{arith}
 use mathlib.Core.Path.{_≡_, refl, sym, ap, _∙_, subst}
@@ -42,6 +42,10 @@ pub right-number : (limits : Limits) (H : Hall) (st : State) (c : Call) → inRa
     → firstNo (questions limits H st c) ≡ 23 → ⊥
 right-number limits H st c there same e =
     not-23 limits H st (c .desk) (c .step) (sym (asked-number limits H st c there true (eq-eqb (c .message) (deskOf st (c .desk) .next) same)) ∙ e)
+
+pub outside-is-6 : (limits : Limits) (H : Hall) (st : State) (c : Call) → inRange (c .desk) (H .desks) ≡ false → firstNo (questions limits H st c) ≡ 6
+outside-is-6 limits H st c out =
+    λ i. cond (out i) (cond (eqb (c .message) (deskOf st (c .desk) .next)) (firstNo (stepQuestions limits H st (c .desk) (c .step))) 23) 6
 
 decided-number : (n session : ℕ) {T : Type 0} (before after : T) → decide n before session after .answer .number ≡ n
 decided-number zero session before after = refl
@@ -146,6 +150,11 @@ module _ {T : Type 0} (does : T → Call → Result T) where
   number-at (c ∷ cs) before zero h = refl
   number-at (c ∷ cs) before (suc i) h = number-at cs (does before c .after) i (omega arith)
 
+pub number-past : (history : List Event) (i : ℕ) → length history ≤ i → numberAt history i ≡ 0
+number-past [] i past = refl
+number-past (event ∷ history) zero past = absurd (omega arith)
+number-past (event ∷ history) (suc i) past = number-past history i (omega arith)
+
 accepted-next : (d : ℕ) (history : List Event) (i : ℕ) → i < length history
     → acceptedOf d (take (suc i) history) ≡ acceptedOf d (take i history) + toNat (eqb (callAt history i .desk) d && eqb (numberAt history i) 0)
 accepted-next d [] i h = absurd (omega arith)
@@ -199,6 +208,9 @@ module _ (limits : Limits) (H : Hall) (cs : List Call) where
         ap (acceptedOf d) (run-take (step limits H) i cs (fresh H)),
       )
 
+  pub answered-at : (i : ℕ) → i < length history → numberAt history i ≡ firstNo (questions limits H (stateAt i) (callAt history i))
+  answered-at i inside = number-at (step limits H) cs (fresh H) i inside ∙ answered-by-first-no limits H (stateAt i) (callAt history i)
+
   module _ (i j : ℕ) (twice : Redelivered history i j) where
     abbrev d : ℕ
     d = callAt history i .desk
@@ -207,7 +219,7 @@ module _ (limits : Limits) (H : Hall) (cs : List Call) where
     before = omega (arith, twice .later, twice .within)
 
     first-asked : firstNo (questions limits H (stateAt i) (callAt history i)) ≡ 0
-    first-asked = sym (answered-by-first-no limits H (stateAt i) (callAt history i)) ∙ sym (number-at (step limits H) cs (fresh H) i before) ∙ twice .accepted
+    first-asked = sym (answered-at i before) ∙ twice .accepted
 
     there : IsDesk H d
     there = desk-asked limits H (stateAt i) (callAt history i) first-asked
@@ -228,18 +240,15 @@ module _ (limits : Limits) (H : Hall) (cs : List Call) where
     next-again : deskOf (stateAt j) (callAt history j .desk) .next ≡ acceptedOf d (take j history) % 65536
     next-again = ap (λ (e : ℕ). deskOf (stateAt j) e .next) (twice .desk) ∙ next-at d j there
 
-    answered-again : numberAt history j ≡ firstNo (questions limits H (stateAt j) (callAt history j))
-    answered-again = number-at (step limits H) cs (fresh H) j (twice .within) ∙ answered-by-first-no limits H (stateAt j) (callAt history j)
-
     pub refused-again : acceptedBetween history i j < 65535 → numberAt history j ≡ 23
     refused-again few =
-        answered-again
+        answered-at j (twice .within)
         ∙ asked-number limits H (stateAt j) (callAt history j) there-again false
         (ne-eqb (callAt history j .message) _ (λ same. omega (arith, same, next-again, later, sent, twice .message, few)))
 
     pub round-again : acceptedBetween history i j ≡ 65535 → numberAt history j ≡ 23 → ⊥
     round-again all refused =
-        right-number limits H (stateAt j) (callAt history j) there-again (omega (arith, next-again, later, sent, twice .message, all)) (sym answered-again ∙ refused)
+        right-number limits H (stateAt j) (callAt history j) there-again (omega (arith, next-again, later, sent, twice .message, all)) (sym (answered-at j (twice .within)) ∙ refused)
 
 -- ---- On words.
 refused-leaves : (limits : Limits) (cs : List Call) (t : List ℕ) (j n : ℕ) → numberAt (run (stepTable limits) t cs) j ≡ suc n

@@ -1,67 +1,25 @@
 -- Calls that carry the right message numbers: none is answered 23, and each is answered as it was without numbers.
-use Prim.Native.Nat.{ℕ, zero, suc, _-_}
+use Prim.Native.Nat.{ℕ, zero, suc, _-_, _%_, _<_}
 use native.Mathlib.Omega.{arith}
-use mathlib.Core.Path.{_≡_, refl, sym, ap, _∙_}
+use native.Mathlib.Decide.{decLt}
+use mathlib.Core.Path.{_≡_, refl, sym, ap, _∙_, subst}
 use mathlib.Core.Bool.{Bool, true, false, cond, _&&_}
 use mathlib.Core.List.{List, [], _∷_, _++_, map}
-use lib.ListN.{getD, set, replicate}
+use lib.ListN.{drop, getD, length, replicate, set, take}
 use lib.Dec.{eqb}
 use borrow.Author.Tests.{eq-eqb}
 use Rattle.rules.specs.Hall.{Desk, Hall, Limits, State, allScreens, deskOf, emptyDesk, fresh}
 use Rattle.rules.specs.History.{numberAt}
-use Rattle.rules.specs.Messages.{answersOf, nextIn, sentHistory, stepUnnumbered}
-use Rattle.rules.specs.Rooms.{without}
-use Rattle.rules.specs.Steps.{Answer, Call, Collect, Collected, Drop, Result, Retire, Step, Swap, Take, _numbered_, advance, changePosition, collect}
-use Rattle.rules.specs.Steps.{decide, firstNo, inRange, isRepeat, owe, perform, performStep, questions, renumber, retire, retireQuestions, run, step}
-use Rattle.rules.specs.Steps.{stepQuestions}
-use Rattle.rules.specs.Table.{decode, encode, hallIn, inHall, inLimits, nextWord, sound, stepTable, within}
+use Rattle.rules.specs.Messages.{AnsweredAsBefore, RightNumbers, acceptedOf, answersOf, callAt, nextIn, send, sentHistory, sentTables, sentTo, stepUnnumbered}
+use Rattle.rules.specs.Steps.{Answer, Call, Collect, Collected, Drop, Event, Result, Retire, Step, Swap, Take, advance, ask, changePosition, collect, decide, end, firstNo}
+use Rattle.rules.specs.Steps.{inRange, isRepeat, owe, perform, performStep, questions, renumber, retire, retireQuestions, run, step, stepQuestions}
+use Rattle.rules.specs.Table.{encode, hallIn, inHall, inLimits, need, nextWord, openedTable, stepTable, within}
 use Rattle.rules.specs.laws.desk.Collect.{collect-renumbered}
-use Rattle.rules.specs.laws.history.StepEffects.{in-range}
+use Rattle.rules.specs.laws.history.StepEffects.{in-range, range-holds}
 use Rattle.rules.specs.laws.lists.Bools.{and-left}
-use Rattle.rules.specs.laws.table.EncodedStep.{Valid, limits-fit, number-word-is, table-step, valid-step}
-use Rattle.rules.specs.laws.table.MessageHistories.{right-number}
-use Rattle.rules.specs.laws.table.TableSteps.{accepted-step, asked, known-inside, number-word, refused-step, unsound-step}
-
--- ---- The number that is read from a table.
-
--- of a desk of a hall within limits
-read-number : (limits : Limits) (t : List ℕ) (d : ℕ) → inLimits limits (hallIn t) ≡ true → inRange d (hallIn t .desks) ≡ true → nextIn t d ≡ getD t (nextWord (hallIn t) d) 0
-read-number limits t d inside there =
-    λ i. cond (and-left (inHall (hallIn t)) (within limits (hallIn t)) inside i && there i) (getD t (nextWord (hallIn t) d) 0) 0
-
--- a call that carries it is not answered 23
-right-step : (limits : Limits) (t : List ℕ) (c : Call) → stepTable limits t (c numbered nextIn t (c .desk)) .answer .number ≡ 23 → ⊥
-right-step limits t c e = by-sound (sound limits t) refl
-  where
-    sent : Call
-    sent = c numbered nextIn t (c .desk)
-
-    H : Hall
-    H = hallIn t
-
-    by-desk : sound limits t ≡ true → (b : Bool) → inRange (c .desk) (H .desks) ≡ b → asked limits t sent ≡ 23 → ⊥
-    by-desk s true there q =
-        let r = in-range (c .desk) (H .desks) there in
-        right-number limits H (decode H t) sent there
-        (read-number limits t (c .desk) (known-inside limits t s) there ∙ sym (number-word t (c .desk) (r .0) (r .1))) q
-    by-desk s false out q =
-        let six : asked limits t sent ≡ 6 = λ i. cond (out i) (cond (eqb (sent .message) (deskOf (decode H t) (c .desk) .next)) (firstNo (stepQuestions limits H (decode H t) (c .desk) (c .step))) 23) 6 in
-        omega (arith, six, q)
-
-    by-number : sound limits t ≡ true → (n : ℕ) → asked limits t sent ≡ n → ⊥
-    by-number s zero q = omega (arith, e, ap (λ (r : Result (List ℕ)). r .answer .number) (accepted-step limits t sent s q))
-    by-number s (suc n) q =
-        by-desk s (inRange (c .desk) (H .desks)) refl
-        (q ∙ sym (ap (λ (r : Result (List ℕ)). r .answer .number) (refused-step limits t sent n s q)) ∙ e)
-
-    by-sound : (b : Bool) → sound limits t ≡ b → ⊥
-    by-sound false s = omega (arith, e, ap (λ (r : Result (List ℕ)). r .answer .number) (unsound-step limits t sent s))
-    by-sound true s = by-number s (asked limits t sent) refl
-
-pub sent-never-23 : (limits : Limits) (cs : List Call) (t : List ℕ) (i : ℕ) → numberAt (sentHistory limits t cs) i ≡ 23 → ⊥
-sent-never-23 limits [] t i e = omega (arith, e)
-sent-never-23 limits (c ∷ cs) t zero e = right-step limits t c e
-sent-never-23 limits (c ∷ cs) t (suc i) e = sent-never-23 limits cs (stepTable limits t (c numbered nextIn t (c .desk)) .after) i e
+use Rattle.rules.specs.laws.table.EncodedStep.{limits-fit, number-word-is}
+use Rattle.rules.specs.laws.table.MessageHistories.{answered-at, next-at, number-past, outside-is-6, right-number}
+use Rattle.rules.specs.laws.table.TableHistories.{end-is, run-is, valid}
 
 -- ---- States without their numbers.
 abbrev forget : Desk → Desk
@@ -86,11 +44,11 @@ renumbered-forgotten (D ∷ Ds) zero n = refl
 renumbered-forgotten (D ∷ Ds) (suc i) n = ap {B = List Desk} (λ r. forget D ∷ r) (renumbered-forgotten Ds i n)
 
 fresh-forgotten : (H : Hall) → forgetAll (fresh H) ≡ fresh H
-fresh-forgotten H = λ i. record { held = fresh H .held; shown = fresh H .shown; desks = at (H .desks) i }
+fresh-forgotten H = λ i. record { held = fresh H .held; shown = fresh H .shown; desks = empty-desks (H .desks) i }
   where
-    at : (n : ℕ) → map forget (replicate n emptyDesk) ≡ replicate n emptyDesk
-    at zero = refl
-    at (suc n) = ap {B = List Desk} (λ r. emptyDesk ∷ r) (at n)
+    empty-desks : (n : ℕ) → map forget (replicate n emptyDesk) ≡ replicate n emptyDesk
+    empty-desks zero = refl
+    empty-desks (suc n) = ap {B = List Desk} (λ r. emptyDesk ∷ r) (empty-desks n)
 
 module _ (limits : Limits) (H : Hall) where
   module _ (st : State) (d : ℕ) where
@@ -98,7 +56,7 @@ module _ (limits : Limits) (H : Hall) where
     same-desk = desk-forgotten (st .desks) (d - 1)
 
     -- what a step asks, replies and does
-    asks-alike : (s : Step) → firstNo (without 23 (stepQuestions limits H (forgetAll st) d s)) ≡ firstNo (stepQuestions limits H st d s)
+    asks-alike : (s : Step) → firstNo (stepQuestions limits H (forgetAll st) d s) ≡ firstNo (stepQuestions limits H st d s)
     asks-alike (Take c p) = refl
     asks-alike (Drop c) = refl
     asks-alike (Swap p v) =
@@ -140,11 +98,11 @@ module _ (limits : Limits) (H : Hall) where
       (λ i. let outcome = performs-alike st (c .desk) (c .step) i in decide (asked-alike i) (forgetAll st) (outcome .session) (outcome .after))
       ∙ by-number (firstNo (questions limits H st c))
     where
-      asked-alike : firstNo (without 23 (questions limits H (forgetAll st) c)) ≡ firstNo (questions limits H st c)
+      asked-alike : firstNo (ask (inRange (c .desk) (H .desks)) 6 ∷ stepQuestions limits H (forgetAll st) (c .desk) (c .step)) ≡ firstNo (questions limits H st c)
       asked-alike = by-desk (inRange (c .desk) (H .desks)) right
         where
           by-desk : (b : Bool) → (b ≡ true → c .message ≡ deskOf st (c .desk) .next)
-              → cond b (firstNo (without 23 (stepQuestions limits H (forgetAll st) (c .desk) (c .step)))) 6
+              → cond b (firstNo (stepQuestions limits H (forgetAll st) (c .desk) (c .step))) 6
               ≡ cond b (cond (eqb (c .message) (deskOf st (c .desk) .next)) (firstNo (stepQuestions limits H st (c .desk) (c .step))) 23) 6
           by-desk true right =
               asks-alike st (c .desk) (c .step)
@@ -166,23 +124,98 @@ module _ (limits : Limits) (H : Hall) where
           }
       by-number (suc n) = refl
 
--- ---- A list of calls on the table of a state.
-module _ (limits : Limits) (H : Hall) (inside : inLimits limits H ≡ true) where
-  answers-alike : (cs : List Call) (st : State) → Valid H st → (rest : List ℕ)
-      → answersOf (sentHistory limits (encode H st ++ rest) cs) ≡ answersOf (run (stepUnnumbered limits H) (forgetAll st) cs)
-  answers-alike [] st v rest = refl
-  answers-alike (c ∷ cs) st v rest =
-      let t : List ℕ = encode H st ++ rest in
-      let sent : Call = c numbered nextIn t (c .desk) in
-      let right : inRange (c .desk) (H .desks) ≡ true → nextIn t (c .desk) ≡ deskOf st (c .desk) .next =
-      λ there. (read-number limits t (c .desk) inside there ∙ number-word-is H (limits-fit limits H inside) st v rest (c .desk) (in-range (c .desk) (H .desks) there)) in
-      let here = table-step limits H inside st v rest sent in
-      let there = step-alike limits H st sent right in
-      let after : State = step limits H st sent .after in
-      ap (λ (r : Result (List ℕ)). r .answer ∷ answersOf (sentHistory limits (r .after) cs)) here
-      ∙ ap {B = List Answer} (λ answers. step limits H st sent .answer ∷ answers) (answers-alike cs after (valid-step H (limits-fit limits H inside) limits st sent v) rest)
-      ∙ sym (ap (λ (r : Result State). r .answer ∷ answersOf (run (stepUnnumbered limits H) (r .after) cs)) there)
+-- ---- A list of calls, of which each has the number that is next.
+module _ (limits : Limits) (H : Hall) where
+  abbrev NumberedNext : State → List Call → Type 0
+  NumberedNext st cs =
+      let history = run (step limits H) st cs in
+      (i : ℕ) → i < length history → inRange (callAt history i .desk) (H .desks) ≡ true
+      → callAt history i .message ≡ deskOf (end (step limits H) st (take i cs)) (callAt history i .desk) .next
 
-  pub answers-as-before : (rest : List ℕ) (v : Valid H (fresh H)) (cs : List Call)
-      → answersOf (sentHistory limits (encode H (fresh H) ++ rest) cs) ≡ answersOf (run (stepUnnumbered limits H) (fresh H) cs)
-  answers-as-before rest v cs = answers-alike cs (fresh H) v rest ∙ ap (λ (st : State). answersOf (run (stepUnnumbered limits H) st cs)) (fresh-forgotten H)
+  answers-alike : (cs : List Call) (st : State) → NumberedNext st cs
+      → answersOf (run (step limits H) st cs) ≡ answersOf (run (stepUnnumbered limits H) (forgetAll st) cs)
+  answers-alike [] st right = refl
+  answers-alike (c ∷ cs) st right =
+      ap {B = List Answer} (λ answers. step limits H st c .answer ∷ answers)
+      (answers-alike cs (step limits H st c .after) (λ i inside there. right (suc i) (omega arith) there))
+      ∙ sym
+      (ap (λ (r : Result State). r .answer ∷ answersOf (run (stepUnnumbered limits H) (r .after) cs)) (step-alike limits H st c (λ there. right 0 (omega arith) there)))
+
+  -- from a fresh hall on
+  module _ (cs : List Call) (right : RightNumbers H (run (step limits H) (fresh H) cs)) where
+    numbered-next : NumberedNext (fresh H) cs
+    numbered-next i inside there =
+        let history : List Event = run (step limits H) (fresh H) cs in
+        let r = in-range (callAt history i .desk) (H .desks) there in
+        right i inside (r .0) (r .1) ∙ sym (next-at limits H cs (callAt history i .desk) i r)
+
+    answers-as-before : answersOf (run (step limits H) (fresh H) cs) ≡ answersOf (run (stepUnnumbered limits H) (fresh H) cs)
+    answers-as-before =
+        answers-alike cs (fresh H) numbered-next ∙ ap (λ (st : State). answersOf (run (stepUnnumbered limits H) st cs)) (fresh-forgotten H)
+
+    never-answered-23 : (i : ℕ) → numberAt (run (step limits H) (fresh H) cs) i ≡ 23 → ⊥
+    never-answered-23 i e = by-length (decLt i (length history))
+      where
+        history : List Event
+        history = run (step limits H) (fresh H) cs
+
+        by-desk : i < length history → (b : Bool) → inRange (callAt history i .desk) (H .desks) ≡ b → ⊥
+        by-desk inside true there =
+            right-number limits H (end (step limits H) (fresh H) (take i cs)) (callAt history i) there (numbered-next i inside there)
+            (sym (answered-at limits H cs i inside) ∙ e)
+        by-desk inside false out =
+            omega (
+              arith,
+              e,
+              answered-at limits H cs i inside,
+              outside-is-6 limits H (end (step limits H) (fresh H) (take i cs)) (callAt history i) out,
+            )
+
+        by-length : Dec (i < length history) → ⊥
+        by-length (yes inside) = by-desk inside (inRange (callAt history i .desk) (H .desks)) refl
+        by-length (no past) = omega (arith, e, number-past history i (omega arith))
+
+-- ---- On words.
+pub as-before-opened : (limits : Limits) (H : Hall) → inLimits limits H ≡ true → (t : List ℕ) (cs : List Call)
+    → AnsweredAsBefore limits H cs (run (stepTable limits) (openedTable H t) cs)
+as-before-opened limits H inside t cs =
+    subst (AnsweredAsBefore limits H cs) (sym (run-is limits H inside t cs))
+    (record { answers = answers-as-before limits H cs; never-23 = never-answered-23 limits H cs })
+
+-- the numbers that are read from the table are right
+module _ (limits : Limits) where
+  sent-message : (cs : List Call) (t : List ℕ) (i : ℕ) → i < length (sentHistory limits t cs)
+      → callAt (sentHistory limits t cs) i .message ≡ nextIn (sentTables limits t cs i) (callAt (sentHistory limits t cs) i .desk)
+  sent-message [] t i inside = absurd (omega arith)
+  sent-message (c ∷ cs) t zero inside = refl
+  sent-message (c ∷ cs) t (suc i) inside = sent-message cs (send limits t c .after) i (omega arith)
+
+  pub sent-tables : (cs : List Call) (t : List ℕ) (i : ℕ) → end (stepTable limits) t (take i (sentTo limits t cs)) ≡ sentTables limits t cs i
+  sent-tables cs t zero = refl
+  sent-tables [] t (suc i) = refl
+  sent-tables (c ∷ cs) t (suc i) = sent-tables cs (send limits t c .after) i
+
+pub sent-right : (limits : Limits) (H : Hall) → inLimits limits H ≡ true → (t : List ℕ) (cs : List Call) → RightNumbers H (sentHistory limits (openedTable H t) cs)
+sent-right limits H inside t cs i below l h =
+    let start : List ℕ = openedTable H t in
+    let sent : List Call = sentTo limits start cs in
+    let d : ℕ = callAt (sentHistory limits start cs) i .desk in
+    sent-message limits cs start i below
+    ∙ ap (λ (words : List ℕ). nextIn words d) (sym (sent-tables limits cs start i) ∙ end-is limits H inside t sent i)
+    ∙ read-number (encode H (end (step limits H) (fresh H) (take i sent)) ++ drop (need H) t) d (and-left (inHall H) (within limits H) inside)
+    (range-holds d (H .desks) (l, h))
+    ∙ number-word-is H (limits-fit limits H inside) (end (step limits H) (fresh H) (take i sent)) (valid limits H inside t sent i) (drop (need H) t) d (l, h)
+    ∙ next-at limits H sent d i (l, h)
+    ∙ ap (λ (history : List Event). acceptedOf d (take i history) % 65536) (sym (run-is limits H inside t sent))
+  where
+    -- of a desk of the hall in the header
+    read-number : (words : List ℕ) (d : ℕ) → inHall (hallIn words) ≡ true → inRange d (hallIn words .desks) ≡ true
+        → nextIn words d ≡ getD words (nextWord (hallIn words) d) 0
+    read-number words d inside there = λ i. cond (inside i && there i) (getD words (nextWord (hallIn words) d) 0) 0
+
+-- without numbers it makes no difference which ones a call carries
+pub sent-unnumbered : (limits : Limits) (H : Hall) (cs : List Call) (t : List ℕ) (st : State)
+    → answersOf (run (stepUnnumbered limits H) st (sentTo limits t cs)) ≡ answersOf (run (stepUnnumbered limits H) st cs)
+sent-unnumbered limits H [] t st = refl
+sent-unnumbered limits H (c ∷ cs) t st =
+    ap {B = List Answer} (λ answers. stepUnnumbered limits H st c .answer ∷ answers) (sent-unnumbered limits H cs (send limits t c .after) (stepUnnumbered limits H st c .after))
