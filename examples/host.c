@@ -49,7 +49,7 @@ static const char *reason(uint16_t number)
     case BOARD_OWES_NOTHING: return "the desk owes no session";
     case BOARD_NO_ROOM: return "the desk's list is full; it must collect first";
     case BOARD_OVER_LIMITS: return "a training room has 4 desks, 1 screen each, sessions to 999";
-    case BOARD_OTHER_MESSAGE: return "this message was accepted before";
+    case BOARD_OTHER_MESSAGE: return "the number is not that of the desk's next message";
     default: return "not a number of this board";
     }
 }
@@ -65,7 +65,9 @@ static int accepted(uint32_t answer)
     return 0;
 }
 
-/* A message that is not accepted leaves its number to the next one. */
+/* A message that is not accepted leaves its number to the next one. (This host loses
+ * no answer. One that may lose some counts on after 23 too: the message was accepted
+ * before.) */
 static int done(uint16_t desk, uint32_t answer)
 {
     if (!accepted(answer))

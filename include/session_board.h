@@ -28,13 +28,20 @@
  *
  * Sending again: a desk sends one message at a time, and sends it again with the
  * same number until an answer arrives. If it is accepted, the next message has
- * the number after it. If it is refused, nothing was done, and the next message
- * has the same number, be it this one again or a new one. But if it is refused
- * with 23, it was accepted before: do not send it again, and give the next
- * message the number after it. 23 comes without a session, so keep the answers
- * of accepted calls, above all the sessions that collects hand back. A message
- * that arrives again after 65535 further accepted calls of its desk, or after an
- * opening, may count as new.
+ * the number after it. If it is refused with 23, it was accepted before: do not
+ * send it again, and give the next message the number after it. 23 has no
+ * session: if an answer may be lost on its way to the desk, the host must keep
+ * it until the desk has it, above all the session of a collect, because the
+ * board does not give it again.
+ *
+ * After any other refusal nothing was done, and the number is still due. But a
+ * copy of the refused message may still be under way, and may be accepted when
+ * it arrives. So send the same message again, or give its number to another one
+ * only when no copy can arrive any more: otherwise the copy may be done in place
+ * of the new message, which then gets 23.
+ *
+ * A message that arrives again after 65535 further accepted calls of its desk,
+ * or after an opening, may count as new.
  *
  * The life of a session: a swap puts it at a position, and takes show it on
  * screens. A later swap to another session, or to none, replaces it there; the
@@ -55,11 +62,13 @@
  * desk; and a record for each desk. With S screens in the hall a record has 14 +
  * 2S words: the owed session; the number of screens read so far; the counts of
  * ready, tested and waiting sessions; 8 words of marks; a list of 2S places; and
- * the message number.
+ * the message number. With L positions that of desk d is word 3 + L + S + d * (14
+ * + 2S) - 1, counted from 0.
  *
  * Tables of the former layout, without message numbers, cannot be used: open the
  * hall afresh. No call detects them reliably. Most are unsound (5) because they
- * are too short, but one that is longer than its need may pass as sound.
+ * are too short, but one with words to spare may pass as sound (with one desk,
+ * one word is enough).
  *
  * The board keeps nothing between calls: the table is the whole state of the
  * hall. It uses no memory but the table and less than 1 KB of stack, and only

@@ -16,13 +16,13 @@ use Rattle.rules.specs.laws.history.StepEffects.{in-range}
 use Rattle.rules.specs.laws.table.TableSteps.{Known, known, number-word, record-within, refused-step, unsound-step}
 use Rattle.reply.specs.Answer.{tableResult}
 use Rattle.board.specs.Admission.{Admits, admissionOf, headerOf, locationOf, numbersIn}
-use Rattle.reply.specs.declared.Reply.the-variants.{NoDesk as NoDeskReply, OtherNumber as OtherNumberReply, Unsound as NotSoundReply}
+use Rattle.reply.specs.declared.Reply.the-variants.{NoDesk as NoDeskReply, OtherMessage as OtherMessageReply, Unsound as NotSoundReply}
 use Rattle.board.specs.declared.Hall.{Hall as Numbers}
 use Rattle.board.specs.declared.Header.{Header}
 use Rattle.board.specs.declared.Header.the-variants.{Broken, Of}
 use Rattle.board.specs.declared.Location.{Location}
 use Rattle.board.specs.declared.Admission.{Admission}
-use Rattle.board.specs.declared.Admission.the-variants.{At, NoDesk, OtherNumber, Unsound}
+use Rattle.board.specs.declared.Admission.the-variants.{At, NoDesk, OtherMessage, Unsound}
 
 -- the end of a record is the start of the next
 pub next-start : (H : Hall) (d : ℕ) → 1 ≤ d → startFor (H .positions) (allScreens H) d ≡ recordStart H d + recordWidth H
@@ -113,7 +113,7 @@ pub record AdmitsCall (limits : Limits) (t : List ℕ) (message desk : ℕ) (p :
 abbrev Says : Limits → List ℕ → ℕ → ℕ → Admission → Type 0
 Says limits t message desk Unsound = sound limits t ≡ false
 Says limits t message desk NoDesk = (sound limits t ≡ true) × (inRange desk (hallIn t .desks) ≡ false)
-Says limits t message desk OtherNumber =
+Says limits t message desk OtherMessage =
     (sound limits t ≡ true) × (inRange desk (hallIn t .desks) ≡ true) × (eqb message (getD t (nextWord (hallIn t) desk) 0) ≡ false)
 Says limits t message desk (At p) = AdmitsCall limits t message desk p
 
@@ -124,7 +124,7 @@ says limits t message desk =
     by-tests (sound limits t) (inRange desk (hallIn t .desks)) (eqb message next) refl refl refl
   where
     by-tests : (a b c : Bool) → sound limits t ≡ a → inRange desk (hallIn t .desks) ≡ b → eqb message (getD t (nextWord (hallIn t) desk) 0) ≡ c
-        → Says limits t message desk (cond a (cond b (cond c (At (locationOf t desk)) OtherNumber) NoDesk) Unsound)
+        → Says limits t message desk (cond a (cond b (cond c (At (locationOf t desk)) OtherMessage) NoDesk) Unsound)
     by-tests true true true is-sound own same =
         record { admits-desk = record { yes-sound = is-sound; yes-desk = own; is = refl }; is-next = eqb-true message (getD t (nextWord (hallIn t) desk) 0) same }
     by-tests true true false is-sound own other = (is-sound, own, other)
@@ -152,8 +152,8 @@ module _ (limits : Limits) (t : List ℕ) (c : Call) where
         let no-desk = admission-says limits t (c .message) (c .desk) NoDesk (sym said ∙ is) in
         sym (refused-step limits t c 5 (no-desk .0) (rw (no-desk .1)))
 
-    pub refused-number : a ≡ OtherNumber → tableResult OtherNumberReply t ≡ stepTable limits t c
+    pub refused-number : a ≡ OtherMessage → tableResult OtherMessageReply t ≡ stepTable limits t c
     refused-number said =
-        let other = admission-says limits t (c .message) (c .desk) OtherNumber (sym said ∙ is) in
+        let other = admission-says limits t (c .message) (c .desk) OtherMessage (sym said ∙ is) in
         let range = in-range (c .desk) (hallIn t .desks) (other .1) in
         sym (refused-step limits t c 22 (other .0) (rw (other .1, number-word t (c .desk) (range .0) (range .1), other .2)))

@@ -14,7 +14,7 @@ use Rattle.board.specs.declared.Header.{Header}
 use Rattle.board.specs.declared.Header.the-variants.{Broken, Of}
 use Rattle.board.specs.declared.Location.{Location}
 use Rattle.board.specs.declared.Admission.{Admission}
-use Rattle.board.specs.declared.Admission.the-variants.{At, NoDesk, OtherNumber, Unsound}
+use Rattle.board.specs.declared.Admission.the-variants.{At, NoDesk, OtherMessage, Unsound}
 
 abbrev pub numbersIn : List ℕ → Hall
 numbersIn t = let H = hallIn t in record { desks = H .desks; screens = H .screens; positions = H .positions; all = allScreens H }
@@ -38,7 +38,7 @@ locationOf t desk =
 unfoldable pub admissionOf : Limits → List ℕ → ℕ → ℕ → Admission
 admissionOf limits t message desk =
     cond (sound limits t)
-    (cond (inRange desk (hallIn t .desks)) (cond (eqb message (getD t (nextWord (hallIn t) desk) 0)) (At (locationOf t desk)) OtherNumber) NoDesk)
+    (cond (inRange desk (hallIn t .desks)) (cond (eqb message (getD t (nextWord (hallIn t) desk) 0)) (At (locationOf t desk)) OtherMessage) NoDesk)
     Unsound
 
 -- The first two are answered yes, and this is the desk's location.

@@ -228,7 +228,7 @@ struct Location {
 enum Admission {
     Unsound,
     NoDesk,
-    OtherNumber,
+    OtherMessage,
     At(Location),
 }
 
@@ -252,7 +252,7 @@ fn admit(t: &[u8], limits: Limits, hall: Hall, message: u16, desk: u16) -> Admis
     let e = record_start(l, s, d);
     let next = a + tail_offset(s);
     if word(t, next) != message {
-        return Admission::OtherNumber;
+        return Admission::OtherMessage;
     }
     Admission::At(Location {
         positions: l,
@@ -392,7 +392,7 @@ pub fn take(
             match admission {
                 Admission::Unsound => Reply::Unsound,
                 Admission::NoDesk => Reply::NoDesk,
-                Admission::OtherNumber => Reply::OtherNumber,
+                Admission::OtherMessage => Reply::OtherMessage,
                 Admission::At(location) => {
                     let r = take_at(t, limits, desk, location, screen, position);
                     move_on(t, location.next, message, r)
@@ -433,7 +433,7 @@ pub fn drop(t: &mut [u8], limits: Limits, message: u16, desk: u16, screen: u16) 
             match admission {
                 Admission::Unsound => Reply::Unsound,
                 Admission::NoDesk => Reply::NoDesk,
-                Admission::OtherNumber => Reply::OtherNumber,
+                Admission::OtherMessage => Reply::OtherMessage,
                 Admission::At(location) => {
                     let r = drop_at(t, limits, desk, location, screen);
                     move_on(t, location.next, message, r)
@@ -497,7 +497,7 @@ pub fn swap(
             match admission {
                 Admission::Unsound => Reply::Unsound,
                 Admission::NoDesk => Reply::NoDesk,
-                Admission::OtherNumber => Reply::OtherNumber,
+                Admission::OtherMessage => Reply::OtherMessage,
                 Admission::At(location) => {
                     let r = swap_at(t, limits, desk, location, position, session);
                     move_on(t, location.next, message, r)
@@ -529,7 +529,7 @@ pub fn retire(t: &mut [u8], limits: Limits, message: u16, desk: u16) -> Reply
             match admission {
                 Admission::Unsound => Reply::Unsound,
                 Admission::NoDesk => Reply::NoDesk,
-                Admission::OtherNumber => Reply::OtherNumber,
+                Admission::OtherMessage => Reply::OtherMessage,
                 Admission::At(location) => {
                     let r = retire_at(t, limits, desk, location);
                     move_on(t, location.next, message, r)
@@ -570,7 +570,7 @@ pub fn collect(t: &mut [u8], limits: Limits, message: u16, desk: u16) -> Reply
             match admission {
                 Admission::Unsound => Reply::Unsound,
                 Admission::NoDesk => Reply::NoDesk,
-                Admission::OtherNumber => Reply::OtherNumber,
+                Admission::OtherMessage => Reply::OtherMessage,
                 Admission::At(location) => {
                     let r = collect_at(t, limits, desk, location);
                     move_on(t, location.next, message, r)

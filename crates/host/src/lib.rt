@@ -14,8 +14,8 @@ ghost use Rattle.rules.specs.Steps.{Collect, Drop, Retire, Swap, Take, _numbere
 ghost use Rattle.limits.specs.Room.{limitsOf};
 ghost use Rattle.host.specs.Results.{bytesResult};
 
-// ---- The calls in a room with any limits: on bytes, answered by one number. A step carries its desk's next message number, which moves on
-// if it is accepted.
+// ---- The calls in a room with any limits: on bytes, answered by one number. A step carries a message number, which must be its desk's next;
+// an accepted step moves that on.
 
 // The opening of a hall: its three numbers and zeros up to its need are written.
 fn call_open(desks: u16, screens: u16, positions: u16, table: &mut [u8], limits: Limits) -> u32
