@@ -186,10 +186,10 @@ module _ (before after : State) where
   pub says-positions-stay : OthersStay wide (2 sends Swap 4 9) before after → (p : ℕ) → mayWritePosition (Swap 4 9) p ≡ false → positionAt wide after p ≡ positionAt wide before p
   says-positions-stay stay = stay .positions
 
--- ---- Message numbers, for any history and tables: desk 2, whose number is word 64, after 5 calls; and the message of index 4 again at index 7.
+-- ---- Message numbers, for any history and tables: desk 1, whose number is word 38, after 5 calls; and the message of index 4 again at index 7.
 module _ (history : List Event) (tables : ℕ → List ℕ) (numbers : MessageNumbers wide history tables) where
-  pub says-word : getD (tables 5) 64 0 ≡ acceptedOf 2 (take 5 history) % 65536
-  says-word = numbers .word 2 5 (omega arith) (omega arith)
+  pub says-word : getD (tables 5) 38 0 ≡ acceptedOf 1 (take 5 history) % 65536
+  says-word = numbers .word 1 5 (omega arith) (omega arith)
 
   pub says-again : Redelivered history 4 7 → acceptedBetween history 4 7 < 65535 → (numberAt history 7 ≡ 23) × (tables 8 ≡ tables 7)
   says-again = numbers .again 4 7

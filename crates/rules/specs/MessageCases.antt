@@ -1,6 +1,6 @@
 -- Message numbers, computed: which numbers are refused, what moves them on, the order of the questions; and what the statements about them admit
 -- and refuse. No theorem is used here. Document 02, "Message numbers".
-use Prim.Native.Nat.{ℕ, zero, suc, _+_}
+use Prim.Native.Nat.{ℕ, _%_, _+_, suc, zero}
 use native.Mathlib.Omega.{arith}
 use mathlib.Core.Path.{_≡_, refl, ap}
 use mathlib.Core.List.{List, [], _∷_, _++_, map}
@@ -8,7 +8,7 @@ use lib.ListN.{drop, getD, replicate, take}
 use Rattle.rules.specs.Cases.{Case, Computed, _⇒_, busyTable, delivers, ok, refusedWith}
 use Rattle.rules.specs.Hall.{fresh, hallLimits, hallOf}
 use Rattle.rules.specs.Messages.{AnsweredAsBefore, MessageNumbers, Redelivered, RightNumbers, acceptedBetween, acceptedOf, answersOf, callAt, nextIn, nextOf}
-use Rattle.rules.specs.Messages.{rightlyNumbered, sentTo, stepUnnumbered}
+use Rattle.rules.specs.Messages.{rightlyNumbered, sentTables, sentTo, stepUnnumbered}
 use Rattle.rules.specs.Steps.{Answer, Call, Collect, Drop, Event, Retire, Swap, Take, _numbered_, _sends_, end, run, step}
 use Rattle.rules.specs.Table.{decodeDesk, encodeDesk, openTable, recordSound, sound, stepTable}
 
@@ -104,15 +104,16 @@ pub numbers-read :
     × (nextIn (16 ∷ 1 ∷ 1 ∷ replicate 2400 5) 16 ≡ 5)
 numbers-read = (refl, refl, refl, refl, refl)
 
--- The collect that is refused does not move desk 1's number on; desk 2's first number is 0; desk 3 is not there.
+-- The retire that is refused does not move desk 1's number on; desk 2's first number is 0; desk 3 is not there.
 abbrev mixed : List Call
 mixed = 1 sends Swap 1 5 ∷ 1 sends Retire ∷ 2 sends Take 1 1 ∷ 3 sends Collect ∷ 1 sends Collect ∷ 2 sends Drop 1 ∷ []
 
 pub numbers-filled-in :
     (map (λ (call : Call). call .message) (sentTo hallLimits (openTable hallLimits (hallOf 2 1 1) (replicate 42 9) .after) mixed) ≡ 0 ∷ 1 ∷ 0 ∷ 0 ∷ 1 ∷ 1 ∷ [])
     × (map (λ (call : Call). call .message) (rightlyNumbered nextOf (step hallLimits (hallOf 2 1 1)) (fresh (hallOf 2 1 1)) mixed) ≡ 0 ∷ 1 ∷ 0 ∷ 0 ∷ 1 ∷ 1 ∷ [])
+    × (map (λ (i : ℕ). nextIn (sentTables hallLimits (openTable hallLimits (hallOf 2 1 1) (replicate 42 9) .after) mixed i) 1) (0 ∷ 1 ∷ 2 ∷ 5 ∷ 9 ∷ []) ≡ 0 ∷ 1 ∷ 1 ∷ 2 ∷ 2 ∷ [])
 unfolding openTable stepTable sound recordSound encodeDesk decodeDesk
-numbers-filled-in = (refl, refl)
+numbers-filled-in = (refl, refl, refl)
 
 -- Without numbers nothing asks 23 and nothing moves on: a step with another number is accepted, and leaves the number.
 pub steps-unnumbered :
@@ -177,10 +178,30 @@ movesTwice zero = tableOfOne 0 0 0 1 0 5 0
 movesTwice (suc zero) = tableOfOne 0 0 0 0 0 0 1
 movesTwice (suc (suc i)) = tableOfOne 0 0 0 0 0 0 2
 
--- Refused by `word`: a number that does not move on, and one that a refused call moves on.
+-- A collect that is accepted, and the number that moves on; the statement is about the hall's own desks, and desk 0 has none.
+pub admits-one-call : Says ((1 sends Collect ⇒ ok 5) ∷ []) movesOnce
+admits-one-call = record {
+  word = λ d i l h. (let one : d ≡ 1 = omega (arith, l, h) in rw one (words i));
+  again = λ i j twice. absurd (omega (arith, twice .later, twice .within));
+  round = λ i j twice. absurd (omega (arith, twice .later, twice .within));
+  once = λ i j d s twice. absurd (omega (arith, twice .later, twice .within));
+}
+  where
+    words : (i : ℕ) → getD (movesOnce i) 20 0 ≡ acceptedOf 1 (take i ((1 sends Collect ⇒ ok 5) ∷ [])) % 65536
+    words zero = refl
+    words (suc zero) = refl
+    words (suc (suc i)) = refl
+
+-- Refused by `word`: a number that does not move on, in a hall of one desk and of the second of two, and one that a refused call moves on.
 pub refuses-words :
-    (Says ((1 sends Collect ⇒ ok 5) ∷ []) (λ i. tableOfOne 0 0 0 1 0 5 0) → ⊥) × (Says ((1 sends Collect numbered 7 ⇒ refusedWith 23) ∷ []) movesOnce → ⊥)
-refuses-words = (λ says. omega (arith, says .word 1 1 (omega arith) (omega arith)), λ says. omega (arith, says .word 1 1 (omega arith) (omega arith)))
+    (Says ((1 sends Collect ⇒ ok 5) ∷ []) (λ i. tableOfOne 0 0 0 1 0 5 0) → ⊥)
+    × (MessageNumbers (hallOf 2 1 1) ((2 sends Collect ⇒ ok 0) ∷ []) (λ i. 2 ∷ 1 ∷ 1 ∷ replicate 39 0) → ⊥)
+    × (Says ((1 sends Collect numbered 7 ⇒ refusedWith 23) ∷ []) movesOnce → ⊥)
+refuses-words = (
+  λ says. omega (arith, says .word 1 1 (omega arith) (omega arith)),
+  λ says. omega (arith, says .word 2 1 (omega arith) (omega arith)),
+  λ says. omega (arith, says .word 1 1 (omega arith) (omega arith)),
+)
 
 -- Refused by `again` alone: a second delivery that is accepted, that is refused with another number, or that is refused and writes what is owed.
 abbrev writesOwed : ℕ → List ℕ
