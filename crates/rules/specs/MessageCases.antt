@@ -1,6 +1,6 @@
 -- Message numbers, computed: which numbers are refused, what moves them on, the order of the questions; and what the statements about them admit
 -- and refuse. No theorem is used here. Document 02, "Message numbers".
-use Prim.Native.Nat.{ℕ, _%_, _+_, suc, zero}
+use Prim.Native.Nat.{ℕ, _%_, suc, zero}
 use native.Mathlib.Omega.{arith}
 use mathlib.Core.Path.{_≡_, refl, ap}
 use mathlib.Core.List.{List, [], _∷_, _++_, map}

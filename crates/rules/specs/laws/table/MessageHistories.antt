@@ -15,7 +15,7 @@ use Rattle.rules.specs.Lists.{toNat}
 use Rattle.rules.specs.Messages.{MessageNumbers, Redelivered, acceptedBetween, acceptedOf, callAt, isAcceptedFrom}
 use Rattle.rules.specs.Steps.{Call, Collect, Drop, Event, Result, Retire, Step, Swap, Take, advance, changePosition, collect, decide}
 use Rattle.rules.specs.Steps.{end, firstNo, inRange, isRepeat, owe, perform, performStep, questions, renumber, retire, run, step, stepQuestions}
-use Rattle.rules.specs.Table.{inLimits, need, nextWord, openedTable, stepTable, within}
+use Rattle.rules.specs.Table.{inLimits, need, nextWord, openedTable, stepTable}
 use Rattle.rules.specs.laws.desk.Collect.{next-collect}
 use Rattle.rules.specs.laws.history.InitialState.{fresh-formed, get-same}
 use Rattle.rules.specs.laws.history.RunSplitting.{run-take}
