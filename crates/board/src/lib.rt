@@ -188,7 +188,7 @@ enum Header {
 fn read_header(t: &[u8], limits: Limits) -> Header
     ensures { λ r. ⌜ r ≡ headerOf (limitsOf limits) (wordsOfBytes (now (t .entry))) ⌝ }
 {
-    let n = t.len() / 2;
+    let n = t.len() >> 1;
     if n < HEADER {
         return Header::Broken;
     }
@@ -290,7 +290,7 @@ pub fn opening(limits: Limits, desks: u16, screens: u16, positions: u16, words: 
 pub fn open(t: &mut [u8], limits: Limits, desks: u16, screens: u16, positions: u16) -> Reply
     ensures { λ r. ⌜ Opened (limitsOf limits) (hallOf desks screens positions) (now (t .entry)) r (now (t .exit)) ⌝ }
 {
-    let r = opening(limits, desks, screens, positions, t.len() / 2);
+    let r = opening(limits, desks, screens, positions, t.len() >> 1);
     if number(r) != 0 {
         return r;
     }
@@ -307,7 +307,7 @@ pub fn open(t: &mut [u8], limits: Limits, desks: u16, screens: u16, positions: u
 pub fn next_message(t: &[u8], desk: u16) -> u16
     ensures { λ r. ⌜ r ≡ nextIn (wordsOfBytes (now (t .entry))) desk ⌝ }
 {
-    let n = t.len() / 2;
+    let n = t.len() >> 1;
     if n < HEADER {
         return 0;
     }

@@ -26,16 +26,16 @@ word-at (low ∷ high ∷ bytes) (suc k) h =
     rw (e, e') (word-at bytes k (omega arith))
 
 -- ---- One word.
--- word k is written
-pub put-words : (bytes : List ℕ) (k w : ℕ) → 2 * k + 1 < length bytes → w < 65536
-    → wordsOfBytes (set (set bytes (2 * k) (w % 256)) (2 * k + 1) (w / 256 % 256)) ≡ set (wordsOfBytes bytes) k w
-put-words [] k w h g = absurd (not-suc-le-zero h)
-put-words (low ∷ []) k w h g = absurd (omega arith)
-put-words (low ∷ high ∷ bytes) zero w h g = let e : w % 256 + 256 * (w / 256 % 256) ≡ w = omega arith in ap {B = List ℕ} (λ x. x ∷ wordsOfBytes bytes) e
-put-words (low ∷ high ∷ bytes) (suc k) w h g =
+-- word k is written: its low byte and its high byte
+pub put-words : (bytes : List ℕ) (k low high : ℕ) → 2 * k + 1 < length bytes
+    → wordsOfBytes (set (set bytes (2 * k) low) (2 * k + 1) high) ≡ set (wordsOfBytes bytes) k (low + 256 * high)
+put-words [] k low high h = absurd (not-suc-le-zero h)
+put-words (x ∷ []) k low high h = absurd (omega arith)
+put-words (x ∷ y ∷ bytes) zero low high h = refl
+put-words (x ∷ y ∷ bytes) (suc k) low high h =
     let e : 2 * suc k + 1 ≡ suc (suc (2 * k + 1)) = omega arith in
     let e' : 2 * suc k ≡ suc (suc (2 * k)) = omega arith in
-    rw (e, e') (ap {B = List ℕ} (λ l. (low + 256 * high) ∷ l) (put-words bytes k w (omega arith) g))
+    rw (e, e') (ap {B = List ℕ} (λ l. (x + 256 * y) ∷ l) (put-words bytes k low high (omega arith)))
 
 pub drop-set-before : (bytes : List ℕ) (n k v : ℕ) → k < n → drop n (set bytes k v) ≡ drop n bytes
 drop-set-before [] n k v h = refl
@@ -43,14 +43,14 @@ drop-set-before (x ∷ bytes) zero k v h = absurd (not-suc-le-zero h)
 drop-set-before (x ∷ bytes) (suc n) zero v h = refl
 drop-set-before (x ∷ bytes) (suc n) (suc k) v h = drop-set-before bytes n k v (omega arith)
 
-pub put-written : (bytes : List ℕ) (k w : ℕ) → 2 * k + 1 < length bytes → w < 65536
-    → Written bytes (set (wordsOfBytes bytes) k w) (set (set bytes (2 * k) (w % 256)) (2 * k + 1) (w / 256 % 256))
-put-written bytes k w h g =
+pub put-written : (bytes : List ℕ) (k low high : ℕ) → 2 * k + 1 < length bytes
+    → Written bytes (set (wordsOfBytes bytes) k (low + 256 * high)) (set (set bytes (2 * k) low) (2 * k + 1) high)
+put-written bytes k low high h =
     let n = 2 * length (wordsOfBytes bytes) in
     let l : 2 * k + 1 < n = omega (arith, words-length bytes) in
     record {
-      holds = put-words bytes k w h g;
-      last = drop-set-before (set bytes (2 * k) (w % 256)) n (2 * k + 1) (w / 256 % 256) l ∙ drop-set-before bytes n (2 * k) (w % 256) (omega arith);
+      holds = put-words bytes k low high h;
+      last = drop-set-before (set bytes (2 * k) low) n (2 * k + 1) high l ∙ drop-set-before bytes n (2 * k) low (omega arith);
     }
 
 -- the words of a part

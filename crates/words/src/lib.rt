@@ -30,15 +30,15 @@ pub fn put_word(t: &mut [u8], i: usize, w: u16)
     requires { ⌜ 2 * i + 1 < length (now t) ⌝ }
     ensures { λ _. ⌜ Written (now (t .entry)) (set (wordsOfBytes (now (t .entry))) i w) (now (t .exit)) ⌝ }
 {
-    t[2 * i] = (w % 256) as u8;
-    t[2 * i + 1] = (w / 256 % 256) as u8;
+    t[2 * i] = (w & 255) as u8;
+    t[2 * i + 1] = (w >> 8) as u8;
 }
 
 // Whether every word of a part is 0. The loop has no early exit, so the compiler vectorises it.
 pub fn all_zero(l: &[u8]) -> bool
     ensures { λ r. ⌜ r ≡ allZero (wordsOfBytes (now (l .entry))) ⌝ }
 {
-    let n = l.len() / 2;
+    let n = l.len() >> 1;
     let mut bits: u16 = 0;
     let mut i = 0;
     while i < n {
@@ -52,7 +52,7 @@ pub fn all_zero(l: &[u8]) -> bool
 pub fn lacks(l: &[u8], x: u16) -> bool
     ensures { λ r. ⌜ r ≡ lacksWord x (wordsOfBytes (now (l .entry))) ⌝ }
 {
-    let n = l.len() / 2;
+    let n = l.len() >> 1;
     let mut ok = true;
     let mut i = 0;
     while i < n {
@@ -79,7 +79,7 @@ pub fn clear(l: &mut [u8])
 pub fn shift_left(l: &mut [u8])
     ensures { λ _. ⌜ Written (now (l .entry)) (shiftLeft (wordsOfBytes (now (l .entry)))) (now (l .exit)) ⌝ }
 {
-    let n = l.len() / 2;
+    let n = l.len() >> 1;
     if n == 0 {
         return;
     }
@@ -99,7 +99,7 @@ pub fn copy_in(dst: &mut [u8], src: &[u16])
     requires { ⌜ length (now dst) ≤ 2 * length (now src) + 1 ⌝ }
     ensures { λ _. ⌜ Written (now (dst .entry)) (take (length (wordsOfBytes (now (dst .entry)))) (now (src .entry))) (now (dst .exit)) ⌝ }
 {
-    let n = dst.len() / 2;
+    let n = dst.len() >> 1;
     let mut i = 0;
     while i < n {
         put_word(dst, i, src[i]);
