@@ -4,6 +4,7 @@
 #   make test           the gate: all proofs from nothing, the edits that must be refused, the tests outside Rattle
 #   make lib            the archive and its header, in build/
 #   make bench          times the six calls against boards in Rust and in C, and the sheet programs against those in Rust
+#   make instructions   counts the instructions of the hall's calls at the largest hall; needs valgrind
 #   make proved         lists the theorems
 #   make edits          tries the wrong programs and rules in edits/: each must be refused where it says
 #   make gallery        draws the example sheets again, in docs/gallery/
@@ -13,7 +14,7 @@
 #   make fuzz           fuzzes the calls, then the sheet programs, each for half of MINUTES; installs clang if missing
 #   make fuzz-selftest  shows that the fuzzing catches wrong boards, stray accesses and wrong programs (minutes)
 PROGRAMS = $(addprefix target/bin/,day_sheet shorten_sheet day_sheet_2 to_edition_2 to_edition_1 training_sheet)
-.PHONY: run host test lib bench proved edits gallery selftest soak fuzz fuzz-selftest help $(PROGRAMS)
+.PHONY: run host test lib bench instructions proved edits gallery selftest soak fuzz fuzz-selftest help $(PROGRAMS)
 
 CARGO = cargo run --quiet --offline --release --manifest-path
 export CARGO_TARGET_DIR = $(CURDIR)/target/outside
@@ -59,6 +60,9 @@ bench: lib $(PROGRAMS)
 	@cargo build --quiet --offline --release --manifest-path tests/reference/Cargo.toml
 	@echo
 	@$(CARGO) bench/sheets/Cargo.toml -- target/bin target/outside/release
+
+instructions: lib
+	@$(CARGO) bench/Cargo.toml -- instructions
 
 proved:
 	@tools/proved

@@ -1,13 +1,16 @@
 //! Times the six calls of the archive, of the board in Rust and of the one in
 //! C: the same questions, over the same bytes, in the same run. Prints
-//! nanoseconds per call.
+//! nanoseconds per call; with the argument `instructions`, the instructions
+//! of the archive's calls.
 
 mod boards;
 mod halls;
+mod instructions;
 mod timing;
 
 use boards::BOARDS;
 use halls::{tasks, Task, HALLS};
+use instructions::{make_one_call, print_instructions, ONE_CALL};
 use reference::{Hall, Limits};
 use std::array::from_fn;
 use std::env;
@@ -21,13 +24,20 @@ const NAMES: [&str; 3] = ["ours", "Rust", "C"];
 const PROCESSES: usize = 5;
 /// The argument that makes a process one of these.
 const TIMES_ONLY: &str = "times-only";
+/// The argument that asks for instructions.
+const INSTRUCTIONS: &str = "instructions";
 
 fn main() {
-    if env::args().any(|argument| argument == TIMES_ONLY) {
-        print_times();
-    } else {
-        print_calls();
-        print_places(&mut Clock::new());
+    let largest = || halls().last().expect("some halls");
+    match env::args().nth(1).as_deref() {
+        None => {
+            print_calls();
+            print_places(&mut Clock::new());
+        }
+        Some(TIMES_ONLY) => print_times(),
+        Some(INSTRUCTIONS) => print_instructions(&largest()),
+        Some(ONE_CALL) => make_one_call(&largest()),
+        Some(other) => panic!("unknown argument '{other}'"),
     }
 }
 
