@@ -4,10 +4,13 @@
 usage: tests/divisions/source.py FUNCTION ...
 
 A FUNCTION is named with its crate, as marks::mark_position; CRATE::* means every function that a crate exports to C. The
-sources are crates/ and the toolchain's library std. Comments, contracts and constants may divide: they are not run. Calls are
-followed by name; where a name may mean several functions, all are read, and a function that is not found is an error. The
-last line is 'divisions in the source: N functions, M divide', and the exit status is 0 only if M is 0.
+sources are crates/ and the toolchain's library std. Comments, contracts and imports may divide: they are not run. A call is
+followed to every function of its name in the crate and those below it (crates.txt), so more may be read than is called; a
+function that is not found is an error. The last line is 'divisions in the source: N functions, M divide', and the exit status
+is 0 only if M is 0.
 """
+import collections
+import functools
 import pathlib
 import re
 import subprocess
@@ -15,19 +18,29 @@ import sys
 
 ROOT = pathlib.Path(__file__).resolve().parent.parent.parent
 
-# What is not code: comments, and bytes as literals.
-IGNORED = re.compile(r"""//[^\n]*|b'(?:\\.|[^'\\])+'|b"(?:\\.|[^"\\])*\"""")
-USE = re.compile(r'^use (\w+)::(?:\w+::)*(\w+);', re.M)
-IMPL = re.compile(r'^impl (\w+) (?=\{)', re.M)
-FUNCTION = re.compile(r'^ *(?:pub )?(extern "C" )?fn (\w+)(?:<[^>]*>)?(?=\()', re.M)
-RESULT = re.compile(r'\s*(?:->[^{]*?)?\s*(?=\brequires\b|\bensures\b|\{)')
-CLAUSE = re.compile(r'\s*\b(?:requires|ensures)\b[^{]*')
-CALL = re.compile(r'(\.)?\b([A-Za-z_]\w*(?:::\w+)*)\s*\(')
+COMMENT_OR_LITERAL = re.compile(r"""//[^\n]*|(?<!\w)b'(?:\\x..|\\.|[^'\\\n])'|(?<!\w)b"(?:\\.|[^"\\])*\"""")
+IMPORT = re.compile(r'^\s*(?:pub |ghost )*use\b[^;]*;', re.M)
+CLAUSE = re.compile(r'\b(?:ghost|requires|ensures)(?:\s+\w+)?\s*(?=\{)')
+FUNCTION = re.compile(r'\b(extern\s+"C"\s+)?fn\s+(\w+)')
+CALL = re.compile(r'(\.?)\b(?:(\w+)::)?(\w+)\s*\(')
 KEYWORDS = {'if', 'while', 'match', 'return', 'in', 'else', 'let'}
 NUMBERS = {'u8', 'u16', 'u32', 'u64', 'usize', 'i8', 'i16', 'i32', 'i64', 'isize'}
+BITS = {'count_ones', 'leading_zeros', 'trailing_zeros'}
+
+# A function: its crate, its name, its text from the name to the next function, and whether it is exported to C.
+Function = collections.namedtuple('Function', 'crate name text exported')
 
 
-def past(text, start):
+def without_clauses(text):
+    """A source without its contracts."""
+    kept, index = [], 0
+    while clause := CLAUSE.search(text, index):
+        kept.append(text[index:clause.start()])
+        index = after_closing(text, clause.end())
+    return ''.join(kept) + text[index:]
+
+
+def after_closing(text, start):
     """The index after the bracket that closes the one at `start`."""
     depth = 0
     for index in range(start, len(text)):
@@ -37,78 +50,73 @@ def past(text, start):
     sys.exit(f'divisions: a bracket is not closed: {text[start:start + 60]!r}')
 
 
-class Crate:
-    """The functions of a crate, by name, with their bodies; those of an impl are named Type::function. Functions of one name, in
-    different modules, count as one."""
+def functions_of(crate, text):
+    text = without_clauses(IMPORT.sub('', COMMENT_OR_LITERAL.sub(' ', text)))
+    heads = list(FUNCTION.finditer(text))
+    for head, end in zip(heads, [following.start() for following in heads[1:]] + [len(text)]):
+        body = text[head.end():end]
+        if '{' not in body:
+            sys.exit(f'divisions: {crate}::{head[2]} has no body')
+        yield Function(crate, head[2], body, bool(head[1]))
 
-    def __init__(self, files):
-        self.bodies, self.exported, self.uses = {}, [], {}
-        for file in files:
-            self.add(IGNORED.sub(' ', file.read_text()))
 
-    def add(self, text):
-        self.uses.update((item, crate) for crate, item in USE.findall(text))
-        impls = [(found[1], found.end(), past(text, found.end())) for found in IMPL.finditer(text)]
-        for found in FUNCTION.finditer(text):
-            owner = next((f'{name}::' for name, first, end in impls if first < found.start() < end), '')
-            self.bodies[owner + found[2]] = self.bodies.get(owner + found[2], '') + self.body(text, found.end())
-            if found[1]:
-                self.exported.append(found[2])
-
-    def body(self, text, index):
-        """The body of the function whose parameters start at this index: what follows its result and its contract."""
-        index = RESULT.match(text, past(text, index)).end()
-        while clause := CLAUSE.match(text, index):
-            index = past(text, clause.end())
-        start = text.index('{', index)
-        return text[start:past(text, start)]
+def dependencies_of(lines):
+    """Each crate of crates.txt with the crates that it depends on."""
+    pairs = [line.split('#')[0].split(':') for line in lines if ':' in line.split('#')[0]]
+    return {crate.strip(): names.split() for crate, names in pairs}
 
 
 class Sources:
-    """The crates in a folder, and std."""
+    """The functions of a repository's crates, and of std."""
 
-    def __init__(self, crates, std):
-        self.crates = {folder.parent.name: Crate(sorted(folder.rglob('*.rt'))) for folder in [*crates.glob('*/src'), std / 'src']}
+    def __init__(self, root, std):
+        self.functions = [function for folder in [*sorted(root.glob('crates/*/src')), std / 'src']
+                          for file in sorted(folder.rglob('*.rt')) for function in functions_of(folder.parent.name, file.read_text())]
+        self.dependencies = dependencies_of((root / 'crates.txt').read_text().splitlines())
 
-    def called(self, crate, dot, path):
-        """The functions that a call in this crate may mean, as (crate, function); None if there is no such function."""
-        parts = path.split('::')
-        if dot:
-            methods = [(home, name) for home in self.crates for name in self.crates[home].bodies if name.endswith(f'::{path}')]
-            return methods or ([] if path == 'len' else None)
-        if parts[0] in NUMBERS or parts[-1][0].isupper():
-            return []       # the language's own (u64::count_ones), or a constructor
-        home = parts[0] if parts[0] in self.crates and len(parts) > 1 else self.crates[crate].uses.get(parts[0], crate)
-        bodies = self.crates[home].bodies if home in self.crates else {}
-        return next(([(home, name)] for name in ('::'.join(parts[-2:]), parts[-1]) if name in bodies), None)
+    @functools.cache
+    def below(self, crate):
+        """A crate and all crates below it; std is below every crate."""
+        return {crate, 'std'}.union(*map(self.below, self.dependencies.get(crate, [])))
 
-    def calls(self, crate, function):
-        for dot, path in CALL.findall(self.crates[crate].bodies[function]):
-            found = [] if path in KEYWORDS else self.called(crate, dot, path)
-            if found is None:
-                sys.exit(f'divisions: {crate}::{function} calls {path}, which is not found')
+    @functools.cache
+    def visible(self, crate):
+        """The functions that a crate may call, by name."""
+        found = collections.defaultdict(list)
+        for function in self.functions:
+            if function.crate in self.below(crate):
+                found[function.name].append(function)
+        return found
+
+    def named(self, word):
+        """The functions that a word of the command line names."""
+        crate, _, name = word.partition('::')
+        found = [function for function in self.functions if function.crate == crate
+                 and (function.exported if name == '*' else function.name == name)]
+        if not found:
+            sys.exit(f'divisions: no function {word}')
+        return found
+
+    def calls(self, function):
+        """Every function that this one may call."""
+        for dot, owner, name in CALL.findall(function.text):
+            found = self.visible(function.crate).get(name, [])
+            built_in = name in KEYWORDS or name[0].isupper() or dot and name == 'len' or owner in NUMBERS and name in BITS
+            if not found and not built_in:
+                sys.exit(f'divisions: {function.crate}::{function.name} calls {name}, which is not found')
             yield from found
 
     def reached(self, roots):
-        """Every function that these reach, with the chain of calls by which it was found."""
+        """Every function that these may reach, with the chain of calls by which it was found."""
         chains = {root: [root] for root in roots}
         waiting = list(roots)
         while waiting:
-            at = waiting.pop(0)
-            for callee in self.calls(*at):
+            caller = waiting.pop(0)
+            for callee in self.calls(caller):
                 if callee not in chains:
-                    chains[callee] = [*chains[at], callee]
+                    chains[callee] = [*chains[caller], callee]
                     waiting.append(callee)
         return chains
-
-    def named(self, words):
-        for word in words:
-            crate, _, function = word.partition('::')
-            found = self.crates.get(crate)
-            names = [] if not found else found.exported if function == '*' else [function] if function in found.bodies else []
-            if not names:
-                sys.exit(f'divisions: no function {word}')
-            yield from ((crate, name) for name in names)
 
 
 def std():
@@ -119,20 +127,21 @@ def std():
 
 def check(sources, words):
     """Prints each division and the count; whether there is none."""
-    chains, dividing = sources.reached(list(sources.named(words))), 0
-    for (crate, function), chain in chains.items():
-        lines = [line.strip() for line in sources.crates[crate].bodies[function].splitlines() if re.search('[/%]', line)]
-        dividing += bool(lines)
-        for line in lines:
-            print(f"{' calls '.join('::'.join(step) for step in chain)}, which divides: {line}")
-    print(f'divisions in the source: {len(chains)} functions, {dividing} divide')
-    return dividing == 0
+    chains = sources.reached([function for word in words for function in sources.named(word)])
+    dividing = [function for function in chains if re.search('[/%]', function.text)]
+    for function in dividing:
+        chain = ' calls '.join(f'{step.crate}::{step.name}' for step in chains[function])
+        for line in function.text.splitlines():
+            if re.search('[/%]', line):
+                print(f'{chain}, which divides: {line.strip()}')
+    print(f'divisions in the source: {len(chains)} functions, {len(dividing)} divide')
+    return not dividing
 
 
 def main():
     if len(sys.argv) < 2:
         sys.exit(__doc__)
-    sys.exit(0 if check(Sources(ROOT / 'crates', std()), sys.argv[1:]) else 1)
+    sys.exit(0 if check(Sources(ROOT, std()), sys.argv[1:]) else 1)
 
 
 if __name__ == '__main__':

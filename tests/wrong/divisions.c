@@ -75,6 +75,14 @@ uint32_t by_an_address(uint32_t a, uint32_t b)
     return functions[a & 1](a, b);
 }
 
+/* A prefix that changes nothing stands before the instruction. */
+uint32_t with_a_prefix(uint32_t a, uint32_t b)
+{
+    uint32_t quotient = a, remainder = 0;
+    __asm__("ds; divl %2" : "+a"(quotient), "+d"(remainder) : "r"(b));
+    return quotient;
+}
+
 /* 128 bits: the compiler calls its own library. */
 unsigned __int128 by_a_library(unsigned __int128 a, unsigned __int128 b)
 {
