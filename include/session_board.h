@@ -71,9 +71,10 @@
  * one word is enough).
  *
  * The board keeps nothing between calls: the table is the whole state of the
- * hall. It uses no memory but the table and less than 1 KB of stack, no divide
- * instruction, and only memcpy, memmove and memset of the C library. Make one
- * call at a time on a table. Link with libsession_board.a, which is for x86-64.
+ * hall. It uses no memory but the table and less than 1 KB of stack. Its code has
+ * no divide instruction, and calls only memcpy, memmove and memset of the C
+ * library. Make one call at a time on a table. Link with libsession_board.a,
+ * which is for x86-64.
  */
 #ifndef SESSION_BOARD_H
 #define SESSION_BOARD_H
