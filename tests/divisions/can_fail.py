@@ -45,6 +45,7 @@ SMALL = [
     ('a % 16', '', DIVIDES),
     ('let mut b = a; b /= 16; b', '', DIVIDES),
     ('half(a)', 'fn half(a: usize) -> usize { a / 2 }', DIVIDES),
+    ('(half)(a)', 'fn half(a: usize) -> usize { a / 2 }', DIVIDES),
     ('half(a)', "fn half(a: usize) -> usize\n    ghost { n : ℕ }\n    ensures { ⌜ tab' ≡ n ⌝ }\n{ a / 2 }", DIVIDES),
     ('first(a)', 'fn first(a: usize) -> usize { second(a) }\nfn second(a: usize) -> usize { a % 3 }', DIVIDES),
     ('other::third(a)', '', DIVIDES),
@@ -53,6 +54,7 @@ SMALL = [
     ('size.half()', f"impl<'a> Size<'a> {{{HALF}}}\nimpl Other {{\n    fn half(self) {{ }}\n}}", DIVIDES),
     ('absent(a)', '', 'small::all calls absent, which is not found'),
     ('usize::div_ceil(a, 2)', '', 'small::all calls div_ceil, which is not found'),
+    ('(part)(a)', 'use other::third as part;', 'small renames what it imports'),
     ('quotient(a)', 'extern "C" { fn quotient(a: usize) -> usize; }', 'small::quotient has no body'),
 ]
 SMALL_CRATE = '''

@@ -4,10 +4,10 @@
 usage: tests/divisions/source.py FUNCTION ...
 
 A FUNCTION is named with its crate, as marks::mark_position; CRATE::* means every function that a crate exports to C. The
-sources are crates/ and the toolchain's library std. Comments, contracts and imports may divide: they are not run. A call is
-followed to every function of its name in the crate and those below it (crates.txt), so more may be read than is called; a
-function that is not found is an error. The last line is 'divisions in the source: N functions, M divide', and the exit status
-is 0 only if M is 0.
+sources are crates/ and the toolchain's library std. Comments, contracts and imports may divide: they are not run. A function
+counts as called where its name is a word of the text, in the same crate or one above it (crates.txt), so more may be read
+than is called; a call of a function that is not found is an error. The last line is 'divisions in the source: N functions, M
+divide', and the exit status is 0 only if M is 0.
 """
 import collections
 import functools
@@ -20,6 +20,7 @@ ROOT = pathlib.Path(__file__).resolve().parent.parent.parent
 
 COMMENT_OR_LITERAL = re.compile(r"""//[^\n]*|(?<!\w)b'(?:\\x..|\\.|[^'\\\n])'|(?<!\w)b"(?:\\.|[^"\\])*\"""")
 IMPORT = re.compile(r'^\s*(?:pub |ghost )*use\b[^;]*;', re.M)
+RENAMED = re.compile(r'^\s*(?:pub )?use\b[^;]*\sas\s', re.M)
 CLAUSE = re.compile(r'\b(?:ghost|requires|ensures)(?:\s+\w+)?\s*(?=\{)')
 FUNCTION = re.compile(r'\b(extern\s+"C"\s+)?fn\s+(\w+)')
 CALL = re.compile(r'(\.?)\b(?:(\w+)::)?(\w+)\s*\(')
@@ -51,7 +52,10 @@ def after_closing(text, start):
 
 
 def functions_of(crate, text):
-    text = without_clauses(IMPORT.sub('', COMMENT_OR_LITERAL.sub(' ', text)))
+    text = COMMENT_OR_LITERAL.sub(' ', text)
+    if RENAMED.search(text):
+        sys.exit(f'divisions: {crate} renames what it imports')
+    text = without_clauses(IMPORT.sub('', text))
     heads = list(FUNCTION.finditer(text))
     for head, end in zip(heads, [following.start() for following in heads[1:]] + [len(text)]):
         body = text[head.end():end]
@@ -70,8 +74,10 @@ class Sources:
     """The functions of a repository's crates, and of std."""
 
     def __init__(self, root, std):
-        self.functions = [function for folder in [*sorted(root.glob('crates/*/src')), std / 'src']
-                          for file in sorted(folder.rglob('*.rt')) for function in functions_of(folder.parent.name, file.read_text())]
+        self.functions = []
+        for folder in [*sorted(root.glob('crates/*/src')), std / 'src']:
+            for file in sorted(folder.rglob('*.rt')):
+                self.functions += functions_of(folder.parent.name, file.read_text())
         self.dependencies = dependencies_of((root / 'crates.txt').read_text().splitlines())
 
     @functools.cache
@@ -88,7 +94,7 @@ class Sources:
                 found[function.name].append(function)
         return found
 
-    def named(self, word):
+    def roots(self, word):
         """The functions that a word of the command line names."""
         crate, _, name = word.partition('::')
         found = [function for function in self.functions if function.crate == crate
@@ -97,14 +103,15 @@ class Sources:
             sys.exit(f'divisions: no function {word}')
         return found
 
-    def calls(self, function):
-        """Every function that this one may call."""
+    def named_in(self, function):
+        """Every function that this one may call: those whose name is a word of its text."""
+        visible = self.visible(function.crate)
         for dot, owner, name in CALL.findall(function.text):
-            found = self.visible(function.crate).get(name, [])
             built_in = name in KEYWORDS or name[0].isupper() or dot and name == 'len' or owner in NUMBERS and name in BITS
-            if not found and not built_in:
+            if name not in visible and not built_in:
                 sys.exit(f'divisions: {function.crate}::{function.name} calls {name}, which is not found')
-            yield from found
+        for word in re.findall(r'\w+', function.text):
+            yield from visible.get(word, [])
 
     def reached(self, roots):
         """Every function that these may reach, with the chain of calls by which it was found."""
@@ -112,7 +119,7 @@ class Sources:
         waiting = list(roots)
         while waiting:
             caller = waiting.pop(0)
-            for callee in self.calls(caller):
+            for callee in self.named_in(caller):
                 if callee not in chains:
                     chains[callee] = [*chains[caller], callee]
                     waiting.append(callee)
@@ -127,7 +134,7 @@ def std():
 
 def check(sources, words):
     """Prints each division and the count; whether there is none."""
-    chains = sources.reached([function for word in words for function in sources.named(word)])
+    chains = sources.reached([function for word in words for function in sources.roots(word)])
     dividing = [function for function in chains if re.search('[/%]', function.text)]
     for function in dividing:
         chain = ' calls '.join(f'{step.crate}::{step.name}' for step in chains[function])
