@@ -69,7 +69,7 @@ step "building host_test" 0 link host_test "$root/tests/host/host_test.c" "$root
 step "host_test" 1 "$CARGO_TARGET_DIR/host_test"
 step "divisions in the source" 1 "$root/tests/divisions/source.py" marks::mark_position 'host::*'
 step "divisions in the archive" 1 "$root/tests/divisions/archive.py" "$SESSION_BOARD_LIB/libsession_board.a"
-step "the tests of divisions" 1 "$root/tests/divisions/can_fail.py" "$SESSION_BOARD_LIB/libsession_board.a"
+step "the tests of divisions" 1 "$root/tests/divisions/selftest.py" "$SESSION_BOARD_LIB/libsession_board.a"
 step "building sheets" 0 build sheets
 step "building the sheet programs in Rust" 0 build reference
 step "the tests of sheet_vectors" 0 tests_of sheets

@@ -1,7 +1,7 @@
 #!/usr/bin/env python3
 """Checks that calls of an archive do not divide: no divide instruction is in the machine code that they reach.
 
-usage: tests/divisions/archive.py ARCHIVE [CALL ...]        by default every function that the archive exports
+usage: tests/divisions/archive.py ARCHIVE [CALL ...]        by default all that the archive exports
 
 What a call can reach is found section by section: the compiler gives each function a section of its own, and wherever one
 refers to another, by a call, a jump, a table of jumps or an address, there is a relocation. A function outside the archive is
@@ -14,17 +14,16 @@ import subprocess
 import sys
 
 # Of integers (div, idiv), of floating point numbers (divsd, vdivps, fdivr ..), and x87's remainders.
-DIVIDE = re.compile(r'\b(?:i?div|v?div[ps][sdh]|fi?divr?p?|fprem1?)[bwlqst]?\b')
+DIVIDE = re.compile(r'\b(?:i?div|v?div[ps][sdh]|fi?divr?p?|fprem1?)[bwlqs]?\b')
 MOVES_BYTES = {'memcpy', 'memmove', 'memset'}
 
-# The lines of objdump. A name in <> is a symbol, and what follows # a comment: no part of an instruction.
+# The lines of objdump.
 MEMBER = re.compile(r'^(\S+):\s+file format ')
 SYMBOL = re.compile(r'^[0-9a-f]{16} (.{7}) (\S+)\t[0-9a-f]{16} (?:\.hidden )?(\S+)$')
 RELOCATIONS_OF = re.compile(r'^RELOCATION RECORDS FOR \[(.+)\]:$')
 RELOCATION = re.compile(r'^[0-9a-f]{16} R_\S+\s+(.+?)(?:[+-]0x[0-9a-f]+)?$')
 CODE_OF = re.compile(r'^Disassembly of section (.+):$')
 INSTRUCTION = re.compile(r'^ *[0-9a-f]+:\t(.*)$')
-NAME_OR_COMMENT = re.compile(r'<[^>]*>|#.*')
 
 
 class Archive:
@@ -52,15 +51,14 @@ class Archive:
     def add_symbol(self, member, flags, section, symbol):
         if section == '*UND*':
             return
-        self.symbols[member, symbol] = self.symbols[member, section] = (member, section)
+        self.symbols[member, symbol] = (member, section)
         if flags[0] in 'gu' or flags[1] == 'w':
             self.symbols[symbol] = (member, section)
-            if flags[6] == 'F':
-                self.exported.append(symbol)
+            self.exported.append(symbol)
 
     def add_instruction(self, section, text):
         self.code.add(section)
-        if DIVIDE.search(NAME_OR_COMMENT.sub('', text)):
+        if DIVIDE.search(text):
             self.divides[section].append(text)
 
     def reached(self, call):

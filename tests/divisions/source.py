@@ -4,7 +4,7 @@
 usage: tests/divisions/source.py FUNCTION ...
 
 A FUNCTION is named with its crate, as marks::mark_position; CRATE::* means every function that a crate exports to C. The
-sources are crates/ and the toolchain's library std. Comments, contracts and imports may divide: they are not run. A function
+sources are crates/ and the toolchain's library std. Comments and contracts may divide: they are not run. A function
 counts as called where its name is a word of the text, in the same crate or one above it (crates.txt), so more may be read
 than is called; a call of a function that is not found is an error. The last line is 'divisions in the source: N functions, M
 divide', and the exit status is 0 only if M is 0.
@@ -19,12 +19,11 @@ import sys
 ROOT = pathlib.Path(__file__).resolve().parent.parent.parent
 
 COMMENT_OR_LITERAL = re.compile(r"""//[^\n]*|(?<!\w)b'(?:\\x..|\\.|[^'\\\n])'|(?<!\w)b"(?:\\.|[^"\\])*\"""")
-IMPORT = re.compile(r'^\s*(?:pub |ghost )*use\b[^;]*;', re.M)
 RENAMED = re.compile(r'^\s*(?:pub )?use\b[^;]*\sas\s', re.M)
-CLAUSE = re.compile(r'\b(?:ghost|requires|ensures)(?:\s+\w+)?\s*(?=\{)')
+CLAUSE = re.compile(r'\b(?:requires|ensures)(?:\s+\w+)?\s*(?=\{)')
 FUNCTION = re.compile(r'\b(extern\s+"C"\s+)?fn\s+(\w+)')
 CALL = re.compile(r'(\.?)\b(?:(\w+)::)?(\w+)\s*\(')
-KEYWORDS = {'if', 'while', 'match', 'return', 'in', 'else', 'let'}
+KEYWORDS = {'if', 'while', 'match', 'return', 'in'}
 NUMBERS = {'u8', 'u16', 'u32', 'u64', 'usize', 'i8', 'i16', 'i32', 'i64', 'isize'}
 BITS = {'count_ones', 'leading_zeros', 'trailing_zeros'}
 
@@ -55,7 +54,7 @@ def functions_of(crate, text):
     text = COMMENT_OR_LITERAL.sub(' ', text)
     if RENAMED.search(text):
         sys.exit(f'divisions: {crate} renames what it imports')
-    text = without_clauses(IMPORT.sub('', text))
+    text = without_clauses(text)
     heads = list(FUNCTION.finditer(text))
     for head, end in zip(heads, [following.start() for following in heads[1:]] + [len(text)]):
         body = text[head.end():end]

@@ -75,12 +75,23 @@ uint32_t by_an_address(uint32_t a, uint32_t b)
     return functions[a & 1](a, b);
 }
 
-/* A prefix that changes nothing stands before the instruction. */
+__attribute__((target("avx"))) double of_vectors(double a, double b)
+{
+    return a / b;
+}
+
+long double remainder_of_long_floats(long double a, long double b)
+{
+    __asm__("fprem" : "+t"(a) : "u"(b));
+    return a;
+}
+
+/* By a number in memory, and with a prefix that changes nothing. */
 uint32_t with_a_prefix(uint32_t a, uint32_t b)
 {
-    uint32_t quotient = a, remainder = 0;
-    __asm__("ds; divl %2" : "+a"(quotient), "+d"(remainder) : "r"(b));
-    return quotient;
+    uint32_t high = 0;
+    __asm__("ds; divl %2" : "+a"(a), "+d"(high) : "m"(b));
+    return a;
 }
 
 /* 128 bits: the compiler calls its own library. */

@@ -1,7 +1,7 @@
 #!/usr/bin/env python3
 """Shows that the two checks of divisions can fail, and that they pass what does not divide.
 
-usage: tests/divisions/can_fail.py ARCHIVE        the last line is 'divisions: N wrong ones, all caught'
+usage: tests/divisions/selftest.py ARCHIVE        the last line is 'divisions: N wrong ones, all caught'
 
 source.py reads this repository's sources with one line changed, and small sources of its own; archive.py reads the archive
 with a divide instruction in one of its functions, and the calls of tests/wrong/divisions.c.
@@ -41,14 +41,17 @@ SMALL = [
     ('a', 'pub fn not_called(a: usize) -> usize { a / 2 }', PASSES),
     ('a', 'fn not_called(a: usize) -> [u8; 2]\n    ghost { n : ℕ }\n    ensures { ⌜ n / 2 ⌝ }\n{ [0; 2] }', PASSES),
     ('u64::count_ones(std::num::wrapping_add_u64(a, 1))', '', PASSES),
+    ('if (a) < 1 { return (a); } while (a) < 2 { match (a) { } } for b in (a)..3 { } Size(a)', '', PASSES),
     ('a / 16', '', DIVIDES),
     ('a % 16', '', DIVIDES),
     ('let mut b = a; b /= 16; b', '', DIVIDES),
     ('half(a)', 'fn half(a: usize) -> usize { a / 2 }', DIVIDES),
     ('(half)(a)', 'fn half(a: usize) -> usize { a / 2 }', DIVIDES),
-    ('half(a)', "fn half(a: usize) -> usize\n    ghost { n : ℕ }\n    ensures { ⌜ tab' ≡ n ⌝ }\n{ a / 2 }", DIVIDES),
+    ('half(a)', 'fn half(a: usize) -> usize\n    ghost { n : ℕ }\n    ensures { ⌜ n / 2 ⌝ }\n{ a / 2 }', DIVIDES),
+    ('half(a)', "fn half(a: usize)\n    ensures { ⌜ b' ⌝ }\n{ a / 2 }\nfn last()\n    ensures { ⌜ b' ⌝ }\n{ }", DIVIDES),
     ('first(a)', 'fn first(a: usize) -> usize { second(a) }\nfn second(a: usize) -> usize { a % 3 }', DIVIDES),
     ('other::third(a)', '', DIVIDES),
+    ('depth.quarter()', '', DIVIDES),
     ('Size::half(a)', f'impl Size {{{HALF}}}', DIVIDES),
     ('Self::half(a)', f'impl Size {{{HALF}}}\nfn half() {{ }}', DIVIDES),
     ('size.half()', f"impl<'a> Size<'a> {{{HALF}}}\nimpl Other {{\n    fn half(self) {{ }}\n}}", DIVIDES),
@@ -56,6 +59,12 @@ SMALL = [
     ('usize::div_ceil(a, 2)', '', 'small::all calls div_ceil, which is not found'),
     ('(part)(a)', 'use other::third as part;', 'small renames what it imports'),
     ('quotient(a)', 'extern "C" { fn quotient(a: usize) -> usize; }', 'small::quotient has no body'),
+]
+# The same, of all that the crate exports.
+EXPORTING = [
+    ('a', '#[no_mangle]\npub extern "C" fn call(a: usize) -> usize { a }\n\nfn not_called(a: usize) -> usize { a / 2 }', PASSES),
+    ('a', '#[no_mangle] pub extern "C" fn call(a: usize) -> usize { a / 2 }', DIVIDES),
+    ('a / 2', '', 'no function small::*'),
 ]
 SMALL_CRATE = '''
 use other::twice;
@@ -71,13 +80,19 @@ pub fn all(a: usize) -> usize
 
 {}
 '''
-OTHER_CRATE = 'pub fn twice(a: usize) -> usize { 2 * a }\n\npub fn third(a: usize) -> usize { a / 3 }\n'
+# The crates around it: small uses other, which uses deep; no crate uses beside.
+SMALL_CRATES = 'small: other\nother: deep\ndeep:\nbeside:\n'
+AROUND = {
+    'other': 'pub fn twice(a: usize) -> usize { 2 * a }\n\npub fn third(a: usize) -> usize { a / 3 }\n',
+    'deep': 'impl Depth {\n    pub fn quarter(self) -> usize { self.0 / 4 }\n}\n',
+    'beside': 'pub fn twice(a: usize) -> usize { a / 2 }\n',
+}
 
 # The calls of tests/wrong/divisions.c, and what the check must say of each.
 CALLS = {
     **dict.fromkeys(['by_16', 'moves_bytes'], PASSES),
     **dict.fromkeys(['by_a_variable', 'remainder_of_words', 'of_signed_numbers', 'of_floats', 'of_long_floats', 'in_a_callee',
-                     'by_a_jump', 'by_an_address', 'with_a_prefix'], ' reaches a divide instruction in '),
+                     'by_a_jump', 'by_an_address', 'with_a_prefix', 'of_vectors', 'remainder_of_long_floats'], ' reaches a divide instruction in '),
     'by_a_library': 'by_a_library calls __udivti3, which is not in the archive',
     'absent': 'the archive has no absent',
 }
@@ -85,17 +100,24 @@ CALLS = {
 DIV = b'\xf7\xf1'       # div %ecx
 
 
-def output_of(check, *arguments):
+def output_of(check):
     """What a check prints, or the error with which it ends."""
     printed = io.StringIO()
     with contextlib.redirect_stdout(printed):
         try:
-            passes = check(*arguments)
+            passes = check()
         except SystemExit as error:
             return str(error)
-    divides = ', 0 divide' not in printed.getvalue()
-    expect(passes != divides, 'the verdict is not what is printed', printed.getvalue())
+    expect(passes == (PASSES in printed.getvalue()), 'the verdict is not what is printed', printed.getvalue())
     return printed.getvalue()
+
+
+def of_source(folder, std, function):
+    return output_of(lambda: source.check(source.Sources(folder, std), [function]))
+
+
+def of_archive(library, *calls):
+    return output_of(lambda: archive.check(library, calls))
 
 
 def expect(good, what, printed=''):
@@ -113,24 +135,22 @@ def changed_sources(folder, std):
         expect(text.count(old) == 1, f'{old!r} does not stand once in {crate}')
         file.write_text(text.replace(old, new))
         for start in function, 'host::*':
-            printed = output_of(source.check, source.Sources(folder, std), [start])
+            printed = of_source(folder, std, start)
             expect(f'{function}, {DIVIDES}' in printed, f'{new!r} is not found from {start}', printed)
         file.write_text(text)
     return len(CHANGED)
 
 
 def small_sources(folder, std):
-    (folder / 'crates.txt').write_text('small: other\nother:\n')
-    for body, more, expected in SMALL:
-        for crate, text in ('small', SMALL_CRATE.format(body, more)), ('other', OTHER_CRATE):
+    (folder / 'crates.txt').write_text(SMALL_CRATES)
+    rows = [('small::all', *row) for row in SMALL] + [('small::*', *row) for row in EXPORTING]
+    for start, body, more, expected in rows:
+        for crate, text in {**AROUND, 'small': SMALL_CRATE.format(body, more)}.items():
             (folder / 'crates' / crate / 'src').mkdir(parents=True, exist_ok=True)
             (folder / 'crates' / crate / 'src' / 'lib.rt').write_text(text)
-        try:
-            printed = output_of(source.check, source.Sources(folder, std), ['small::all'])
-        except SystemExit as error:
-            printed = str(error)
+        printed = of_source(folder, std, start)
         expect(expected in printed, f'wrong about {body!r} with {more!r}', printed)
-    return sum(expected != PASSES for *_, expected in SMALL)
+    return sum(expected != PASSES for *_, expected in rows)
 
 
 def library_of(file):
@@ -150,20 +170,26 @@ def changed_functions(folder, file):
         subprocess.run(['objcopy', '--dump-section', f'{section}={code}', changed], check=True)
         code.write_bytes(DIV + code.read_bytes()[len(DIV):])
         subprocess.run(['objcopy', '--update-section', f'{section}={code}', changed], check=True)
-        printed = output_of(archive.check, library_of(changed))
+        printed = of_archive(library_of(changed))
         expect(f' reaches a divide instruction in {section}: ' in printed, f'not caught in {section}', printed)
     return len(functions)
 
 
-def wrong_calls(folder):
-    file = folder / 'divisions.o'
+def compiled(file, source_file):
+    """An archive with a C file."""
     options = ['-O2', '-ffunction-sections', '-fdata-sections']
-    subprocess.run(['gcc', *options, '-c', source.ROOT / 'tests' / 'wrong' / 'divisions.c', '-o', file], check=True)
-    library = library_of(file)
+    subprocess.run(['gcc', *options, '-x', 'c', '-c', source_file, '-o', file], check=True)
+    return library_of(file)
+
+
+def wrong_calls(folder):
+    library = compiled(folder / 'divisions.o', source.ROOT / 'tests' / 'wrong' / 'divisions.c')
     for call, expected in CALLS.items():
-        printed = output_of(archive.check, library, [call])
+        printed = of_archive(library, call)
         expect(expected in printed, f'wrong about {call}', printed)
-    return sum(expected != PASSES for expected in CALLS.values())
+    printed = of_archive(compiled(folder / 'empty.o', '/dev/null'))
+    expect('the archive exports nothing' in printed, 'wrong about an empty archive', printed)
+    return sum(expected != PASSES for expected in CALLS.values()) + 1
 
 
 def main():
