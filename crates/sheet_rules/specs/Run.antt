@@ -1,12 +1,11 @@
 -- What the records of a sheet do to a table: the call that each record requests, and its result. Document 01, "The day sheet".
 use Prim.Native.Nat.{ℕ}
-use mathlib.Core.Bool.{cond}
 use mathlib.Core.List.{List, [], _∷_}
 use mathlib.Core.Option.{Option, none, some}
-use lib.Dec.{eqb}
 use Rattle.rules.specs.Hall.{Limits}
 use Rattle.rules.specs.Messages.{send}
-use Rattle.rules.specs.Steps.{Call, Collect, Drop, Result, Retire, Step, Swap, Take, _sends_, refuse}
+use Rattle.rules.specs.Runs.{answerRequest, requestFor}
+use Rattle.rules.specs.Steps.{Call, Collect, Drop, Result, Retire, Step, Swap, Take}
 use Rattle.sheet_rules.specs.Sheet.{Record, Records, complete, more, stop}
 
 -- "step code (take 1, drop 2, swap 3, retire 4, collect 5)"
@@ -19,22 +18,12 @@ codeOf Collect = 5
 
 -- The call that a record requests, before its message number is filled in. A record with any other code requests none.
 abbrev pub callOf : Record → Option Call
-callOf entry =
-    cond (eqb (entry .code) 1) (some (entry .desk sends Take (entry .screen) (entry .position)))
-    (cond (eqb (entry .code) 2) (some (entry .desk sends Drop (entry .screen)))
-    (cond (eqb (entry .code) 3) (some (entry .desk sends Swap (entry .position) (entry .session)))
-    (cond (eqb (entry .code) 4) (some (entry .desk sends Retire))
-    (cond (eqb (entry .code) 5) (some (entry .desk sends Collect)) none))))
+callOf entry = requestFor (entry .code) 0 (entry .desk) (entry .screen) (entry .position) (entry .session)
 
+-- What a record does to a table. "The sheet program fills in the right number itself" (document 02, Job 6).
 -- "Is the code 1 to 5? 17": the answer if no call is requested. "A "no" gives the number, session 0, and nothing written."
--- "The sheet program fills in the right number itself" (document 02, Job 6).
-abbrev pub runCall : Limits → List ℕ → Option Call → Result (List ℕ)
-runCall limits table none = refuse 17 table
-runCall limits table (some call) = send limits table call
-
--- What a record does to a table.
 abbrev pub runRecord : Limits → List ℕ → Record → Result (List ℕ)
-runRecord limits table entry = runCall limits table (callOf entry)
+runRecord limits table entry = answerRequest (send limits) table (callOf entry)
 
 -- The calls that records request, in order.
 abbrev pub consSome : Option Call → List Call → List Call

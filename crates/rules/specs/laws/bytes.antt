@@ -3,3 +3,4 @@ pub mod Bytes
 pub mod ByteHistories
 pub mod FirstBoard
 pub mod HallUnchanged
+pub mod Runs

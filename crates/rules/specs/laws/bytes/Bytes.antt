@@ -42,7 +42,7 @@ bytes-are-bytes (word ∷ words) zero = omega arith
 bytes-are-bytes (word ∷ words) (suc zero) = omega arith
 bytes-are-bytes (word ∷ words) (suc (suc j)) = bytes-are-bytes words j
 
-words-then : (words rest : List ℕ) → Words16 words → wordsOfBytes (bytesOfWords words ++ rest) ≡ words ++ wordsOfBytes rest
+pub words-then : (words rest : List ℕ) → Words16 words → wordsOfBytes (bytesOfWords words ++ rest) ≡ words ++ wordsOfBytes rest
 words-then [] rest h = refl
 words-then (word ∷ words) rest h =
     let e : word % 256 + 256 * (word / 256 % 256) ≡ word = omega (arith, h 0) in λ i. e i ∷ words-then words rest (λ j. h (suc j)) i
@@ -92,6 +92,20 @@ overwrite-words words bytes h e =
     ∙ ap (λ (r : List ℕ). words ++ r)
     (no-word (drop (2 * length words) bytes) (omega (arith, length-drop (2 * length words) bytes, words-length bytes)))
     ∙ append-nil words
+
+-- to write the words that are there behind others is to write the others alone
+pub overwrite-front : (words bytes : List ℕ) → IsBytes bytes → overwriteWords (words ++ drop (length words) (wordsOfBytes bytes)) bytes ≡ overwriteWords words bytes
+unfolding overwriteWords
+overwrite-front [] bytes h = overwrite-back bytes h
+overwrite-front (word ∷ words) [] h = ap (λ (all : List ℕ). overwriteWords (word ∷ all) []) (append-nil words)
+overwrite-front (word ∷ words) (low ∷ []) h = ap (λ (all : List ℕ). overwriteWords (word ∷ all) (low ∷ [])) (append-nil words)
+overwrite-front (word ∷ words) (low ∷ high ∷ bytes) h =
+    let all : List ℕ = words ++ drop (length words) (wordsOfBytes bytes) in
+    let e : 2 * suc (length all) ≡ suc (suc (2 * length all)) = omega arith in
+    let f : 2 * suc (length words) ≡ suc (suc (2 * length words)) = omega arith in
+    (λ i. (word % 256) ∷ (word / 256 % 256) ∷ (bytesOfWords all ++ drop (e i) (low ∷ high ∷ bytes)))
+    ∙ ap {B = List ℕ} (λ r. (word % 256) ∷ (word / 256 % 256) ∷ r) (overwrite-front words bytes (λ j. h (suc (suc j))))
+    ∙ (λ i. (word % 256) ∷ (word / 256 % 256) ∷ (bytesOfWords words ++ drop (sym f i) (low ∷ high ∷ bytes)))
 
 -- ---- The answer in one number.
 pub unpack-pack : (answer : Answer) → answer .session < 65536 → unpack (pack answer) ≡ answer
@@ -153,7 +167,7 @@ overwrite-word (word ∷ words) (low ∷ high ∷ bytes) (suc (suc j)) h e q =
     ∙ overwrite-word words bytes j (λ k. h (suc (suc k))) (omega arith)
     (subst (λ (k : ℕ). getD (word ∷ words) k 0 ≡ getD (wordsOfBytes (low ∷ high ∷ bytes)) k 0) i q)
 
-same-past : (n : ℕ) (xs ys : List ℕ) → drop n xs ≡ drop n ys → (j : ℕ) → n ≤ j → getD xs j 0 ≡ getD ys j 0
+pub same-past : (n : ℕ) (xs ys : List ℕ) → drop n xs ≡ drop n ys → (j : ℕ) → n ≤ j → getD xs j 0 ≡ getD ys j 0
 same-past n xs ys e j h =
     let k : n + (j - n) ≡ j = omega arith in
     subst (λ (m : ℕ). getD xs m 0 ≡ getD ys m 0) k

@@ -102,7 +102,7 @@ owed-first : (S : ℕ) (D : Desk) → getD (encodeDesk S D) 0 0 ≡ D .owed
 unfolding encodeDesk
 owed-first S D = refl
 
-or-no : (a b : Bool) → a || b ≡ false → (a ≡ false) × (b ≡ false)
+pub or-no : (a b : Bool) → a || b ≡ false → (a ≡ false) × (b ≡ false)
 or-no true b e = let z : _≡_ {A = ℕ} 0 1 = cc in absurd (omega arith)
 or-no false b e = (refl, e)
 
