@@ -1,28 +1,35 @@
--- What a header and what `admit` answers, taken apart: a refusal, or a sound table with the desk's location in it.
+-- What a header, `check` and `admit` answer, taken apart: a refusal, or a sound table with its hall, or with the desk's location in it.
 use Prim.Native.Nat.{ℕ, _+_, _-_, _≤_, _<_}
 use native.Mathlib.Omega.{arith}
 use mathlib.Core.Bool.{Bool, true, false, cond}
 use mathlib.Core.List.{List}
+use mathlib.Core.Option.{Option, none, some}
 use mathlib.Core.Path.{_≡_, refl, sym, ap, subst, _∙_}
 use lib.Dec.{eqb, leb}
 use lib.ListN.{drop, getD, length}
 use lib.Seq.{drop-drop}
 use borrow.Author.Tests.{eqb-true, le-leb, leb-true}
+use Rattle.rules.specs.Bytes.{Words16}
 use Rattle.rules.specs.Hall.{Hall, Limits, allScreens, maxAllScreens}
 use Rattle.rules.specs.Lists.{chunks, every}
-use Rattle.rules.specs.Steps.{Call, inRange}
+use Rattle.rules.specs.Runs.{answerRequest}
+use Rattle.rules.specs.Steps.{Call, Result, inRange}
 use Rattle.rules.specs.Table.{hallIn, headerWords, inLimits, need, nextWord, recordSound, recordStart, recordWidth, sound, startFor, stepTable, widthFor}
 use Rattle.rules.specs.laws.history.StepEffects.{in-range}
+use Rattle.rules.specs.laws.table.DecodeStepEncode.{step-encoded}
+use Rattle.rules.specs.laws.table.Demand1.{step-stays-sound}
 use Rattle.rules.specs.laws.table.TableSteps.{Known, known, number-word, record-within, refused-step, unsound-step}
 use Rattle.reply.specs.Answer.{tableResult}
-use Rattle.board.specs.Admission.{Admits, admissionOf, headerOf, locationOf, numbersIn}
+use Rattle.board.specs.Admission.{Admits, admissionOf, headerOf, locationOf, numbersIn, soundnessOf}
 use Rattle.reply.specs.declared.Reply.the-variants.{NoDesk as NoDeskReply, OtherMessage as OtherMessageReply, Unsound as NotSoundReply}
 use Rattle.board.specs.declared.Hall.{Hall as Numbers}
 use Rattle.board.specs.declared.Header.{Header}
 use Rattle.board.specs.declared.Header.the-variants.{Broken, Of}
 use Rattle.board.specs.declared.Location.{Location}
 use Rattle.board.specs.declared.Admission.{Admission}
-use Rattle.board.specs.declared.Admission.the-variants.{At, NoDesk, OtherMessage, Unsound}
+use Rattle.board.specs.declared.Admission.the-variants.{At, NoDesk, OtherMessage}
+use Rattle.board.specs.declared.Soundness.{Soundness}
+use Rattle.board.specs.declared.Soundness.the-variants.{Sound, Unsound}
 
 -- the end of a record is the start of the next
 pub next-start : (H : Hall) (d : ℕ) → 1 ≤ d → startFor (H .positions) (allScreens H) d ≡ recordStart H d + recordWidth H
@@ -61,6 +68,59 @@ by-records {limits} {t} {h} n =
     let e : headerWords + (H .positions + allScreens H) ≡ headerWords + H .positions + allScreens H = omega arith in
     rw (n .inside, le-leb (need H) (length t) (n .long), drop-drop (allScreens H) (H .positions), drop-drop, e)
     (ap (λ (x : Numbers). every (recordSound (x .all)) (chunks (x .desks) (widthFor (x .all)) (drop (headerWords + x .positions + x .all) t))) (sym (n .is)))
+
+-- ---- what `check` says of a table: that it is not sound, or its hall
+pub record SoundHall (limits : Limits) (t : List ℕ) (h : Numbers) : Type 0 where
+  pub yes-sound : sound limits t ≡ true
+  pub is : h ≡ numbersIn t
+
+pub sound-hall : {limits : Limits} {t : List ℕ} {h : Numbers} → Sound h ≡ soundnessOf limits t → SoundHall limits t h
+unfolding soundnessOf
+sound-hall {limits} {t} {h} q = go (sound limits t) refl
+  where
+    go : (b : Bool) → sound limits t ≡ b → SoundHall limits t h
+    go true e = let z : Sound h ≡ Sound (numbersIn t) = rw e at q in record { yes-sound = e; is = cc }
+    go false e = let z : Sound h ≡ Unsound = rw e at q in let never : _≡_ {A = ℕ} 0 1 = cc in absurd (omega arith)
+
+pub not-sound : (limits : Limits) (t : List ℕ) → Unsound ≡ soundnessOf limits t → sound limits t ≡ false
+unfolding soundnessOf
+not-sound limits t q = go (sound limits t) refl
+  where
+    go : (b : Bool) → sound limits t ≡ b → sound limits t ≡ false
+    go true e = let z : Unsound ≡ Sound (numbersIn t) = rw e at q in let never : _≡_ {A = ℕ} 0 1 = cc in absurd (omega arith)
+    go false e = e
+
+-- and how it finds out: the header, then the records
+pub broken-unsound : (limits : Limits) (t : List ℕ) {h : Header} → h ≡ Broken → h ≡ headerOf limits t → Unsound ≡ soundnessOf limits t
+unfolding soundnessOf
+broken-unsound limits t broken is = rw (header-broken limits t (sym broken ∙ is))
+
+module _ {limits : Limits} {t : List ℕ} {h : Numbers} (n : Named limits t h) where
+  abbrev recordsSound : Bool
+  recordsSound = every (recordSound (h .all)) (chunks (h .desks) (widthFor (h .all)) (drop (headerWords + h .positions + h .all) t))
+
+  pub records-sound : recordsSound ≡ true → Sound h ≡ soundnessOf limits t
+  unfolding soundnessOf
+  records-sound all = rw (by-records n ∙ all) (ap Sound (n .is))
+
+  pub records-unsound : recordsSound ≡ false → Unsound ≡ soundnessOf limits t
+  unfolding soundnessOf
+  records-unsound bad = rw (by-records n ∙ bad)
+
+-- one check is enough: a step leaves a sound table sound, with the same hall, and a table that is not sound as it is
+hall-stays : (limits : Limits) (t : List ℕ) → Words16 t → sound limits t ≡ true → (c : Call) → hallIn (stepTable limits t c .after) ≡ hallIn t
+hall-stays limits t wide is-sound c = ap (λ (result : Result (List ℕ)). hallIn (result .after)) (step-encoded limits t c wide is-sound)
+
+pub still-sound : (limits : Limits) (t : List ℕ) → Words16 t → (asked : Option Call)
+    → soundnessOf limits (answerRequest (stepTable limits) t asked .after) ≡ soundnessOf limits t
+unfolding soundnessOf
+still-sound limits t wide none = refl
+still-sound limits t wide (some c) = go (sound limits t) refl
+  where
+    go : (b : Bool) → sound limits t ≡ b → soundnessOf limits (stepTable limits t c .after) ≡ soundnessOf limits t
+    go true e =
+        rw (step-stays-sound limits t wide c e, e) (ap (λ (H : Hall). Sound (record { desks = H .desks; screens = H .screens; positions = H .positions; all = allScreens H })) (hall-stays limits t wide e c))
+    go false e = ap (λ (result : Result (List ℕ)). soundnessOf limits (result .after)) (unsound-step limits t c e)
 
 -- ---- accepted
 pub record Admitted (limits : Limits) (t : List ℕ) (desk : ℕ) (p : Location) : Type 0 where
@@ -103,57 +163,50 @@ admitted {limits} {t} {desk} {p} a =
       number-there = omega (arith, next, f .long, within);
     }
 
--- ---- what each answer of `admit` says of a table, a message number and a desk
+-- ---- what each answer of `admit` says of a message number and a desk
 
--- all three questions are answered yes
+-- both questions are answered yes
 pub record AdmitsCall (limits : Limits) (t : List ℕ) (message desk : ℕ) (p : Location) : Type 0 where
   pub admits-desk : Admits limits t desk p
   pub is-next : message ≡ getD t (nextWord (hallIn t) desk) 0
 
-abbrev Says : Limits → List ℕ → ℕ → ℕ → Admission → Type 0
-Says limits t message desk Unsound = sound limits t ≡ false
-Says limits t message desk NoDesk = (sound limits t ≡ true) × (inRange desk (hallIn t .desks) ≡ false)
-Says limits t message desk OtherMessage =
-    (sound limits t ≡ true) × (inRange desk (hallIn t .desks) ≡ true) × (eqb message (getD t (nextWord (hallIn t) desk) 0) ≡ false)
-Says limits t message desk (At p) = AdmitsCall limits t message desk p
+abbrev Says : List ℕ → ℕ → ℕ → Admission → Type 0
+Says t message desk NoDesk = inRange desk (hallIn t .desks) ≡ false
+Says t message desk OtherMessage = (inRange desk (hallIn t .desks) ≡ true) × (eqb message (getD t (nextWord (hallIn t) desk) 0) ≡ false)
+Says t message desk (At p) = (inRange desk (hallIn t .desks) ≡ true) × (message ≡ getD t (nextWord (hallIn t) desk) 0) × (p ≡ locationOf t desk)
 
-says : (limits : Limits) (t : List ℕ) (message desk : ℕ) → Says limits t message desk (admissionOf limits t message desk)
+says : (t : List ℕ) (message desk : ℕ) → Says t message desk (admissionOf t message desk)
 unfolding admissionOf
-says limits t message desk =
-    let next = getD t (nextWord (hallIn t) desk) 0 in
-    by-tests (sound limits t) (inRange desk (hallIn t .desks)) (eqb message next) refl refl refl
+says t message desk = by-tests (inRange desk (hallIn t .desks)) (eqb message (getD t (nextWord (hallIn t) desk) 0)) refl refl
   where
-    by-tests : (a b c : Bool) → sound limits t ≡ a → inRange desk (hallIn t .desks) ≡ b → eqb message (getD t (nextWord (hallIn t) desk) 0) ≡ c
-        → Says limits t message desk (cond a (cond b (cond c (At (locationOf t desk)) OtherMessage) NoDesk) Unsound)
-    by-tests true true true is-sound own same =
-        record { admits-desk = record { yes-sound = is-sound; yes-desk = own; is = refl }; is-next = eqb-true message (getD t (nextWord (hallIn t) desk) 0) same }
-    by-tests true true false is-sound own other = (is-sound, own, other)
-    by-tests true false c is-sound out e = (is-sound, out)
-    by-tests false b c unsound own e = unsound
+    by-tests : (a b : Bool) → inRange desk (hallIn t .desks) ≡ a → eqb message (getD t (nextWord (hallIn t) desk) 0) ≡ b
+        → Says t message desk (cond a (cond b (At (locationOf t desk)) OtherMessage) NoDesk)
+    by-tests true true own same = (own, eqb-true message (getD t (nextWord (hallIn t) desk) 0) same, refl)
+    by-tests true false own other = (own, other)
+    by-tests false b out e = out
 
-admission-says : (limits : Limits) (t : List ℕ) (message desk : ℕ) (a : Admission) → a ≡ admissionOf limits t message desk → Says limits t message desk a
-admission-says limits t message desk a q = subst (Says limits t message desk) (sym q) (says limits t message desk)
+admission-says : (t : List ℕ) (message desk : ℕ) (a : Admission) → a ≡ admissionOf t message desk → Says t message desk a
+admission-says t message desk a q = subst (Says t message desk) (sym q) (says t message desk)
 
-pub admits : {limits : Limits} {t : List ℕ} {message desk : ℕ} {p : Location} {a : Admission} → a ≡ At p → a ≡ admissionOf limits t message desk
+pub admits : {limits : Limits} {t : List ℕ} {h : Numbers} {message desk : ℕ} {p : Location} {a : Admission} → Sound h ≡ soundnessOf limits t → a ≡ At p
+    → a ≡ admissionOf t message desk
     → AdmitsCall limits t message desk p
-admits {limits} {t} {message} {desk} {p} {a} at is = admission-says limits t message desk (At p) (sym at ∙ is)
+admits {limits} {t} {h} {message} {desk} {p} {a} sounds at is =
+    let said = admission-says t message desk (At p) (sym at ∙ is) in
+    record { admits-desk = record { yes-sound = sound-hall sounds .yes-sound; yes-desk = said .0; is = said .2 }; is-next = said .1 }
 
--- ---- refused: every call asks for its desk first, and then for the message number
+-- ---- refused: every call asks for soundness first, then for its desk, and then for the message number
 module _ (limits : Limits) (t : List ℕ) (c : Call) where
-  pub refused-header : {h : Header} → h ≡ Broken → h ≡ headerOf limits t → tableResult NotSoundReply t ≡ stepTable limits t c
-  refused-header broken is = sym (unsound-step limits t c (header-broken limits t (sym broken ∙ is)))
+  pub refused-table : {said : Soundness} → said ≡ Unsound → said ≡ soundnessOf limits t → tableResult NotSoundReply t ≡ stepTable limits t c
+  refused-table unsound is = sym (unsound-step limits t c (not-sound limits t (sym unsound ∙ is)))
 
-  module _ {a : Admission} (is : a ≡ admissionOf limits t (c .message) (c .desk)) where
-    pub refused-table : a ≡ Unsound → tableResult NotSoundReply t ≡ stepTable limits t c
-    refused-table said = sym (unsound-step limits t c (admission-says limits t (c .message) (c .desk) Unsound (sym said ∙ is)))
-
+  module _ {h : Numbers} (sounds : Sound h ≡ soundnessOf limits t) {a : Admission} (is : a ≡ admissionOf t (c .message) (c .desk)) where
     pub refused-desk : a ≡ NoDesk → tableResult NoDeskReply t ≡ stepTable limits t c
     refused-desk said =
-        let no-desk = admission-says limits t (c .message) (c .desk) NoDesk (sym said ∙ is) in
-        sym (refused-step limits t c 5 (no-desk .0) (rw (no-desk .1)))
+        let no-desk = admission-says t (c .message) (c .desk) NoDesk (sym said ∙ is) in sym (refused-step limits t c 5 (sound-hall sounds .yes-sound) (rw no-desk))
 
     pub refused-number : a ≡ OtherMessage → tableResult OtherMessageReply t ≡ stepTable limits t c
     refused-number said =
-        let other = admission-says limits t (c .message) (c .desk) OtherMessage (sym said ∙ is) in
-        let range = in-range (c .desk) (hallIn t .desks) (other .1) in
-        sym (refused-step limits t c 22 (other .0) (rw (other .1, number-word t (c .desk) (range .0) (range .1), other .2)))
+        let other = admission-says t (c .message) (c .desk) OtherMessage (sym said ∙ is) in
+        let range = in-range (c .desk) (hallIn t .desks) (other .0) in
+        sym (refused-step limits t c 22 (sound-hall sounds .yes-sound) (rw (other .0, number-word t (c .desk) (range .0) (range .1), other .1)))

@@ -2,11 +2,13 @@
 use Prim.Native.Nat.{ℕ, _*_}
 use mathlib.Core.Bool.{cond}
 use mathlib.Core.List.{List}
+use mathlib.Core.Option.{Option}
 use mathlib.Core.Path.{_≡_}
 use lib.Dec.{eqb}
 use lib.ListN.{length, drop, set}
 use Rattle.rules.specs.Bytes.{wordsOfBytes}
 use Rattle.rules.specs.Hall.{Hall, Limits}
+use Rattle.rules.specs.Runs.{answerRequest}
 use Rattle.rules.specs.Steps.{Call, Result, Step, advance, decide, firstNo, performStep, stepQuestions}
 use Rattle.rules.specs.Table.{decode, hallIn, openTable, stepTable, tableAfterStep}
 use Rattle.reply.specs.Answer.{tableResult}
@@ -20,6 +22,10 @@ pub record Matches (result : Result (List ℕ)) (before : List ℕ) (r : Reply) 
 -- A step did what the rules do in a room with these limits, and so did an opening.
 abbrev pub Stepped : Limits → Call → List ℕ → Reply → List ℕ → Type 0
 Stepped limits call before = Matches (stepTable limits (wordsOfBytes before) call) before
+
+-- A request was answered as in the rules: its step was, or 17 for another code.
+abbrev pub Requested : Limits → Option Call → List ℕ → Reply → List ℕ → Type 0
+Requested limits asked before = Matches (answerRequest (stepTable limits) (wordsOfBytes before) asked) before
 
 abbrev pub Opened : Limits → Hall → List ℕ → Reply → List ℕ → Type 0
 Opened limits hall before = Matches (openTable limits hall (wordsOfBytes before)) before

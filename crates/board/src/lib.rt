@@ -20,14 +20,15 @@ ghost use Rattle.rules.specs.Bytes.{wordsOfBytes};
 ghost use Rattle.rules.specs.Hall.{hallLimits, hallOf, maxAllScreens, maxDesks, maxPositions, trainingLimits};
 ghost use Rattle.rules.specs.Lists.{chunks, every};
 ghost use Rattle.rules.specs.Messages.{nextIn};
+ghost use Rattle.rules.specs.Runs.{requestFor};
 ghost use Rattle.rules.specs.Steps.{Collect, Drop, Retire, Swap, Take, _numbered_, _sends_, inRange};
 ghost use Rattle.rules.specs.Table.{headerWords, inHall, inLimits, maxWords, need as hallNeed, recordSound, startFor, widthFor};
 ghost use Rattle.limits.specs.Room.{limitsOf};
 ghost use Rattle.reply.specs.Answer.{answerOf, tableResult};
-ghost use Rattle.board.specs.Admission.{Admits, admissionOf, headerOf, screenFor};
-ghost use Rattle.board.specs.declared.Header.the-variants.{Of};
+ghost use Rattle.board.specs.Admission.{Admits, admissionOf, headerOf, screenFor, soundnessOf};
+ghost use Rattle.board.specs.declared.Soundness.the-variants.{Sound};
 ghost use Rattle.board.specs.Opening.{OpeningAnswer};
-ghost use Rattle.board.specs.Results.{Matches, Opened, Performed, Stepped, movedOn};
+ghost use Rattle.board.specs.Results.{Matches, Opened, Performed, Requested, Stepped, movedOn};
 
 // Offsets in a table: P, the desks.
 const DESKS: usize = 0;
@@ -171,7 +172,7 @@ fn sound_records(t: &[u8], p: usize, l: usize, s: usize) -> bool
 }
 
 // The numbers of a hall: P, c and L, and S, the screens of all desks.
-struct Hall {
+pub struct Hall {
     pub desks: usize,
     pub screens: usize,
     pub positions: usize,
@@ -184,7 +185,7 @@ enum Header {
     Of(Hall),
 }
 
-// Reads the header of a table, once for a call.
+// Reads the header of a table.
 fn read_header(t: &[u8], limits: Limits) -> Header
     ensures { λ r. ⌜ r ≡ headerOf (limitsOf limits) (wordsOfBytes (now (t .entry))) ⌝ }
 {
@@ -213,6 +214,30 @@ fn read_header(t: &[u8], limits: Limits) -> Header
     })
 }
 
+// Whether a table is sound; if it is, its hall.
+pub enum Soundness {
+    Unsound,
+    Sound(Hall),
+}
+
+// Asks whether a table is sound, in a room with these limits: once for a call, and once for a run of steps or for a sheet, because every
+// step leaves a sound table sound, with the same hall.
+pub fn check(t: &[u8], limits: Limits) -> Soundness
+    ensures { λ r. ⌜ r ≡ soundnessOf (limitsOf limits) (wordsOfBytes (now (t .entry))) ⌝ }
+{
+    let header = read_header(t, limits);
+    match header {
+        Header::Broken => Soundness::Unsound,
+        Header::Of(hall) => {
+            if sound_records(t, hall.desks, hall.positions, hall.all) {
+                Soundness::Sound(hall)
+            } else {
+                Soundness::Unsound
+            }
+        }
+    }
+}
+
 // A desk's location in a sound table: the numbers of positions, of screens per desk and of all screens, the start and the end of the
 // desk's record, and the offset of its next message number.
 struct Location {
@@ -224,27 +249,22 @@ struct Location {
     pub next: usize,
 }
 
-// The result of the first questions of a step: one of their refusals, or the location of the desk.
+// The result of the first questions of a step in a sound table: one of their refusals, or the location of the desk.
 enum Admission {
-    Unsound,
     NoDesk,
     OtherMessage,
     At(Location),
 }
 
-// What every step asks first: is the table sound, is the desk 1 to P, is the message number the desk's next. Precondition: `hall` is the
-// one in the header, within the limits.
+// What every step asks first of a sound table: is the desk 1 to P, is the message number the desk's next. Precondition, here and for each
+// step whose name ends in `_in`: the table is sound in a room with these limits, and this is its hall.
 fn admit(t: &[u8], limits: Limits, hall: Hall, message: u16, desk: u16) -> Admission
-    requires { ⌜ Of hall ≡ headerOf (limitsOf limits) (wordsOfBytes (now t)) ⌝ }
-    ensures { λ r. ⌜ r ≡ admissionOf (limitsOf limits) (wordsOfBytes (now (t .entry))) message desk ⌝ }
+    requires { ⌜ Sound hall ≡ soundnessOf (limitsOf limits) (wordsOfBytes (now t)) ⌝ }
+    ensures { λ r. ⌜ r ≡ admissionOf (wordsOfBytes (now (t .entry))) message desk ⌝ }
 {
-    let p = hall.desks;
     let l = hall.positions;
     let s = hall.all;
-    if !sound_records(t, p, l, s) {
-        return Admission::Unsound;
-    }
-    if !in_range(desk, p) {
+    if !in_range(desk, hall.desks) {
         return Admission::NoDesk;
     }
     let d = desk as usize;
@@ -373,6 +393,30 @@ fn take_at(
     Reply::Accepted(held)
 }
 
+// Take, in a sound table.
+pub fn take_in(
+    t: &mut [u8],
+    limits: Limits,
+    hall: Hall,
+    message: u16,
+    desk: u16,
+    screen: u16,
+    position: u16,
+) -> Reply
+    requires { ⌜ Sound hall ≡ soundnessOf (limitsOf limits) (wordsOfBytes (now t)) ⌝ }
+    ensures { λ r. ⌜ Stepped (limitsOf limits) (desk sends Take screen position numbered message) (now (t .entry)) r (now (t .exit)) ⌝ }
+{
+    let admission = admit(t, limits, hall, message, desk);
+    match admission {
+        Admission::NoDesk => Reply::NoDesk,
+        Admission::OtherMessage => Reply::OtherMessage,
+        Admission::At(location) => {
+            let r = take_at(t, limits, desk, location, screen, position);
+            move_on(t, location.next, message, r)
+        }
+    }
+}
+
 // Take: the screen shows the position's session; the reply is that session.
 pub fn take(
     t: &mut [u8],
@@ -384,21 +428,10 @@ pub fn take(
 ) -> Reply
     ensures { λ r. ⌜ Stepped (limitsOf limits) (desk sends Take screen position numbered message) (now (t .entry)) r (now (t .exit)) ⌝ }
 {
-    let header = read_header(t, limits);
-    match header {
-        Header::Broken => Reply::Unsound,
-        Header::Of(hall) => {
-            let admission = admit(t, limits, hall, message, desk);
-            match admission {
-                Admission::Unsound => Reply::Unsound,
-                Admission::NoDesk => Reply::NoDesk,
-                Admission::OtherMessage => Reply::OtherMessage,
-                Admission::At(location) => {
-                    let r = take_at(t, limits, desk, location, screen, position);
-                    move_on(t, location.next, message, r)
-                }
-            }
-        }
+    let soundness = check(t, limits);
+    match soundness {
+        Soundness::Unsound => Reply::Unsound,
+        Soundness::Sound(hall) => take_in(t, limits, hall, message, desk, screen, position),
     }
 }
 
@@ -421,25 +454,37 @@ fn drop_at(t: &mut [u8], limits: Limits, desk: u16, location: Location, screen: 
     Reply::Accepted(shown)
 }
 
+// Drop, in a sound table.
+pub fn drop_in(
+    t: &mut [u8],
+    limits: Limits,
+    hall: Hall,
+    message: u16,
+    desk: u16,
+    screen: u16,
+) -> Reply
+    requires { ⌜ Sound hall ≡ soundnessOf (limitsOf limits) (wordsOfBytes (now t)) ⌝ }
+    ensures { λ r. ⌜ Stepped (limitsOf limits) (desk sends Drop screen numbered message) (now (t .entry)) r (now (t .exit)) ⌝ }
+{
+    let admission = admit(t, limits, hall, message, desk);
+    match admission {
+        Admission::NoDesk => Reply::NoDesk,
+        Admission::OtherMessage => Reply::OtherMessage,
+        Admission::At(location) => {
+            let r = drop_at(t, limits, desk, location, screen);
+            move_on(t, location.next, message, r)
+        }
+    }
+}
+
 // Drop: the screen becomes 0; the reply is what it showed.
 pub fn drop(t: &mut [u8], limits: Limits, message: u16, desk: u16, screen: u16) -> Reply
     ensures { λ r. ⌜ Stepped (limitsOf limits) (desk sends Drop screen numbered message) (now (t .entry)) r (now (t .exit)) ⌝ }
 {
-    let header = read_header(t, limits);
-    match header {
-        Header::Broken => Reply::Unsound,
-        Header::Of(hall) => {
-            let admission = admit(t, limits, hall, message, desk);
-            match admission {
-                Admission::Unsound => Reply::Unsound,
-                Admission::NoDesk => Reply::NoDesk,
-                Admission::OtherMessage => Reply::OtherMessage,
-                Admission::At(location) => {
-                    let r = drop_at(t, limits, desk, location, screen);
-                    move_on(t, location.next, message, r)
-                }
-            }
-        }
+    let soundness = check(t, limits);
+    match soundness {
+        Soundness::Unsound => Reply::Unsound,
+        Soundness::Sound(hall) => drop_in(t, limits, hall, message, desk, screen),
     }
 }
 
@@ -477,6 +522,30 @@ fn swap_at(
     Reply::Accepted(old)
 }
 
+// Swap, in a sound table.
+pub fn swap_in(
+    t: &mut [u8],
+    limits: Limits,
+    hall: Hall,
+    message: u16,
+    desk: u16,
+    position: u16,
+    session: u16,
+) -> Reply
+    requires { ⌜ Sound hall ≡ soundnessOf (limitsOf limits) (wordsOfBytes (now t)) ⌝ }
+    ensures { λ r. ⌜ Stepped (limitsOf limits) (desk sends Swap position session numbered message) (now (t .entry)) r (now (t .exit)) ⌝ }
+{
+    let admission = admit(t, limits, hall, message, desk);
+    match admission {
+        Admission::NoDesk => Reply::NoDesk,
+        Admission::OtherMessage => Reply::OtherMessage,
+        Admission::At(location) => {
+            let r = swap_at(t, limits, desk, location, position, session);
+            move_on(t, location.next, message, r)
+        }
+    }
+}
+
 // Swap: the position holds the new session or 0; the reply is the old one, and the desk owes it if it is not 0. A repeat, a swap to what
 // the position holds already, only moves the message number on.
 pub fn swap(
@@ -489,21 +558,10 @@ pub fn swap(
 ) -> Reply
     ensures { λ r. ⌜ Stepped (limitsOf limits) (desk sends Swap position session numbered message) (now (t .entry)) r (now (t .exit)) ⌝ }
 {
-    let header = read_header(t, limits);
-    match header {
-        Header::Broken => Reply::Unsound,
-        Header::Of(hall) => {
-            let admission = admit(t, limits, hall, message, desk);
-            match admission {
-                Admission::Unsound => Reply::Unsound,
-                Admission::NoDesk => Reply::NoDesk,
-                Admission::OtherMessage => Reply::OtherMessage,
-                Admission::At(location) => {
-                    let r = swap_at(t, limits, desk, location, position, session);
-                    move_on(t, location.next, message, r)
-                }
-            }
-        }
+    let soundness = check(t, limits);
+    match soundness {
+        Soundness::Unsound => Reply::Unsound,
+        Soundness::Sound(hall) => swap_in(t, limits, hall, message, desk, position, session),
     }
 }
 
@@ -517,25 +575,30 @@ fn retire_at(t: &mut [u8], limits: Limits, desk: u16, location: Location) -> Rep
     retire_record(&mut t[2 * a..2 * e], location.all)
 }
 
+// Retire, in a sound table.
+pub fn retire_in(t: &mut [u8], limits: Limits, hall: Hall, message: u16, desk: u16) -> Reply
+    requires { ⌜ Sound hall ≡ soundnessOf (limitsOf limits) (wordsOfBytes (now t)) ⌝ }
+    ensures { λ r. ⌜ Stepped (limitsOf limits) (desk sends Retire numbered message) (now (t .entry)) r (now (t .exit)) ⌝ }
+{
+    let admission = admit(t, limits, hall, message, desk);
+    match admission {
+        Admission::NoDesk => Reply::NoDesk,
+        Admission::OtherMessage => Reply::OtherMessage,
+        Admission::At(location) => {
+            let r = retire_at(t, limits, desk, location);
+            move_on(t, location.next, message, r)
+        }
+    }
+}
+
 // Retire: the owed session goes to the end of the list as waiting; nothing is owed; the reply is that session.
 pub fn retire(t: &mut [u8], limits: Limits, message: u16, desk: u16) -> Reply
     ensures { λ r. ⌜ Stepped (limitsOf limits) (desk sends Retire numbered message) (now (t .entry)) r (now (t .exit)) ⌝ }
 {
-    let header = read_header(t, limits);
-    match header {
-        Header::Broken => Reply::Unsound,
-        Header::Of(hall) => {
-            let admission = admit(t, limits, hall, message, desk);
-            match admission {
-                Admission::Unsound => Reply::Unsound,
-                Admission::NoDesk => Reply::NoDesk,
-                Admission::OtherMessage => Reply::OtherMessage,
-                Admission::At(location) => {
-                    let r = retire_at(t, limits, desk, location);
-                    move_on(t, location.next, message, r)
-                }
-            }
-        }
+    let soundness = check(t, limits);
+    match soundness {
+        Soundness::Unsound => Reply::Unsound,
+        Soundness::Sound(hall) => retire_in(t, limits, hall, message, desk),
     }
 }
 
@@ -558,24 +621,55 @@ fn collect_at(t: &mut [u8], limits: Limits, desk: u16, location: Location) -> Re
     }
 }
 
+// Collect, in a sound table.
+pub fn collect_in(t: &mut [u8], limits: Limits, hall: Hall, message: u16, desk: u16) -> Reply
+    requires { ⌜ Sound hall ≡ soundnessOf (limitsOf limits) (wordsOfBytes (now t)) ⌝ }
+    ensures { λ r. ⌜ Stepped (limitsOf limits) (desk sends Collect numbered message) (now (t .entry)) r (now (t .exit)) ⌝ }
+{
+    let admission = admit(t, limits, hall, message, desk);
+    match admission {
+        Admission::NoDesk => Reply::NoDesk,
+        Admission::OtherMessage => Reply::OtherMessage,
+        Admission::At(location) => {
+            let r = collect_at(t, limits, desk, location);
+            move_on(t, location.next, message, r)
+        }
+    }
+}
+
 // Collect: (a) to (d); the reply is the session that is handed back, or 0.
 pub fn collect(t: &mut [u8], limits: Limits, message: u16, desk: u16) -> Reply
     ensures { λ r. ⌜ Stepped (limitsOf limits) (desk sends Collect numbered message) (now (t .entry)) r (now (t .exit)) ⌝ }
 {
-    let header = read_header(t, limits);
-    match header {
-        Header::Broken => Reply::Unsound,
-        Header::Of(hall) => {
-            let admission = admit(t, limits, hall, message, desk);
-            match admission {
-                Admission::Unsound => Reply::Unsound,
-                Admission::NoDesk => Reply::NoDesk,
-                Admission::OtherMessage => Reply::OtherMessage,
-                Admission::At(location) => {
-                    let r = collect_at(t, limits, desk, location);
-                    move_on(t, location.next, message, r)
-                }
-            }
-        }
+    let soundness = check(t, limits);
+    match soundness {
+        Soundness::Unsound => Reply::Unsound,
+        Soundness::Sound(hall) => collect_in(t, limits, hall, message, desk),
+    }
+}
+
+// The step that a code requests, in a sound table; the numbers that its code lacks are ignored. A code outside 1 to 5 is answered 17, and
+// nothing is written.
+pub fn request(
+    t: &mut [u8],
+    limits: Limits,
+    hall: Hall,
+    code: u16,
+    message: u16,
+    desk: u16,
+    screen: u16,
+    position: u16,
+    session: u16,
+) -> Reply
+    requires { ⌜ Sound hall ≡ soundnessOf (limitsOf limits) (wordsOfBytes (now t)) ⌝ }
+    ensures { λ r. ⌜ Requested (limitsOf limits) (requestFor code message desk screen position session) (now (t .entry)) r (now (t .exit)) ⌝ }
+{
+    match code {
+        1 => take_in(t, limits, hall, message, desk, screen, position),
+        2 => drop_in(t, limits, hall, message, desk, screen),
+        3 => swap_in(t, limits, hall, message, desk, position, session),
+        4 => retire_in(t, limits, hall, message, desk),
+        5 => collect_in(t, limits, hall, message, desk),
+        0 | 6..=65535 => Reply::NoCode,
     }
 }

@@ -1,79 +1,34 @@
--- `board::take` meets its contract: each answer is that of `admit` or of the header, or the step was done and `move_on` followed.
+-- `board::take` meets its contract: the table is not sound, or the step was done in its hall.
 use mathlib.Core.Path.{sym, _∙_}
 use borrow.Author.Needs.{needs}
-use Rattle.board.proofs.AdmissionLaws.{admits, refused-desk, refused-header, refused-number, refused-table}
-use Rattle.board.proofs.MessageLaws.{number-in-bytes, stepped}
+use Rattle.board.proofs.AdmissionLaws.{refused-table}
 use Rattle.board.proofs.ResultLaws.{matches-unchanged}
 use Rattle.board.proofs.take.Statement.{statement}
 use Rattle.board.proofs.take.Tie as tie
 
-read-header-requires : tie.Need-read-header-requires
-read-header-requires c κs = search needs
+check-requires : tie.Need-check-requires
+check-requires c κs = search needs
 
 enum-told : tie.Need-enum-told
 enum-told c = search needs
 
-enum-known-header : tie.Need-enum-known-header
-enum-known-header c = search needs
+enum-known-soundness : tie.Need-enum-known-soundness
+enum-known-soundness c = search needs
 
-admit-requires : tie.Need-admit-requires
-admit-requires c κs =
-    let at-match-keys2 = c .before .before .before in let after-read-header = at-match-keys2 .before in
-    sym (c .before .before .header .given .1) ∙ after-read-header .read-header .ensures
-
-enum-told-2 : tie.Need-enum-told-2
-enum-told-2 c = search needs
-
-enum-told-3 : tie.Need-enum-told-3
-enum-told-3 c = search needs
-
-enum-told-4 : tie.Need-enum-told-4
-enum-told-4 c = search needs
-
-enum-known-admission : tie.Need-enum-known-admission
-enum-known-admission c = search needs
-
-take-at-requires : tie.Need-take-at-requires
-take-at-requires c κs =
-    let at-match2-keys4 = c .before .before .before in let after-admit = at-match2-keys4 .before in
-    admits (c .before .before .admission .given .1) (after-admit .admit .ensures) .admits-desk
-
-move-on-requires : tie.Need-move-on-requires
-move-on-requires c κs =
-    let after-take-at = c .before .before .before in let after-admission = after-take-at .before .before .before in
-    let after-admit = after-admission .before .before in let after-header = after-admit .before .before .before in
-    let after-read-header-arg = after-header .before .before .before in let start = after-read-header-arg .before .before in
-    number-in-bytes (start .args .t .now) (after-take-at .take-at .last .0) (admits (after-admission .admission .given .1) (after-admit .admit .ensures)) (after-take-at .take-at .kept .0)
+take-in-requires : tie.Need-take-in-requires
+take-in-requires c κs = sym (c .before .before .soundness .given .1) ∙ c .before .before .before .before .check .ensures
 
 same-length : tie.Need-same-length
 same-length c = search needs
 
 returns : tie.Need-returns
-returns c = search (matches-unchanged, refused-header, refused-table, refused-desk, refused-number, stepped, admits)
+returns c = search (matches-unchanged, refused-table)
 
 same-length-2 : tie.Need-same-length-2
 same-length-2 c = search needs
 
 returns-2 : tie.Need-returns-2
-returns-2 c = search (matches-unchanged, refused-header, refused-table, refused-desk, refused-number, stepped, admits)
-
-same-length-3 : tie.Need-same-length-3
-same-length-3 c = search needs
-
-returns-3 : tie.Need-returns-3
-returns-3 c = search (matches-unchanged, refused-header, refused-table, refused-desk, refused-number, stepped, admits)
-
-same-length-4 : tie.Need-same-length-4
-same-length-4 c = search needs
-
-returns-4 : tie.Need-returns-4
-returns-4 c = search (matches-unchanged, refused-header, refused-table, refused-desk, refused-number, stepped, admits)
-
-same-length-5 : tie.Need-same-length-5
-same-length-5 c = search needs
-
-returns-5 : tie.Need-returns-5
-returns-5 c = search (matches-unchanged, refused-header, refused-table, refused-desk, refused-number, stepped, admits)
+returns-2 c = c .before .before .take-in .ensures
 
 pub take-spec : {M : Type 1} → statement M
-take-spec = tie.close (tie.spec read-header-requires enum-told enum-known-header admit-requires enum-told-2 enum-told-3 enum-told-4 enum-known-admission take-at-requires move-on-requires same-length returns same-length-2 returns-2 same-length-3 returns-3 same-length-4 returns-4 same-length-5 returns-5)
+take-spec = tie.close (tie.spec check-requires enum-told enum-known-soundness take-in-requires same-length returns same-length-2 returns-2)

@@ -1,0 +1,51 @@
+-- `board::take_in` meets its contract: each answer is that of `admit`, or the step was done and `move_on` followed.
+use borrow.Author.Needs.{needs}
+use Rattle.board.proofs.AdmissionLaws.{admits, refused-desk, refused-number}
+use Rattle.board.proofs.MessageLaws.{number-in-bytes, stepped}
+use Rattle.board.proofs.ResultLaws.{matches-unchanged}
+use Rattle.board.proofs.take_in.Statement.{statement}
+use Rattle.board.proofs.take_in.Tie as tie
+
+admit-requires : tie.Need-admit-requires
+admit-requires c κs = search needs
+
+enum-told : tie.Need-enum-told
+enum-told c = search needs
+
+enum-told-2 : tie.Need-enum-told-2
+enum-told-2 c = search needs
+
+enum-known-admission : tie.Need-enum-known-admission
+enum-known-admission c = search needs
+
+take-at-requires : tie.Need-take-at-requires
+take-at-requires c κs =
+    let at-match-keys3 = c .before .before .before in let after-admit = at-match-keys3 .before in let start = after-admit .before .before .before in
+    admits (start .pre) (c .before .before .admission .given .1) (after-admit .admit .ensures) .admits-desk
+
+move-on-requires : tie.Need-move-on-requires
+move-on-requires c κs =
+    let after-take-at = c .before .before .before in let after-admission = after-take-at .before .before .before in
+    let after-admit = after-admission .before .before in let start = after-admit .before .before .before in
+    number-in-bytes (start .args .t .now) (after-take-at .take-at .last .0) (admits (start .pre) (after-admission .admission .given .1) (after-admit .admit .ensures)) (after-take-at .take-at .kept .0)
+
+same-length : tie.Need-same-length
+same-length c = search needs
+
+returns : tie.Need-returns
+returns c = search (matches-unchanged, refused-desk, refused-number, stepped, admits)
+
+same-length-2 : tie.Need-same-length-2
+same-length-2 c = search needs
+
+returns-2 : tie.Need-returns-2
+returns-2 c = search (matches-unchanged, refused-desk, refused-number, stepped, admits)
+
+same-length-3 : tie.Need-same-length-3
+same-length-3 c = search needs
+
+returns-3 : tie.Need-returns-3
+returns-3 c = search (matches-unchanged, refused-desk, refused-number, stepped, admits)
+
+pub take-in-spec : {M : Type 1} → statement M
+take-in-spec = tie.close (tie.spec admit-requires enum-told enum-told-2 enum-known-admission take-at-requires move-on-requires same-length returns same-length-2 returns-2 same-length-3 returns-3)
