@@ -1,22 +1,20 @@
 -- A call that matches the rules on the words of a table does what the rules do on its bytes.
 use Prim.Native.Nat.{ℕ}
 use mathlib.Core.List.{List}
-use mathlib.Core.Path.{_≡_, refl, ap, _∙_}
+use mathlib.Core.Path.{_≡_, _∙_}
 use lib.ListN.{length}
 use Rattle.rules.specs.Bytes.{IsBytes, onBytes, openBytes, stepBytes, unpack}
 use Rattle.rules.specs.Hall.{Hall, Limits}
 use Rattle.rules.specs.Steps.{Call, Result}
 use Rattle.reply.specs.Answer.{answerOf}
 use Rattle.reply.specs.declared.Reply.{Reply}
-use Rattle.words.proofs.Laws.{written-overwrites}
+use Rattle.board.proofs.ResultLaws.{on-bytes}
 use Rattle.board.specs.Results.{Matches, Opened, Stepped}
 use Rattle.host.specs.Results.{bytesResult}
 
 module _ {before after : List ℕ} {r : Reply} (number : ℕ) (are : IsBytes after) (same : length after ≡ length before) (is : unpack number ≡ answerOf r) where
   result-on-bytes : {result : Result (List ℕ)} → Matches result before r after → bytesResult number after ≡ onBytes result before
-  result-on-bytes m =
-      let written = written-overwrites are same (record { holds = refl; last = m .last }) in
-      (λ i. record { answer = is i; after = written i }) ∙ ap (λ (d : Result (List ℕ)). onBytes d before) (m .words)
+  result-on-bytes m = (λ i. record { answer = is i; after = after }) ∙ on-bytes are same m
 
   pub opened-on-bytes : (limits : Limits) (hall : Hall) → Opened limits hall before r after → bytesResult number after ≡ openBytes limits hall before
   unfolding openBytes
