@@ -6,6 +6,7 @@ use mathlib.Core.Bool.{Bool, true, false, cond}
 use mathlib.Core.List.{List, []}
 use lib.ListN.{length, drop}
 use Rattle.rules.specs.Numbers.{decodeNumber}
+use Rattle.board.specs.declared.Soundness.the-variants.{Unsound}
 use Rattle.reader.specs.declared.Carried.the-variants.{NoDesk}
 use Rattle.sheet.specs.declared.State.{State}
 use Rattle.sheet_rules.specs.Edition1.{decodeHeader, hallEdition}
@@ -18,7 +19,7 @@ use Rattle.printing.specs.Whole.{complete-output}
 
 abbrev emptyState : Bool → State
 emptyState finished =
-    record { offset = 0; index = 0; carried = NoDesk; tally = record { accepted = 0; refused = 0; «handed_back» = 0 }; finished = finished }
+    record { offset = 0; index = 0; carried = NoDesk; tally = record { accepted = 0; refused = 0; «handed_back» = 0 }; soundness = Unsound; finished = finished }
 
 -- `0 0 15 0` and `end 0 0 0`, each with its newline, are 19 bytes;
 pub all-of-empty : HandedOver hallEdition [] true 19

@@ -41,7 +41,8 @@ module _ (edition : Edition) (sheet : List ℕ) (was : State) (unfinished : was 
 
 -- The state after a record was run.
 abbrev afterRecord : State → ℕ → ℕ → Tally → State
-afterRecord was next desk total = record { offset = next; index = was .index + 1; carried = LastDesk desk; tally = total; finished = false }
+afterRecord was next desk total =
+    record { offset = next; index = was .index + 1; carried = LastDesk desk; tally = total; soundness = was .soundness; finished = false }
 
 -- The next record of a sheet, as it is read.
 abbrev pub nextRecord : Edition → List ℕ → State → Parsed Record

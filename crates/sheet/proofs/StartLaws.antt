@@ -8,7 +8,8 @@ use lib.ListN.{length-append}
 use Rattle.rules.specs.Hall.{Hall, Limits}
 use Rattle.rules.specs.Numbers.{Refusal, parsed, refusalOf}
 use Rattle.rules.specs.Steps.{Answer, Result, decide}
-use Rattle.rules.specs.Table.{openTable, openedTable}
+use Rattle.rules.specs.Table.{openTable, openedTable, sound}
+use Rattle.board.specs.Admission.{soundnessOf}
 use Rattle.buffer.specs.Put.{Put}
 use Rattle.buffer.specs.laws.Put.{put-first, put-rest, put-within}
 use Rattle.sheet.specs.laws.Length.{line-some}
@@ -22,6 +23,8 @@ use Rattle.sheet.specs.Batch.{Started, callsOf, finishedAt, remainingRec
 use Rattle.reader.specs.declared.Carried.the-variants.{NoDesk}
 use Rattle.reply.specs.declared.Reply.{Reply}
 use Rattle.tally.specs.declared.Tally.{Tally}
+use Rattle.board.specs.declared.Soundness.{Soundness}
+use Rattle.board.specs.declared.Soundness.the-variants.{Unsound}
 use Rattle.sheet.specs.declared.State.{State}
 
 -- before anything is read, and at the first record
@@ -29,10 +32,15 @@ abbrev noTally : Tally
 noTally = record { accepted = 0; refused = 0; «handed_back» = 0 }
 
 abbrev atHeader : State
-atHeader = record { offset = 0; index = 0; carried = NoDesk; tally = noTally; finished = false }
+atHeader = record { offset = 0; index = 0; carried = NoDesk; tally = noTally; soundness = Unsound; finished = false }
 
-abbrev atFirst : ℕ → State
-atFirst next = record { offset = next; index = 1; carried = NoDesk; tally = noTally; finished = false }
+abbrev atFirst : ℕ → Soundness → State
+atFirst next said = record { offset = next; index = 1; carried = NoDesk; tally = noTally; soundness = said; finished = false }
+
+-- a table that was not opened is not sound
+pub lent-unsound : (limits : Limits) {words : List ℕ} → words ≡ lentTable → Unsound ≡ soundnessOf limits words
+unfolding soundnessOf sound lentTable
+lent-unsound limits is = sym (ap (soundnessOf limits) is)
 
 -- the reading of a sheet whose header was read, by the number that the board replied to the opening
 opening-number : (limits : Limits) (hall : Hall) (reply : Reply) (after : List ℕ) {number : ℕ} → tableResult reply after ≡ openTable limits hall lentTable
@@ -40,6 +48,20 @@ opening-number : (limits : Limits) (hall : Hall) (reply : Reply) (after : List �
     → openingNumber limits hall ≡ number
 opening-number limits hall reply after tells is-number =
     sym (ap (λ (answer : Answer). answer .number) (opening-answer limits hall)) ∙ sym (ap (λ (done : Result (List ℕ)). done .answer .number) tells) ∙ sym is-number
+
+-- an opening that is refused leaves the table as it was
+pub refused-leaves : (limits : Limits) (hall : Hall) (reply : Reply) (after : List ℕ) {number : ℕ} → tableResult reply after ≡ openTable limits hall lentTable
+    → number ≡ answerOf reply .number
+    → (number ≡ 0 → ⊥)
+    → after ≡ lentTable
+unfolding openTable openingNumber
+refused-leaves limits hall reply after {number} tells is-number refused =
+    ap (λ (done : Result (List ℕ)). done .after) tells
+    ∙ ap (λ (n : ℕ). decide n lentTable 0 (openedTable hall lentTable) .after) (opening-number limits hall reply after tells is-number) ∙ by-number number refused
+  where
+    by-number : (n : ℕ) → (n ≡ 0 → ⊥) → decide n lentTable 0 (openedTable hall lentTable) .after ≡ lentTable
+    by-number zero refused = absurd (refused refl)
+    by-number (suc n) refused = refl
 
 reads-by : (edition : Edition) (sheet : List ℕ) {hall : Hall} {next number : ℕ} → beginSheet edition sheet ≡ parsed hall next
     → openingNumber (edition .limits) hall ≡ number
@@ -69,26 +91,23 @@ module _ {edition : Edition} {sheet out outAfter : List ℕ} {end : ℕ} where
         → Put out outAfter 0 (refusalLine 0 reason ++ endLine zeros) end
         → is ≡ finishedAt atHeader
         → Started edition sheet out is after outAfter end
-    unfolding openTable openingNumber
     started-refused some is-reason =
-        started-stopped (reads-by edition sheet read opening ∙ by-number number some .0 ∙ ap unopened (sym is-reason))
-        (ap (λ (done : Result (List ℕ)). done .after) tells ∙ ap (λ (n : ℕ). decide n lentTable 0 (openedTable hall lentTable) .after) opening ∙ by-number number some .1)
+        started-stopped (reads-by edition sheet read opening ∙ by-number number some ∙ ap unopened (sym is-reason)) (refused-leaves (edition .limits) hall reply after tells is-number some)
       where
         opening : openingNumber (edition .limits) hall ≡ number
         opening = opening-number (edition .limits) hall reply after tells is-number
 
-        by-number : (n : ℕ) → (n ≡ 0 → ⊥)
-            → (afterOpening edition sheet (ifOpens n hall next) ≡ unopened (refusalOf 0 n 0)) × (decide n lentTable 0 (openedTable hall lentTable) .after ≡ lentTable)
+        by-number : (n : ℕ) → (n ≡ 0 → ⊥) → afterOpening edition sheet (ifOpens n hall next) ≡ unopened (refusalOf 0 n 0)
         by-number zero some = absurd (some refl)
-        by-number (suc n) some = (refl, refl)
+        by-number (suc n) some = refl
 
-    pub started-opened : Lawful edition → number ≡ 0 → Put out outAfter 0 (line 0 0 0 0) end → Started edition sheet out (atFirst next) after outAfter end
+    pub started-opened : (said : Soundness) → Lawful edition → number ≡ 0 → Put out outAfter 0 (line 0 0 0 0) end → Started edition sheet out (atFirst next said) after outAfter end
     unfolding printed
-    started-opened lawful none put = record {
+    started-opened said lawful none put = record {
       within = put-within put;
       output =
-          (λ i. put-first put i ++ linesFrom (edition .limits) (leaves i) 1 zeros (remainingRecords edition sheet (atFirst next)))
-          ∙ ap (λ (answer : Answer). answerLine 0 0 answer ++ linesFrom (edition .limits) (openTable (edition .limits) hall lentTable .after) 1 zeros (remainingRecords edition sheet (atFirst next))) (sym answers)
+          (λ i. put-first put i ++ linesFrom (edition .limits) (leaves i) 1 zeros (remainingRecords edition sheet (atFirst next said)))
+          ∙ ap (λ (answer : Answer). answerLine 0 0 answer ++ linesFrom (edition .limits) (openTable (edition .limits) hall lentTable .after) 1 zeros (remainingRecords edition sheet (atFirst next said))) (sym answers)
           ∙ sym (ap (linesOf (edition .limits)) reads);
       some = omega (arith, put .offset, line-some 0 0 0 0);
       run = sym (ap callsOf reads);
@@ -100,7 +119,7 @@ module _ {edition : Edition} {sheet out outAfter : List ℕ} {end : ℕ} where
         opening : openingNumber (edition .limits) hall ≡ 0
         opening = opening-number (edition .limits) hall reply after tells is-number ∙ none
 
-        reads : reading edition sheet ≡ opened hall (remainingRecords edition sheet (atFirst next))
+        reads : reading edition sheet ≡ opened hall (remainingRecords edition sheet (atFirst next said))
         reads = reads-by edition sheet read opening
 
         leaves : after ≡ openTable (edition .limits) hall lentTable .after

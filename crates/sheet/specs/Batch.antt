@@ -5,12 +5,16 @@ use mathlib.Core.Path.{_≡_}
 use mathlib.Core.Bool.{true, false, cond}
 use mathlib.Core.List.{List, [], _∷_, _++_}
 use lib.ListN.{length, take, drop}
+use Rattle.rules.specs.Bytes.{wordsOfBytes}
 use Rattle.rules.specs.Hall.{Limits}
 use Rattle.rules.specs.Messages.{send}
 use Rattle.rules.specs.Steps.{Call, end}
 use Rattle.rules.specs.Table.{openTable}
+use Rattle.limits.specs.Room.{limitsOf}
+use Rattle.board.specs.Admission.{soundnessOf}
 use Rattle.buffer.specs.Put.{Put}
 use Rattle.reader.specs.Results.{carriedOf}
+use Rattle.reader.specs.declared.Edition.{Edition as ReaderEdition}
 use Rattle.sheet_rules.specs.Lines.{linesFrom, printed}
 use Rattle.sheet_rules.specs.Run.{callsIn}
 use Rattle.sheet_rules.specs.Sheet.{Edition, Reading, Records, decodeRecords, lentTable, opened, reading, unopened}
@@ -42,7 +46,18 @@ abbrev pub batchesLeft : List ℕ → State → ℕ
 batchesLeft sheet state = cond (state .finished) 0 (suc (length sheet - state .offset))
 
 abbrev pub finishedAt : State → State
-finishedAt state = record { offset = state .offset; index = state .index; carried = state .carried; tally = state .tally; finished = true }
+finishedAt state = record {
+  offset = state .offset;
+  index = state .index;
+  carried = state .carried;
+  tally = state .tally;
+  soundness = state .soundness;
+  finished = true;
+}
+
+-- What the state says of the table's soundness, which was asked after the opening, is still so.
+abbrev pub Checked : ReaderEdition → State → List ℕ → Type 0
+Checked edition state bytes = state .soundness ≡ soundnessOf (limitsOf (edition .format .limits)) (wordsOfBytes bytes)
 
 -- Bytes that lead from one state and table to another: followed by what remains after them, they are what remained before.
 -- The table is as the calls that were run leave it, sent with the right message numbers; how many these are is left free.

@@ -1,10 +1,8 @@
-use board::collect;
-use board::drop;
+use board::Soundness;
+use board::check;
 use board::next_message;
 use board::open;
-use board::retire;
-use board::swap;
-use board::take;
+use board::request;
 use limits::Limits;
 use lines::put_end;
 use lines::put_line;
@@ -30,23 +28,25 @@ ghost use lib.ListN.{length};
 ghost use Rattle.rules.specs.Bytes.{wordsOfBytes};
 ghost use Rattle.buffer.specs.Put.{Put};
 ghost use Rattle.limits.specs.Room.{limitsOf};
+ghost use Rattle.board.specs.Admission.{soundnessOf};
 ghost use Rattle.reader.specs.Results.{editionOf, reasonOf, recordOf};
 ghost use Rattle.sheet_rules.specs.Lines.{endLine, refusalLine};
 ghost use Rattle.sheet_rules.specs.Sheet.{lentTable};
 ghost use Rattle.tally.specs.Counts.{toTally};
-ghost use Rattle.sheet.specs.Batch.{Batch, PartialBatch, Progress, Started, endRoom, finishedAt, recordRoom};
+ghost use Rattle.sheet.specs.Batch.{Batch, Checked, PartialBatch, Progress, Started, endRoom, finishedAt, recordRoom};
 ghost use Rattle.sheet.specs.Run.{Ran};
 
 // The most bytes of a record's line, and of the last line.
 const ROOM: usize = 84 + 67;
 
-// How far the run of a sheet is: the offset and the number of the next record, what the record before left for it, the tally so far, and
-// whether the last line was put.
+// How far the run of a sheet is: the offset and the number of the next record, what the record before left for it, the tally so far,
+// whether the table is sound, asked once, after the opening, and whether the last line was put.
 pub struct State {
     pub offset: usize,
     pub index: u64,
     pub carried: Carried,
     pub tally: Tally,
+    pub soundness: Soundness,
     pub finished: bool,
 }
 
@@ -57,20 +57,32 @@ pub struct Filled {
 }
 
 // Runs the step that a record requests, in a room with these limits, with its desk's next message number. A code outside 1 to 5 is answered
-// 17, and nothing is written.
-pub fn run_record(table: &mut [u8], limits: Limits, entry: Record) -> Reply
+// 17, and nothing is written. Precondition: this is the soundness of the table.
+pub fn run_record(table: &mut [u8], limits: Limits, soundness: Soundness, entry: Record) -> Reply
+    requires { ⌜ soundness ≡ soundnessOf (limitsOf limits) (wordsOfBytes (now table)) ⌝ }
     ensures { λ r. ⌜ Ran (limitsOf limits) (recordOf entry) (now (table .entry)) r (now (table .exit)) ⌝ }
 {
     let code = entry.code;
-    let desk = entry.desk;
-    let message = next_message(table, desk);
-    match code {
-        1 => take(table, limits, message, desk, entry.screen, entry.position),
-        2 => drop(table, limits, message, desk, entry.screen),
-        3 => swap(table, limits, message, desk, entry.position, entry.session),
-        4 => retire(table, limits, message, desk),
-        5 => collect(table, limits, message, desk),
-        0 | 6..=65535 => Reply::NoCode,
+    match soundness {
+        Soundness::Unsound => match code {
+            1..=5 => Reply::Unsound,
+            0 | 6..=65535 => Reply::NoCode,
+        },
+        Soundness::Sound(hall) => {
+            let desk = entry.desk;
+            let message = next_message(table, desk);
+            request(
+                table,
+                limits,
+                hall,
+                code,
+                message,
+                desk,
+                entry.screen,
+                entry.position,
+                entry.session,
+            )
+        }
     }
 }
 
@@ -83,6 +95,7 @@ fn finish(out: &mut [u8], at: usize, state: State) -> Filled
 {
     let carried = state.carried;
     let tally = state.tally;
+    let soundness = state.soundness;
     let end = put_end(
         out,
         at,
@@ -96,6 +109,7 @@ fn finish(out: &mut [u8], at: usize, state: State) -> Filled
             index: state.index,
             carried: carried,
             tally: tally,
+            soundness: soundness,
             finished: true,
         },
         put: end,
@@ -121,8 +135,8 @@ fn stop(out: &mut [u8], at: usize, state: State, reason: Refusal) -> Filled
 }
 
 // Runs the step of the next record and puts its line, or the line of what ends the reading. After the last record it puts the last line.
-// Precondition: the last line was not put, the record number is at most the offset, and the buffer has room for a record's line and the
-// last line.
+// Precondition: the last line was not put, the record number is at most the offset, the buffer has room for a record's line and the last
+// line, and the state's soundness is the table's.
 fn put_record(
     sheet: &[u8],
     edition: Edition,
@@ -131,9 +145,10 @@ fn put_record(
     out: &mut [u8],
     at: usize,
 ) -> Filled
-    requires { ⌜ (state .finished ≡ false) × (state .index ≤ state .offset) × (at + recordRoom ≤ length (now out)) ⌝ }
+    requires { ⌜ (state .finished ≡ false) × (state .index ≤ state .offset) × (at + recordRoom ≤ length (now out)) × (Checked edition state (now table)) ⌝ }
     ensures partial { λ r. ⌜ PartialBatch (editionOf edition) (now (sheet .entry)) state (wordsOfBytes (now (table .entry))) (now (out .entry)) at (r .state) (wordsOfBytes (now (table .exit))) (now (out .exit)) (r .put) ⌝ }
     ensures progress { λ r. ⌜ Progress (now (sheet .entry)) state (r .state) ⌝ }
+    ensures checked { λ r. ⌜ Checked edition (r .state) (now (table .exit)) ⌝ }
 {
     let offset = state.offset;
     if sheet.len() <= offset {
@@ -143,7 +158,8 @@ fn put_record(
     match read_record(sheet, offset, edition, carried) {
         ParsedRecord::Refused(reason) => stop(out, at, state, reason),
         ParsedRecord::Whole(entry, next) => {
-            let r = run_record(table, edition.format.limits, entry);
+            let soundness = state.soundness;
+            let r = run_record(table, edition.format.limits, soundness, entry);
             let reply_number = number(r);
             let reply_session = session(r);
             let end = put_line(
@@ -164,6 +180,7 @@ fn put_record(
                     index: index,
                     carried: desk,
                     tally: tally,
+                    soundness: soundness,
                     finished: false,
                 },
                 put: end,
@@ -174,7 +191,7 @@ fn put_record(
 
 // Fills the buffer with a batch: one record after another while there is room for one more line and the last line.
 // Precondition: the buffer has room for a record's line and the last line, so that each batch makes progress; the record number is at most
-// the offset, as in every state that `start` and `fill` return, so that it does not overflow.
+// the offset, so that it does not overflow, and the state's soundness is the table's, as in every state that `start` and `fill` return.
 pub fn fill(
     sheet: &[u8],
     edition: Edition,
@@ -182,8 +199,9 @@ pub fn fill(
     table: &mut [u8],
     out: &mut [u8],
 ) -> Filled
-    requires { ⌜ (state .index ≤ state .offset) × (recordRoom ≤ length (now out)) ⌝ }
-    ensures { λ r. ⌜ Batch (editionOf edition) (now (sheet .entry)) state (wordsOfBytes (now (table .entry))) (now (out .entry)) (r .state) (wordsOfBytes (now (table .exit))) (now (out .exit)) (r .put) ⌝ }
+    requires { ⌜ (state .index ≤ state .offset) × (recordRoom ≤ length (now out)) × (Checked edition state (now table)) ⌝ }
+    ensures batch { λ r. ⌜ Batch (editionOf edition) (now (sheet .entry)) state (wordsOfBytes (now (table .entry))) (now (out .entry)) (r .state) (wordsOfBytes (now (table .exit))) (now (out .exit)) (r .put) ⌝ }
+    ensures checked { λ r. ⌜ Checked edition (r .state) (now (table .exit)) ⌝ }
 {
     let mut current = state;
     let mut at = 0;
@@ -209,7 +227,8 @@ pub fn fill(
 // the last line.
 pub fn start(sheet: &[u8], edition: Edition, table: &mut [u8], out: &mut [u8]) -> Filled
     requires { ⌜ (wordsOfBytes (now table) ≡ lentTable) × (recordRoom ≤ length (now out)) ⌝ }
-    ensures { λ r. ⌜ Started (editionOf edition) (now (sheet .entry)) (now (out .entry)) (r .state) (wordsOfBytes (now (table .exit))) (now (out .exit)) (r .put) ⌝ }
+    ensures started { λ r. ⌜ Started (editionOf edition) (now (sheet .entry)) (now (out .entry)) (r .state) (wordsOfBytes (now (table .exit))) (now (out .exit)) (r .put) ⌝ }
+    ensures checked { λ r. ⌜ Checked edition (r .state) (now (table .exit)) ⌝ }
 {
     let none = Tally {
         accepted: 0,
@@ -222,6 +241,7 @@ pub fn start(sheet: &[u8], edition: Edition, table: &mut [u8], out: &mut [u8]) -
         index: 0,
         carried: no_desk,
         tally: none,
+        soundness: Soundness::Unsound,
         finished: false,
     };
     match begin_sheet(sheet, edition) {
@@ -238,6 +258,7 @@ pub fn start(sheet: &[u8], edition: Edition, table: &mut [u8], out: &mut [u8]) -
             if reply_number != 0 {
                 return stop(out, 0, header_state, refuse_with(reply_number));
             }
+            let soundness = check(table, edition.format.limits);
             let end = put_line(out, 0, 0, 0, 0, 0);
             Filled {
                 state: State {
@@ -245,6 +266,7 @@ pub fn start(sheet: &[u8], edition: Edition, table: &mut [u8], out: &mut [u8]) -
                     index: 1,
                     carried: no_desk,
                     tally: none,
+                    soundness: soundness,
                     finished: false,
                 },
                 put: end,

@@ -2,7 +2,7 @@
 use native.Mathlib.Omega.{arith}
 use mathlib.Core.Path.{_≡_, sym, ap, _∙_}
 use borrow.Author.Needs.{needs}
-use Rattle.rules.specs.Bytes.{wordsOfBytes}
+use Rattle.rules.specs.Bytes.{IsBytes, wordsOfBytes}
 use Rattle.rules.specs.Hall.{Limits}
 use Rattle.rules.specs.Numbers.{parsed}
 use Rattle.sheet_rules.specs.laws.Longest.{line-length}
@@ -10,6 +10,9 @@ use Rattle.reader.specs.Results.{editionOf, recordOf, recordResult}
 use Rattle.reader.specs.laws.Editions.{edition-lawful, edition-limits}
 use Rattle.sheet_rules.specs.Lawful.{Lawful}
 use Rattle.sheet_rules.specs.Run.{runRecord}
+use Rattle.limits.specs.Room.{limitsOf}
+use Rattle.sheet.specs.declared.State.{State}
+use Rattle.sheet.proofs.CallLaws.{still-checked}
 use Rattle.sheet.proofs.BatchLaws.{finished-progress, nextRecord, reading-stopped, record-progress, record-ran, sheet-ended}
 use Rattle.sheet.proofs.put_record.Statement.{statement}
 use Rattle.sheet.proofs.put_record.Tie as tie
@@ -34,7 +37,7 @@ returns : tie.Need-returns
 returns c =
     let start = c .before .before .before .before .before .before .before .before in
     let last = c .before .before .finish .ensures in
-    (sheet-ended (lawful start) (start .pre .0) (c .before .before .before .before .if1 .taken) (last .0) (last .1), finished-progress (last .1) (start .pre .1))
+    (sheet-ended (lawful start) (start .pre .0) (c .before .before .before .before .if1 .taken) (last .0) (last .1), (finished-progress (last .1) (start .pre .1), ap (λ (state : State). state .soundness) (last .1) ∙ start .pre .3))
 
 read-record-requires : tie.Need-read-record-requires
 read-record-requires c κs = search needs
@@ -89,7 +92,7 @@ returns-2 c =
     let start = after-read .before .before .before .before .before in
     let last = c .before .before .stop .ensures in
     let read = sym (after-read .read-record .ensures) ∙ ap recordResult (matched .reason .given .1) in
-    (reading-stopped (lawful start) (start .pre .0) (after-read .before .if1 .left) read (last .0) (last .1), finished-progress (last .1) (start .pre .1))
+    (reading-stopped (lawful start) (start .pre .0) (after-read .before .if1 .left) read (last .0) (last .1), (finished-progress (last .1) (start .pre .1), ap (λ (state : State). state .soundness) (last .1) ∙ start .pre .3))
 
 same-length-3 : tie.Need-same-length-3
 same-length-3 c = search needs
@@ -105,7 +108,8 @@ returns-3 c =
     let read = record-read after-read in
     let entry = after-read .before .entry .given .0 .0 in
     let ran-step = c .before .before .before .before .before .before .before .before .before .before .before .before .run-record in
-    (record-ran (lawful start) (start .pre .0) inside read (ran-step .result) (ran-step .ensures .words ∙ ap (λ (limits : Limits). runRecord limits (wordsOfBytes (start .args .table .now)) (recordOf entry)) (sym (edition-limits (start .args .edition)))) (c .before .before .before .before .before .before .before .before .before .number .ensures) (c .before .before .before .before .before .before .before .before .session .ensures) (c .before .add-step-lent .ensures) (c .before .before .before .before .before .put-line .ensures), record-progress (lawful start) (start .pre .0) inside read (start .pre .1))
+    let are : IsBytes (start .args .table .now) = (λ j. after-read .before .before .before .before .before .before .slice-known .given j .fits) in
+    (record-ran (lawful start) (start .pre .0) inside read (ran-step .result) (ran-step .ensures .words ∙ ap (λ (limits : Limits). runRecord limits (wordsOfBytes (start .args .table .now)) (recordOf entry)) (sym (edition-limits (start .args .edition)))) (c .before .before .before .before .before .before .before .before .before .number .ensures) (c .before .before .before .before .before .before .before .before .session .ensures) (c .before .add-step-lent .ensures) (c .before .before .before .before .before .put-line .ensures), (record-progress (lawful start) (start .pre .0) inside read (start .pre .1), still-checked (limitsOf (start .args .edition .format .limits)) (start .args .table .now) (recordOf entry) are (start .pre .3) (ran-step .ensures)))
 
 pub put-record-spec : {M : Type 1} → statement M
 put-record-spec =

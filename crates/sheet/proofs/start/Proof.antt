@@ -13,7 +13,9 @@ use Rattle.reader.specs.laws.Editions.{edition-lawful, edition-limits}
 use Rattle.sheet_rules.specs.Lawful.{Lawful}
 use Rattle.sheet_rules.specs.Sheet.{beginSheet, lentTable}
 use Rattle.sheet_rules.specs.laws.Sheet.{not-begun, reading-opens}
-use Rattle.sheet.proofs.StartLaws.{started-opened, started-refused, started-stopped}
+use Rattle.limits.specs.Room.{limitsOf}
+use Rattle.sheet.specs.declared.State.{State}
+use Rattle.sheet.proofs.StartLaws.{lent-unsound, refused-leaves, started-opened, started-refused, started-stopped}
 use Rattle.sheet.proofs.start.Statement.{statement}
 use Rattle.sheet.proofs.start.Tie as tie
 
@@ -72,10 +74,17 @@ returns : tie.Need-returns
 returns c =
     let last = c .before .before .stop2 .ensures in
     let after-number = c .before .before .before .before .before .before in
-    started-refused (after-number .before .before .before .«open» .result) (header-read (after-number .before .before .before .before .before)) (opening after-number) (after-number .number .ensures) (c .before .before .before .before .before .if1 .taken) (c .before .before .before .refuse-with .ensures) (last .0) (last .1)
+    let start = after-number .before .before .before .before .before .before .before .before .before .before .before .before in
+    let replied = after-number .before .before .before .«open» .result in
+    let read = header-read (after-number .before .before .before .before .before) in
+    let refused = c .before .before .before .before .before .if1 .taken in
+    (started-refused replied read (opening after-number) (after-number .number .ensures) refused (c .before .before .before .refuse-with .ensures) (last .0) (last .1), ap (λ (state : State). state .soundness) (last .1) ∙ lent-unsound (limitsOf (start .args .edition .format .limits)) (refused-leaves _ _ replied _ (opening after-number) (after-number .number .ensures) refused))
+
+check-requires : tie.Need-check-requires
+check-requires c κs = search needs
 
 put-line-requires : tie.Need-put-line-requires
-put-line-requires c κs = omega (arith, line-length 0 0 0 0, c .before .before .before .before .before .before .before .before .before .before .before .before .before .before .pre .1)
+put-line-requires c κs = omega (arith, line-length 0 0 0 0, c .before .before .before .before .before .before .before .before .before .before .before .before .before .before .before .before .pre .1)
 
 same-length-3 : tie.Need-same-length-3
 same-length-3 c = search needs
@@ -88,7 +97,7 @@ returns-2 c =
     let last = c .before .before .stop .ensures in
     let read = sym (after-read .begin-sheet .ensures) ∙ ap headerResult (matched .reason .given .1) in
     let edition = editionOf (start .args .edition) in
-    started-stopped (reading-opens edition (start .args .sheet .now) (not-begun edition (start .args .sheet .now) read)) (start .pre .0) (last .0) (last .1)
+    (started-stopped (reading-opens edition (start .args .sheet .now) (not-begun edition (start .args .sheet .now) read)) (start .pre .0) (last .0) (last .1), ap (λ (state : State). state .soundness) (last .1) ∙ lent-unsound (limitsOf (start .args .edition .format .limits)) (start .pre .0))
 
 same-length-4 : tie.Need-same-length-4
 same-length-4 c = search needs
@@ -98,9 +107,10 @@ same-length-5 c = search needs
 
 returns-3 : tie.Need-returns-3
 returns-3 c =
-    let after-number = c .before .before .before .before .before in
-    started-opened (after-number .before .before .before .«open» .result) (header-read (after-number .before .before .before .before .before)) (opening after-number) (after-number .number .ensures) (lawful (after-number .before .before .before .before .before .before .before .before .before .before .before .before)) (c .before .before .before .before .if1 .left) (c .before .before .put-line .ensures)
+    let after-check = c .before .before .before .before in let after-number = after-check .before .before .before in
+    let start = after-number .before .before .before .before .before .before .before .before .before .before .before .before in
+    (started-opened (after-number .before .before .before .«open» .result) (header-read (after-number .before .before .before .before .before)) (opening after-number) (after-number .number .ensures) (after-check .check .result) (lawful start) (after-check .before .before .if1 .left) (c .before .before .put-line .ensures), after-check .check .ensures)
 
 pub start-spec : {M : Type 1} → statement M
 start-spec =
-    tie.close (tie.spec begin-sheet-requires enum-known-reason stop-requires enum-known-header open-requires number-requires refuse-with-requires stop-requires-2 same-length same-length-2 returns put-line-requires same-length-3 returns-2 same-length-4 same-length-5 returns-3)
+    tie.close (tie.spec begin-sheet-requires enum-known-reason stop-requires enum-known-header open-requires number-requires refuse-with-requires stop-requires-2 same-length same-length-2 returns check-requires put-line-requires same-length-3 returns-2 same-length-4 same-length-5 returns-3)
