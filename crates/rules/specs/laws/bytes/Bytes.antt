@@ -36,7 +36,7 @@ words-are-16 (low ∷ []) h i = omega arith
 words-are-16 (low ∷ high ∷ bytes) h zero = omega (arith, h 0, h 1)
 words-are-16 (low ∷ high ∷ bytes) h (suc i) = words-are-16 bytes (λ j. h (suc (suc j))) i
 
-bytes-are-bytes : (words : List ℕ) → IsBytes (bytesOfWords words)
+pub bytes-are-bytes : (words : List ℕ) → IsBytes (bytesOfWords words)
 bytes-are-bytes [] j = omega arith
 bytes-are-bytes (word ∷ words) zero = omega arith
 bytes-are-bytes (word ∷ words) (suc zero) = omega arith
