@@ -1,6 +1,6 @@
 /*
  * A small host: one hall of 2 desks with 1 screen each, and 2 crane positions;
- * at the end, a training room.
+ * at the end, the whole shift again in one call, and a training room.
  *
  *     gcc -Iinclude examples/host.c build/libsession_board.a -o build/host_example
  *
@@ -13,13 +13,17 @@
  *
  * It also shows what message numbers are for. A desk's link may deliver a message
  * twice; the board does it once, and no session is lost.
+ *
+ * The host keeps a log of its steps. Replayed on a fresh table, the log gives the
+ * same replies and the same table.
  */
 #include "session_board.h"
 
 #include <stdio.h>
 #include <stdlib.h>
+#include <string.h>
 
-enum { DESKS = 2, SCREENS = 1, POSITIONS = 2 };
+enum { DESKS = 2, SCREENS = 1, POSITIONS = 2, MAX_STEPS = 100 };
 
 /* The host lends the board its memory. The board has none of its own, so this
  * table is the whole state of the hall. The size of the largest hall is always
@@ -29,6 +33,11 @@ static uint8_t table[BOARD_MAX_BYTES];
 /* The number that each desk's next message has. A desk counts only the messages that
  * were accepted; after 65535 comes 0. The opening sets the board's numbers to 0. */
 static uint16_t next_message[BOARD_MAX_DESKS + 1];
+
+/* The log: the words of each step, as board_run reads them, and of its reply. On
+ * x86-64 these arrays have the low byte of each word first. */
+static uint16_t steps[MAX_STEPS][BOARD_STEP_WORDS], replies[MAX_STEPS][BOARD_REPLY_WORDS];
+static size_t logged;
 
 /* The text of each refusal, for an operator. */
 static const char *reason(uint16_t number)
@@ -48,6 +57,7 @@ static const char *reason(uint16_t number)
     case BOARD_OWING: return "the desk must first retire the session it owes";
     case BOARD_OWES_NOTHING: return "the desk owes no session";
     case BOARD_NO_ROOM: return "the desk's list is full; it must collect first";
+    case BOARD_NO_CODE: return "no step has this code";
     case BOARD_OVER_LIMITS: return "a training room has 4 desks, 1 screen each, sessions to 999";
     case BOARD_OTHER_MESSAGE: return "the number is not that of the desk's next message";
     default: return "not a number of this board";
@@ -76,10 +86,26 @@ static int done(uint16_t desk, uint32_t answer)
     return 1;
 }
 
+/* Logs a step and its answer. Words that the step's code lacks may hold anything, so
+ * they are 0 here. */
+static void log_step(enum board_code code, uint16_t message, uint16_t desk, uint16_t screen, uint16_t position,
+                     uint16_t session, uint32_t answer)
+{
+    const uint16_t step[] = {code, message, desk, screen, position, session};
+    const uint16_t reply[] = {board_number(answer), board_session(answer)};
+    if (logged == MAX_STEPS)
+        exit(EXIT_FAILURE);
+    memcpy(steps[logged], step, sizeof step);
+    memcpy(replies[logged], reply, sizeof reply);
+    logged++;
+}
+
 static void take(uint16_t desk, uint16_t screen, uint16_t position)
 {
     printf("desk %u takes position %u: ", (unsigned)desk, (unsigned)position);
-    uint32_t answer = board_take(next_message[desk], desk, screen, position, table, sizeof table);
+    uint16_t message = next_message[desk];
+    uint32_t answer = board_take(message, desk, screen, position, table, sizeof table);
+    log_step(BOARD_TAKE, message, desk, screen, position, 0, answer);
     if (done(desk, answer))
         printf("its screen shows session %u\n", (unsigned)board_session(answer));
 }
@@ -87,7 +113,9 @@ static void take(uint16_t desk, uint16_t screen, uint16_t position)
 static void drop(uint16_t desk, uint16_t screen)
 {
     printf("desk %u drops its screen: ", (unsigned)desk);
-    uint32_t answer = board_drop(next_message[desk], desk, screen, table, sizeof table);
+    uint16_t message = next_message[desk];
+    uint32_t answer = board_drop(message, desk, screen, table, sizeof table);
+    log_step(BOARD_DROP, message, desk, screen, 0, 0, answer);
     if (done(desk, answer))
         printf("it no longer shows session %u\n", (unsigned)board_session(answer));
 }
@@ -99,7 +127,9 @@ static void replace(uint16_t desk, uint16_t position, uint16_t session)
 {
     printf("desk %u puts session %u at position %u: ", (unsigned)desk, (unsigned)session,
            (unsigned)position);
-    uint32_t answer = board_swap(next_message[desk], desk, position, session, table, sizeof table);
+    uint16_t message = next_message[desk];
+    uint32_t answer = board_swap(message, desk, position, session, table, sizeof table);
+    log_step(BOARD_SWAP, message, desk, 0, position, session, answer);
     if (!done(desk, answer))
         return;
     uint16_t old = board_session(answer);
@@ -112,7 +142,9 @@ static void replace(uint16_t desk, uint16_t position, uint16_t session)
         return;
     }
     printf("session %u is replaced, ", (unsigned)old);
-    answer = board_retire(next_message[desk], desk, table, sizeof table);
+    message = next_message[desk];
+    answer = board_retire(message, desk, table, sizeof table);
+    log_step(BOARD_RETIRE, message, desk, 0, 0, 0, answer);
     if (done(desk, answer))
         printf("and retired\n");
 }
@@ -124,7 +156,9 @@ static void replace(uint16_t desk, uint16_t position, uint16_t session)
 static uint16_t collect(uint16_t desk)
 {
     printf("desk %u collects: ", (unsigned)desk);
-    uint32_t answer = board_collect(next_message[desk], desk, table, sizeof table);
+    uint16_t message = next_message[desk];
+    uint32_t answer = board_collect(message, desk, table, sizeof table);
+    log_step(BOARD_COLLECT, message, desk, 0, 0, 0, answer);
     if (!done(desk, answer))
         return 0;
     uint16_t session = board_session(answer);
@@ -144,11 +178,33 @@ static int delivered_again(uint16_t desk)
     uint16_t message = (uint16_t)(next_message[desk] - 1);
     printf("the same message of desk %u arrives again: ", (unsigned)desk);
     uint32_t answer = board_collect(message, desk, table, sizeof table);
+    log_step(BOARD_COLLECT, message, desk, 0, 0, 0, answer);
     return !accepted(answer) && board_number(answer) == BOARD_OTHER_MESSAGE;
 }
 
+/* Replays the log on a fresh table. The run checks the table once, so this is faster
+ * than single calls. It is accepted even if some of its steps are refused: each has
+ * a reply of its own. */
+static int replay(void)
+{
+    static uint8_t fresh[BOARD_MAX_BYTES];
+    static uint16_t again[MAX_STEPS][BOARD_REPLY_WORDS];
+    if (!accepted(board_open(DESKS, SCREENS, POSITIONS, fresh, sizeof fresh)) ||
+        !accepted(board_run((const uint8_t *)steps, logged * sizeof *steps, (uint8_t *)again, logged * sizeof *again,
+                            fresh, sizeof fresh)))
+        return 0;
+    for (size_t i = 0; i < logged; i++)
+        if (again[i][0] != BOARD_ACCEPTED)
+            printf("step %zu, of desk %u, is refused (%u): %s\n", i + 1, (unsigned)steps[i][2], (unsigned)again[i][0],
+                   reason(again[i][0]));
+    if (memcmp(again, replies, logged * sizeof *again) != 0 || memcmp(fresh, table, sizeof table) != 0)
+        return 0;
+    printf("%zu steps: the same replies, and the same table\n", logged);
+    return 1;
+}
+
 /* A training room has the same calls, named training_ instead of board_, and
- * smaller limits. It gets a table of its own. */
+ * smaller limits; only board_run is for the hall alone. It gets a table of its own. */
 static int lesson(void)
 {
     static uint8_t room[BOARD_MAX_BYTES];
@@ -206,6 +262,10 @@ int main(void)
 
     printf("\nThe day goes on with the new sessions.\n");
     take(2, 1, 1);
+
+    printf("\nThe shift is replayed from the log, in one call.\n");
+    if (!replay())
+        return EXIT_FAILURE;
 
     printf("\nIn a training room, sessions are at most %d.\n", TRAINING_MAX_SESSION);
     return lesson() ? EXIT_SUCCESS : EXIT_FAILURE;

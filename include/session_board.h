@@ -1,7 +1,8 @@
 /*
  * The session board: six calls on a table that the host lends, for the hall
  * (board_open to board_collect) and for a training room (training_open to
- * training_collect, at the end of this file).
+ * training_collect, at the end of this file). In the hall one more call does a
+ * whole run of steps (board_run).
  *
  * The table is bytes, two to a 16-bit word, low byte first; its length is given
  * in bytes. It may be at any address. A call reads the words up to the need of
@@ -19,12 +20,12 @@
  * valid result.
  *
  * Message numbers: every call but an opening carries a number, so that a message
- * that is delivered twice is done once. The table has for each desk its message
- * number, which its next call must carry: 0 after an opening, and one more after
- * each accepted call of the desk, from 65535 on to 0. A repeat (see board_swap)
- * and a collect that hands nothing back are accepted calls like any other; a
- * refused call leaves the number as it is. A call with another number is refused
- * (23).
+ * that is delivered twice is done once. In a run each step carries one, and
+ * counts as a call here. The table has for each desk its message number, which
+ * its next call must carry: 0 after an opening, and one more after each accepted
+ * call of the desk, from 65535 on to 0. A repeat (see board_swap) and a collect
+ * that hands nothing back are accepted calls like any other; a refused call
+ * leaves the number as it is. A call with another number is refused (23).
  *
  * Sending again: a desk sends one message at a time, and sends it again with the
  * same number until an answer arrives. If it is accepted, the next message has
@@ -71,10 +72,10 @@
  * one word is enough).
  *
  * The board keeps nothing between calls: the table is the whole state of the
- * hall. It uses no memory but the table and less than 1 KB of stack. Its code has
- * no divide instruction, and calls only memcpy, memmove and memset of the C
- * library. Make one call at a time on a table. Link with libsession_board.a,
- * which is for x86-64.
+ * hall. It uses no memory but the tables that it is lent and less than 1 KB of
+ * stack, however long a run is. Its code has no divide instruction, and calls
+ * only memcpy, memmove and memset of the C library. Make one call at a time on a
+ * table. Link with libsession_board.a, which is for x86-64.
  */
 #ifndef SESSION_BOARD_H
 #define SESSION_BOARD_H
@@ -93,6 +94,9 @@ extern "C" {
 #define BOARD_MAX_WORDS 2403 /* the need of the largest hall */
 #define BOARD_MAX_BYTES (2 * BOARD_MAX_WORDS)
 
+#define BOARD_STEP_WORDS 6  /* of a step in a run */
+#define BOARD_REPLY_WORDS 2 /* of its reply */
+
 #define TRAINING_MAX_DESKS 4
 #define TRAINING_MAX_SCREENS 1 /* of one desk */
 #define TRAINING_MAX_SESSION 999
@@ -105,7 +109,9 @@ enum board_reply {
     BOARD_BAD_DESKS = 1,       /* are the desks 1 to 16? */
     BOARD_BAD_SCREENS = 2,     /* are the screens of a desk 1 to 4? */
     BOARD_BAD_POSITIONS = 3,   /* are the positions 1 to 64? */
-    BOARD_TABLE_SHORT = 4,     /* is the table at least as long as the need? */
+    BOARD_TABLE_SHORT = 4,     /* is the table at least as long as the need? Of a
+                                  run: has the reply table two words for each
+                                  step? */
     BOARD_UNSOUND = 5,         /* is the table sound? After an opening it is,
                                   unless the host truncates or changes it. */
     BOARD_NO_DESK = 6,         /* does the hall have this desk? */
@@ -118,10 +124,21 @@ enum board_reply {
     BOARD_OWES_NOTHING = 13,   /* does the desk owe a session? */
     BOARD_NO_ROOM = 14,        /* are fewer than 2S places of its list used?
                                   S is the number of the hall's screens. */
+    BOARD_NO_CODE = 17,        /* is the code of the step 1 to 5? Only a step of
+                                  a run is answered 17. */
     BOARD_OVER_LIMITS = 22,    /* are the desks and the screens, or the session,
                                   within the limits of the training room? No
                                   call of the hall is answered 22. */
     BOARD_OTHER_MESSAGE = 23   /* does the call carry the desk's message number? */
+};
+
+/* The codes of the steps in a run. */
+enum board_code {
+    BOARD_TAKE = 1,
+    BOARD_DROP = 2,
+    BOARD_SWAP = 3,
+    BOARD_RETIRE = 4,
+    BOARD_COLLECT = 5
 };
 
 /* The need of a hall within the limits, in words: lend twice as many bytes. */
@@ -189,13 +206,43 @@ uint32_t board_retire(uint16_t message, uint16_t desk, uint8_t *table, size_t by
  * of screens read, counts, marks, list and message number. */
 uint32_t board_collect(uint16_t message, uint16_t desk, uint8_t *table, size_t bytes);
 
+/* Does a run of steps of any kinds, for example those of a whole shift, each as
+ * the call of its code would. The replies and the bytes of the table are those of
+ * single calls one after another. But the table is checked for soundness once
+ * for the run, not at each step.
+ *
+ * A step is six words: its code (enum board_code), message number, desk, screen,
+ * position and session. Words that the call of its code does not have are
+ * ignored. A reply is two words: reply number and session. Steps and replies are
+ * bytes as in the table: two to a word, low byte first, at any address. On x86-64
+ * an array of uint16_t has this form. At the end of the steps, fewer than six
+ * words and an odd last byte are no step.
+ *
+ * Asks 4, 5, once for the run, and also if it has no steps. A refused run does no
+ * step and writes nothing. An accepted run answers 0 with session 0, whatever its
+ * steps reply: read the replies, one for each step in the same order. A reply has
+ * the number and the session of the answer that the single call would get. A step
+ * with a code outside 1 to 5 replies 17 with session 0, and is asked nothing
+ * else. No step replies 5. A refused step, 17 included, writes its reply and
+ * nothing else, so that the message number stays due; the run goes on.
+ *
+ * Writes two words of the replies for each step, and the words of the table that
+ * the accepted steps write. The steps are only read. What is past the last whole
+ * step, and past the last reply of the run, is never accessed.
+ *
+ * No two of the three tables may overlap. None may be used by anyone else during
+ * the call, except that others may read the steps. Each may be NULL only if its
+ * length is 0. */
+uint32_t board_run(const uint8_t *steps, size_t step_bytes, uint8_t *replies, size_t reply_bytes,
+                   uint8_t *table, size_t bytes);
+
 /*
  * The training room: at most 4 desks with 1 screen each, and sessions up to 999.
  * Its positions are 1 to 64, as in the hall.
  *
- * Its tables have the layout of the hall's. Each call has the parameters of its
- * counterpart, asks the same questions, replies the same and writes the same
- * words, except for these:
+ * Its tables have the layout of the hall's, and board_run has no counterpart.
+ * Each call has the parameters of its counterpart, asks the same questions,
+ * replies the same and writes the same words, except for these:
  *
  * training_open asks 1, 2, 3, 22, 4. 1, 2 and 3 are asked as in the hall, and 22
  * refuses more than 4 desks or more than 1 screen: 5 desks with 5 screens get 2,

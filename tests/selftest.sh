@@ -7,8 +7,8 @@
 #     KIND       what must catch them     the wrong ones
 #     boards     compare, and vectors     wrong/boards: patches of the reference, which replaces the archive
 #                if wrong about repeats,
-#                the training room or
-#                message numbers
+#                the training room,
+#                message numbers or runs
 #     programs   sheets or converted,     wrong/programs: patches of the reference, which replaces the programs that the
 #                and sheet_vectors        name says (`replaced`)
 #     stores     stores and host_test     wrong/stores.c: right answers, but a store outside the call's footprint
@@ -48,7 +48,8 @@ build() {
 patched() {
     rm -rf "$work/tests"
     mkdir -p "$work/tests/fuzz"
-    for crate in reference fake_archive fuzz/reference_in_c; do
+    ln -sfn "$root/include" "$work/include"
+    for crate in reference fake_archive archive compare fuzz/reference_in_c; do
         mkdir "$work/tests/$crate"
         (cd "$tests/$crate" && tar -cf - --exclude=target .) | tar -xmf - -C "$work/tests/$crate"
     done
@@ -86,15 +87,27 @@ vectors() {
     timeout 120 "$work/compare/release/vectors" "$tests"/vectors/*-calls.txt >"$work/out.vectors" 2>&1
 }
 
-# No published call is an accepted swap between sessions that share only their low byte.
-unseen_by_vectors=repeat-of-one-byte
+# No published call is an accepted swap between sessions that share only their low byte, or a run of 256 steps, or has
+# a code outside 1 to 5 with the low byte of a step's.
+unseen_by_vectors="repeat-of-one-byte run-length-of-one-byte run-code-of-one-byte"
 
-# caught_by_vectors NAME: the published calls must catch a board that is wrong about repeats, the training room or
-# message numbers.
+# caught_by_vectors NAME: the published calls must catch a board that is wrong about repeats, the training room,
+# message numbers or runs.
 caught_by_vectors() {
-    grep -q -e '^Case: repeats ' -e '^Case: training_room ' -e '^Case: message_numbers ' \
-        "$tests/wrong/boards/$1.patch" && [ "$1" != "$unseen_by_vectors" ] || return 0
+    grep -q -e '^Case: repeats ' -e '^Case: training_room ' -e '^Case: message_numbers ' -e '^Case: runs ' \
+        "$tests/wrong/boards/$1.patch" && ! is_one_of "$1" "$unseen_by_vectors" || return 0
     if vectors; then fail "$1: not caught by vectors"; fi
+}
+
+# Wrong boards that differ from their own single calls: the answer, the replies, the table.
+differ_from_single_calls="run-answers-its-length run-clears-the-replies run-moves-the-number-of-17"
+
+# caught_singly NAME: such a board is caught where the reference of the comparison is wrong too.
+caught_singly() {
+    is_one_of "$1" "$differ_from_single_calls" || return 0
+    SESSION_BOARD_LIB=$work/wrong/release build "$work/tests/compare" both_wrong
+    if timeout 120 "$work/both_wrong/release/compare" >"$work/out.singly" 2>&1; then fail "$1: not caught singly"; fi
+    grep -q '^  single calls ' "$work/out.singly" || fail "$1: not caught by single calls"
 }
 
 # The last match of the first pattern, or else of the second: after a crash only
@@ -126,6 +139,7 @@ boards_wrong() {
     grep -q '^Case: ' "$tests/wrong/boards/$1.patch" || fail "$1: the patch names no case"
     case_fails boards "$1"
     caught_by_vectors "$1"
+    caught_singly "$1"
     echo "$1: caught, $(last_match 's/^smallest case so far: //p' 's/^crash.*/crash/p')"
 }
 
@@ -313,6 +327,8 @@ fuzz_boards_and_reference="opening-clears-all opening-clears-odd-byte refused-sw
 fuzz_boards_and_reference="$fuzz_boards_and_reference message-of-one-byte message-left-by-an-opening"
 fuzz_boards_and_reference="$fuzz_boards_and_reference message-moved-by-a-refused-call message-not-moved-by-a-repeat"
 fuzz_boards_and_reference="$fuzz_boards_and_reference message-of-every-desk-moved message-first-in-the-record"
+fuzz_boards_and_reference="$fuzz_boards_and_reference run-moves-the-number-of-17 run-soundness-asked-first"
+fuzz_boards_and_reference="$fuzz_boards_and_reference run-clears-the-odd-byte run-part-of-a-step-done"
 fuzz_programs="reads-once two-groups stops-at-refusal counts-exchanged offset-of-the-failing-byte"
 fuzz_programs="$fuzz_programs padded-zero-only shorten-keeps-padded-fields shorten-offset-without-zero-groups"
 fuzz_programs="$fuzz_programs edition-2-desk-of-an-accepted-record edition-2-edition-asked-after-both"

@@ -4,7 +4,8 @@
 
 #include "session_board.h"
 
-/* Each room has all six functions, under names of its own. */
+/* Each room has all six functions, under names of its own. The value of a step is
+ * its code in a run. */
 enum room { HALL, TRAINING, ROOMS };
 enum function { OPEN, TAKE, DROP, SWAP, RETIRE, COLLECT, FUNCTIONS };
 

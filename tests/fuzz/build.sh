@@ -47,5 +47,5 @@ harness() {
         "$expected" -o "$out/$name"
 }
 cd "$fuzz"
-harness fuzz_calls fuzz_calls.c tally.c ../c/calls.c ../c/guarded_memory.c ../c/layout.c "$out/board.o"
+harness fuzz_calls fuzz_calls.c tally.c ../c/*.c "$out/board.o"
 harness fuzz_sheets fuzz_sheets.c

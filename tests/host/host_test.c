@@ -13,10 +13,14 @@
  *
  * A step carries the message number that is due from its desk, if nothing else is
  * said. All of it is done in the hall and in the training room.
+ *
+ * Each step of the hall is also made as a run of one step. The steps of a run are
+ * always on read-only pages.
  */
 #define _DEFAULT_SOURCE
 #include "guarded_memory.h"
 #include "layout.h"
+#include "runs.h"
 
 #include <setjmp.h>
 #include <signal.h>
@@ -53,6 +57,32 @@ static void end(void)
     printf("%s: %lu checks\n", group, checks - checks_before);
 }
 
+/* ---- random numbers -------------------------------------------------- */
+
+static uint32_t random_state = 1;
+
+static uint16_t random_word(void)
+{
+    random_state = random_state * 1664525u + 1013904223u;
+    return (uint16_t)(random_state >> 16);
+}
+
+static uint8_t random_byte(void)
+{
+    return (uint8_t)(random_word() >> 8);
+}
+
+static bool one_in(unsigned many)
+{
+    return random_word() % many == 0;
+}
+
+/* A number from 1 to this one. */
+static uint16_t random_up_to(uint16_t last)
+{
+    return (uint16_t)(1 + random_word() % last);
+}
+
 /* ---- the room -------------------------------------------------------- */
 
 /* That of the calls, and its limits. */
@@ -65,6 +95,85 @@ static void enter(enum room which)
     limits = &limits_of[which];
 }
 
+/* ---- the lent table -------------------------------------------------- */
+
+enum { SPARE = 3 };
+
+static struct guarded_memory lent;
+static size_t writable;     /* bytes of the table that the board may write; the rest is guarded */
+static size_t bytes_passed; /* the length passed to the board */
+
+static struct guarded_memory lent_steps, lent_replies; /* for a run */
+
+static uint8_t before[BOARD_MAX_BYTES + SPARE];
+
+static void lend(int place, size_t bytes)
+{
+    place_table(&lent, (unsigned)place, bytes);
+    writable = bytes;
+    bytes_passed = bytes;
+}
+
+/* ---- read-only pages ------------------------------------------------- */
+
+/* Enough for a table, or for the replies of a short run, on either side of the
+ * boundary in the middle. */
+enum { TABLE_PAGES = 4, REPLY_PAGES = 2, MAX_REPORTS = 2 /* of each call */ };
+
+struct strip {
+    uint8_t *start;
+    size_t length;
+    const uint8_t *guards;
+};
+
+static size_t page;
+static struct strip table_strip, reply_strip;
+static bool read_only; /* is each call made again on read-only pages? */
+
+static struct strip make_strip(size_t pages)
+{
+    size_t length = pages * page;
+    return (struct strip){map_between_guard_pages(length), length, guard_bytes(length)};
+}
+
+static void protect(uint8_t *start, size_t length, bool writable)
+{
+    if (mprotect(start, length, writable ? PROT_READ | PROT_WRITE : PROT_READ) != 0) {
+        perror("host_test: mprotect");
+        exit(2);
+    }
+}
+
+/* Restores all guard bytes. Returns where to put bytes that have a page boundary
+ * before this one of them, which may be one outside of them. */
+static uint8_t *clear_strip(const struct strip *strip, long edge)
+{
+    protect(strip->start, strip->length, true);
+    memcpy(strip->start, strip->guards, strip->length);
+    return strip->start + (long)(strip->length / 2) - edge;
+}
+
+/* A page stays writable if a byte of the ranges is on it, for bytes at this
+ * address. */
+static void protect_all_but(const struct strip *strip, const uint8_t *at, const struct range *ranges, size_t count)
+{
+    for (uint8_t *start = strip->start; start < strip->start + strip->length; start += page) {
+        bool written = false;
+        for (size_t i = 0; i < count; i++)
+            written = written || (at + ranges[i].first < start + page && at + ranges[i].past > start);
+        if (!written)
+            protect(start, page, false);
+    }
+}
+
+/* Are all bytes but these still guard bytes? */
+static bool strip_intact(const struct strip *strip, const uint8_t *at, size_t count)
+{
+    size_t first = (size_t)(at - strip->start), past = first + count;
+    return memcmp(strip->start, strip->guards, first) == 0 &&
+           memcmp(strip->start + past, strip->guards + past, strip->length - past) == 0;
+}
+
 /* ---- signals --------------------------------------------------------- */
 
 /* While a call runs on read-only pages: where to continue after a store to one. */
@@ -72,10 +181,22 @@ static sigjmp_buf after_store;
 static volatile sig_atomic_t store_expected;
 static uint8_t *volatile stored_to;
 
+static bool is_in(const uint8_t *address, const uint8_t *start, size_t length)
+{
+    return start <= address && address < start + length;
+}
+
+static bool may_be_read_only(const uint8_t *address)
+{
+    return is_in(address, table_strip.start, table_strip.length) ||
+           is_in(address, reply_strip.start, reply_strip.length) ||
+           is_in(address, lent_steps.start, lent_steps.length);
+}
+
 static void on_signal(int number, siginfo_t *info, void *context)
 {
     (void)context;
-    if (store_expected && number == SIGSEGV) {
+    if (store_expected && number == SIGSEGV && may_be_read_only(info->si_addr)) {
         stored_to = info->si_addr;
         siglongjmp(after_store, 1);
     }
@@ -93,62 +214,11 @@ static void catch_signals(void)
     sigaction(SIGABRT, &action, NULL);
 }
 
-/* ---- the lent table -------------------------------------------------- */
+/* ---- single calls on read-only pages --------------------------------- */
 
-enum { SPARE = 3 };
-
-static struct guarded_memory lent;
-static size_t writable;     /* bytes of the table that the board may write; the rest is guarded */
-static size_t bytes_passed; /* the length passed to the board */
-
-static uint8_t before[BOARD_MAX_BYTES + SPARE];
-
-static void lend(int place, size_t bytes)
-{
-    place_table(&lent, (unsigned)place, bytes);
-    writable = bytes;
-    bytes_passed = bytes;
-}
-
-/* ---- read-only pages ------------------------------------------------- */
-
-/* Enough for a table on either side of the boundary in the middle. */
-enum { STRIP_PAGES = 4, MAX_REPORTS = 2 /* of each call */ };
-
-static size_t page;
-static uint8_t *strip, *strip_guards;
-static bool read_only; /* is each call made again on read-only pages? */
 static unsigned long stray_stores[ROOMS][FUNCTIONS];
 
-static void make_strip(void)
-{
-    page = (size_t)sysconf(_SC_PAGESIZE);
-    strip = map_between_guard_pages(STRIP_PAGES * page);
-    strip_guards = guard_bytes(STRIP_PAGES * page);
-}
-
-static void protect(size_t which, bool writable)
-{
-    if (mprotect(strip + which * page, page, writable ? PROT_READ | PROT_WRITE : PROT_READ) != 0) {
-        perror("host_test: mprotect");
-        exit(2);
-    }
-}
-
-/* A page is writable if a byte of the footprint is on it, for a table at this
- * offset. */
-static void protect_all_but(const struct footprint *footprint, size_t table)
-{
-    for (size_t which = 0; which < STRIP_PAGES; which++) {
-        bool written = false;
-        for (size_t i = 0; i < footprint->count; i++)
-            written = written || (table + footprint->ranges[i].first < (which + 1) * page &&
-                                  table + footprint->ranges[i].past > which * page);
-        protect(which, written);
-    }
-}
-
-static void report_stray(const struct call *call, size_t table, long edge)
+static void report_stray(const struct call *call, const uint8_t *table, long edge)
 {
     checks++;
     failed++;
@@ -159,33 +229,26 @@ static void report_stray(const struct call *call, size_t table, long edge)
     printf(", hall %u %u %u: a store to byte %ld of the table, on a page with no word of the footprint "
            "(table at offset %zu of a page, page boundary before byte %ld)\n",
            read_word(before, 0), read_word(before, 1), read_word(before, 2),
-           (long)(stored_to - strip) - (long)table, table % page, edge);
+           (long)(stored_to - table), (size_t)(table - table_strip.start) % page, edge);
 }
 
-/* Makes the call again with a page boundary before this byte of its table, which
- * may be one outside of it. */
+/* Makes the call again with a page boundary before this byte of its table. */
 static void again_at(const struct call *call, uint32_t answer, const struct footprint *footprint, long edge)
 {
-    size_t table = (size_t)((long)(STRIP_PAGES / 2 * page) - edge);
-    for (size_t which = 0; which < STRIP_PAGES; which++)
-        protect(which, true);
-    memcpy(strip, strip_guards, STRIP_PAGES * page);
-    memcpy(strip + table, before, lent.bytes);
-    protect_all_but(footprint, table);
+    uint8_t *table = clear_strip(&table_strip, edge);
+    memcpy(table, before, lent.bytes);
+    protect_all_but(&table_strip, table, footprint->ranges, footprint->count);
     if (sigsetjmp(after_store, 1) != 0) {
         store_expected = false;
         report_stray(call, table, edge);
         return;
     }
     store_expected = true;
-    uint32_t same = send_call(call, strip + table, bytes_passed);
+    uint32_t same = send_call(call, table, bytes_passed);
     store_expected = false;
     check(same == answer, "the same answer on read-only pages");
-    check(memcmp(strip + table, lent.table, lent.bytes) == 0, "the same table on read-only pages");
-    check(memcmp(strip, strip_guards, table) == 0, "nothing written before the table");
-    size_t past = table + lent.bytes;
-    check(memcmp(strip + past, strip_guards + past, STRIP_PAGES * page - past) == 0,
-          "nothing written behind the table");
+    check(memcmp(table, lent.table, lent.bytes) == 0, "the same table on read-only pages");
+    check(strip_intact(&table_strip, table, lent.bytes), "nothing written around the table");
 }
 
 /* Makes the call again with a page boundary just before and just behind each
@@ -200,6 +263,154 @@ static void again_on_read_only_pages(const struct call *call, uint32_t answer, c
         }
     for (long by = 0; by < 8 && footprint->count == 0; by++)
         again_at(call, answer, footprint, (long)lent.bytes / 2 + by);
+}
+
+/* ---- runs, checked --------------------------------------------------- */
+
+static struct run run;
+
+/* The lengths passed to the board. Beyond what is lent they reach the inaccessible
+ * page after it. */
+static size_t step_bytes, reply_bytes;
+static size_t steps_out_of_reach, replies_out_of_reach;
+
+static unsigned long runs, stray_run_stores;
+
+static uint32_t refusal(enum board_reply number)
+{
+    return (uint32_t)number << 16;
+}
+
+/* Lends the steps with so many left-over bytes behind them, read-only, and room for
+ * so many bytes of replies. Each run has them at other places. */
+static void lend_run(size_t left_over, size_t reply_room)
+{
+    bool at_end = steps_out_of_reach != 0 || replies_out_of_reach != 0;
+    protect(lent_steps.start, lent_steps.length, true);
+    place_table(&lent_steps, at_end ? AT_END : runs % PLACES, run.count * STEP_BYTES + left_over);
+    place_table(&lent_replies, at_end ? AT_END : runs / PLACES % PLACES, reply_room);
+    for (size_t i = 0; i < run.count; i++)
+        write_step(lent_steps.table, i, &run.steps[i]);
+    protect(lent_steps.start, lent_steps.length, false);
+    step_bytes = lent_steps.bytes + steps_out_of_reach;
+    reply_bytes = lent_replies.bytes + replies_out_of_reach;
+    runs++;
+}
+
+static void report_stray_run(const uint8_t *replies, const uint8_t *table)
+{
+    const uint8_t *stored_in = table;
+    const char *name = "table";
+    checks++;
+    failed++;
+    if (is_in(stored_to, lent_steps.start, lent_steps.length))
+        stored_in = lent_steps.table, name = "steps";
+    else if (is_in(stored_to, reply_strip.start, reply_strip.length))
+        stored_in = replies, name = "replies";
+    if (stray_run_stores++ < MAX_REPORTS)
+        printf("FAILED in %s: board_run of %zu steps, hall %u %u %u: a store to byte %ld of the %s, on a page with no "
+               "word of the footprint\n", group, run.count, read_word(before, 0), read_word(before, 1),
+               read_word(before, 2), (long)(stored_to - stored_in), name);
+}
+
+/* Sends the run. Returns false after a store to a read-only page. */
+static bool attempt_run(uint8_t *replies, uint8_t *table, uint32_t *answer)
+{
+    if (sigsetjmp(after_store, 1) != 0) {
+        store_expected = false;
+        report_stray_run(replies, table);
+        return false;
+    }
+    store_expected = true;
+    *answer = board_run(lent_steps.table, step_bytes, replies, reply_bytes, table, bytes_passed);
+    store_expected = false;
+    return true;
+}
+
+/* How many replies a run with this answer writes. */
+static size_t replied(uint32_t answer)
+{
+    return answer == BOARD_ACCEPTED ? run.count : 0;
+}
+
+static void check_tables(uint32_t answer, const uint8_t *replies, const uint8_t *table)
+{
+    bool same = true;
+    for (size_t i = 0; i < replied(answer); i++)
+        same = same && read_reply(replies, i) == run.answers[i];
+    check(same, "the replies of single calls");
+    if (answer == BOARD_ACCEPTED)
+        check(memcmp(table, run.table, lent.bytes) == 0, "the table that single calls leave");
+    else
+        check(memcmp(table, before, lent.bytes) == 0, "a refused run leaves every byte");
+}
+
+/* Makes the run again with a page boundary before these bytes of its table and of its
+ * replies. */
+static void run_again_at(uint32_t answer, long table_edge, long reply_edge)
+{
+    const struct range written = {0, REPLY_BYTES * replied(answer)};
+    uint32_t same;
+    uint8_t *table = clear_strip(&table_strip, table_edge);
+    uint8_t *replies = clear_strip(&reply_strip, reply_edge);
+    memcpy(table, before, lent.bytes);
+    protect_all_but(&table_strip, table, run.footprint, answer == BOARD_ACCEPTED ? run.ranges : 0);
+    protect_all_but(&reply_strip, replies, &written, written.past != 0);
+    if (!attempt_run(replies, table, &same))
+        return;
+    check(same == answer, "the same answer on read-only pages");
+    check_tables(answer, replies, table);
+    check(strip_intact(&table_strip, table, lent.bytes), "nothing written around the table");
+    check(strip_intact(&reply_strip, replies, written.past), "nothing written around the run's replies");
+}
+
+/* Makes the run again with page boundaries as for a single call, and in turn with
+ * one at the first reply, behind the last, and one byte to either side of these. */
+static void run_again_on_read_only_pages(uint32_t answer)
+{
+    long past = (long)(REPLY_BYTES * replied(answer));
+    const long reply_edges[] = {0, past, -1, past - 1, 1, past + 1};
+    size_t count = answer == BOARD_ACCEPTED ? run.ranges : 0, made = 0;
+    for (size_t i = 0; i < count; i++)
+        for (long by = -1; by <= 1; by++) {
+            run_again_at(answer, (long)run.footprint[i].first + by, reply_edges[made++ % 6]);
+            run_again_at(answer, (long)run.footprint[i].past + by, reply_edges[made++ % 6]);
+        }
+    for (long by = 0; by < 8 && count == 0; by++)
+        run_again_at(answer, (long)lent.bytes / 2 + by, reply_edges[made++ % 6]);
+}
+
+/* Makes the run on the lent table, and checks what holds of every run. */
+static uint32_t perform_run(size_t left_over, size_t reply_room)
+{
+    uint32_t answer;
+    lend_run(left_over, reply_room);
+    memcpy(before, lent.table, lent.bytes);
+    if (!attempt_run(lent_replies.table, lent.table, &answer))
+        return UINT32_MAX;
+    check(answer == BOARD_ACCEPTED || answer == refusal(BOARD_TABLE_SHORT) || answer == refusal(BOARD_UNSOUND),
+          "an answer of a run, with session 0");
+    check_tables(answer, lent_replies.table, lent.table);
+    check(guards_intact(&lent, writable), "nothing written outside the table's need");
+    check(guards_intact(&lent_replies, REPLY_BYTES * replied(answer)), "nothing written outside the run's replies");
+    if (read_only)
+        run_again_on_read_only_pages(answer);
+    return answer;
+}
+
+/* A run of a step that was just made as a single call. */
+static void perform_as_run(const struct call *call, uint32_t answer, const struct footprint *footprint)
+{
+    run.count = 1;
+    run.steps[0] = step_of(call, random_word());
+    run.answers[0] = answer;
+    memcpy(run.table, lent.table, lent.bytes);
+    run.ranges = footprint->count;
+    memcpy(run.footprint, footprint->ranges, sizeof footprint->ranges);
+    memcpy(lent.table, before, lent.bytes);
+    uint32_t expected = board_number(answer) == BOARD_UNSOUND ? answer : BOARD_ACCEPTED;
+    check(perform_run(runs % STEP_BYTES, REPLY_BYTES + runs % 6) == expected, "a run of the same step");
+    memcpy(lent.table, run.table, lent.bytes);
 }
 
 /* ---- the calls, checked ---------------------------------------------- */
@@ -244,6 +455,8 @@ static uint32_t perform(struct call call)
     }
     if (read_only)
         again_on_read_only_pages(&call, answer, &footprint);
+    if (call.room == HALL && call.function != OPEN)
+        perform_as_run(&call, answer, &footprint);
     return answer;
 }
 
@@ -531,6 +744,11 @@ static void steps_refuse_with_5(void)
         refuses(retire(number), BOARD_UNSOUND, "retire gives 5");
         refuses(collect(number), BOARD_UNSOUND, "collect gives 5");
     }
+    if (room == HALL) {
+        run.count = 0;
+        refuses(perform_run(0, 0), BOARD_UNSOUND, "a run without steps gives 5");
+        refuses(perform_run(11, 5), BOARD_UNSOUND, "a run without steps gives 5");
+    }
 }
 
 /* An open hall of 1, 1, 1 in tables of 0 to 50 bytes: too short, or longer. */
@@ -571,14 +789,6 @@ static void no_table(void)
     refuses(board->swap(0, 1, 1, 1, NULL, 0), BOARD_UNSOUND, "swap gives 5");
     refuses(board->retire(0, 1, NULL, 0), BOARD_UNSOUND, "retire gives 5");
     refuses(board->collect(0, 1, NULL, 0), BOARD_UNSOUND, "collect gives 5");
-}
-
-static uint32_t random_state = 1;
-
-static uint8_t random_byte(void)
-{
-    random_state = random_state * 1664525u + 1013904223u;
-    return (uint8_t)(random_state >> 24);
 }
 
 enum filling { ZEROS, ONES, RANDOM, RANDOM_WITH_HEADER };
@@ -782,11 +992,6 @@ static void numbered(enum function function, uint16_t desk, uint16_t second, uin
         check(due(desk) == call.message, "the number is still due");
 }
 
-static uint32_t refusal(enum board_reply number)
-{
-    return (uint32_t)number << 16;
-}
-
 /* 23 is asked after 6 and before everything else. */
 static void numbered_refusals(uint16_t desk)
 {
@@ -850,6 +1055,287 @@ static void twice(uint16_t desks)
     accepts(open_hall(desks, 1, 1), 0, "open again");
     for (uint16_t desk = 1; desk <= desks; desk++)
         accepts(perform((struct call){room, COLLECT, 0, {desk, 0, 0}}), 0, "number 0");
+}
+
+/* ---- runs ------------------------------------------------------------ */
+
+/* The next run, on the lent table. */
+static void new_run(void)
+{
+    begin_run(&run, lent.table, lent.bytes);
+}
+
+/* A step at this distance from the message number that is due. */
+static uint32_t add_at(uint16_t distance, enum function function, uint16_t desk, uint16_t second, uint16_t third)
+{
+    uint16_t message = (uint16_t)(due_message(run.table, lent.bytes, desk) + distance);
+    struct step step = step_of(&(struct call){HALL, function, message, {desk, second, third}}, random_word());
+    return add_step(&run, &step);
+}
+
+static uint32_t add(enum function function, uint16_t desk, uint16_t second, uint16_t third)
+{
+    return add_at(0, function, desk, second, third);
+}
+
+/* A step with another code, whose other words would do for any step. */
+static uint32_t add_code(uint16_t code, uint16_t desk)
+{
+    return add_step(&run, &(struct step){code, due_message(run.table, lent.bytes, desk), desk, 1, 1, 1});
+}
+
+static uint32_t perform_exact_run(void)
+{
+    return perform_run(0, REPLY_BYTES * run.count);
+}
+
+static void add_other_codes(uint16_t desk)
+{
+    static const uint16_t codes[] = {0, 6, 7, 13, 17, 255, 256, 257, 261, 0x0500, 0x8001, 65535};
+    for (size_t i = 0; i < sizeof codes / sizeof *codes; i++)
+        refuses(add_code(codes[i], desk), BOARD_NO_CODE, "a code outside 1 to 5 gives 17");
+    refuses(add_code(6, 0), BOARD_NO_CODE, "17, not 6");
+}
+
+static void add_refusals(uint16_t desk)
+{
+    uint16_t no_desk = (uint16_t)(word(0) + 1), no_screen = (uint16_t)(word(1) + 1);
+    uint16_t no_position = (uint16_t)(word(2) + 1);
+    for (enum function function = TAKE; function <= COLLECT; function++) {
+        refuses(add(function, no_desk, 1, 1), BOARD_NO_DESK, "6 in a run");
+        refuses(add_at(1, function, desk, 1, 1), BOARD_OTHER_MESSAGE, "23 in a run");
+        refuses(add_at(65535, function, desk, 1, 1), BOARD_OTHER_MESSAGE, "23 in a run");
+    }
+    refuses(add(TAKE, desk, no_screen, 1), BOARD_NO_SCREEN, "7 in a run");
+    refuses(add(DROP, desk, 0, 1), BOARD_NO_SCREEN, "7 in a run");
+    refuses(add(TAKE, desk, 1, 0), BOARD_NO_POSITION, "8 in a run");
+    refuses(add(SWAP, desk, no_position, 1), BOARD_NO_POSITION, "8 in a run");
+}
+
+/* A desk's list, all waiting. The numbers of its messages are about to run on from
+ * 65535 to 0. */
+static void fill_list(uint16_t desk)
+{
+    size_t places = 2 * all_screens(lent.table);
+    set_word(record(desk) + WAITING, (uint16_t)places);
+    for (size_t i = 0; i < places; i++)
+        set_word(record(desk) + LIST + i, (uint16_t)(i + 1));
+    set_due(desk, 65533);
+}
+
+/* Every reply number of a step. */
+static void add_every_reply(uint16_t desk)
+{
+    uint16_t screens = word(1), positions = word(2);
+    bool collected = all_screens(lent.table) <= 2; /* by one collect */
+    refuses(add(TAKE, desk, screens, positions), BOARD_POSITION_EMPTY, "10 in a run");
+    refuses(add(DROP, desk, screens, 0), BOARD_SCREEN_EMPTY, "11 in a run");
+    refuses(add(RETIRE, desk, 0, 0), BOARD_OWES_NOTHING, "13 in a run");
+    accepts(add(SWAP, desk, positions, 0), 0, "a repeat in a run");
+    accepts(add(SWAP, desk, positions, 500), 0, "a swap in a run");
+    accepts(add(TAKE, desk, screens, positions), 500, "a take in a run");
+    refuses(add(TAKE, desk, screens, positions), BOARD_SCREEN_FULL, "9 in a run");
+    add_other_codes(desk);
+    accepts(add(SWAP, desk, positions, 501), 500, "a swap that owes, in a run");
+    refuses(add(SWAP, desk, positions, 501), BOARD_OWING, "12 in a run");
+    refuses(add(RETIRE, desk, 0, 0), BOARD_NO_ROOM, "14 in a run");
+    add_refusals(desk);
+    accepts(add(DROP, desk, screens, 0), 500, "a drop in a run");
+    accepts(add(COLLECT, desk, 0, 0), collected, "a collect in a run");
+    check(add(RETIRE, desk, 0, 0) == (collected ? 500 : refusal(BOARD_NO_ROOM)), "a retire in a run");
+}
+
+static void hall_with_run(uint16_t desks, uint16_t screens, uint16_t positions, uint16_t desk)
+{
+    hall(desks, screens, positions);
+    fill_list(desk);
+    new_run();
+    add_every_reply(desk);
+}
+
+/* The same steps on the table that they left. */
+static void same_run(void)
+{
+    size_t steps = run.count;
+    new_run();
+    for (size_t i = 0; i < steps; i++)
+        add_step(&run, &run.steps[i]);
+}
+
+/* A run with every reply, refused, accepted, and sent twice. */
+static void every_reply(uint16_t desks, uint16_t screens, uint16_t positions, uint16_t desk)
+{
+    hall_with_run(desks, screens, positions, desk);
+    size_t exact = REPLY_BYTES * run.count;
+    refuses(perform_run(0, exact - 1), BOARD_TABLE_SHORT, "4, one byte is missing");
+    refuses(perform_run(11, 0), BOARD_TABLE_SHORT, "4, there are no replies");
+    set_word(record(desks) + MARKS + 7, 0x8000); /* unsound */
+    refuses(perform_run(0, exact - 1), BOARD_TABLE_SHORT, "4 is asked before 5");
+    refuses(perform_run(0, exact), BOARD_UNSOUND, "5 in place of any reply");
+    set_word(record(desks) + MARKS + 7, 0);
+    accepts(perform_run(11, exact + 7), 0, "accepted, whatever the steps reply");
+    same_run();
+    accepts(perform_exact_run(), 0, "the same run again");
+}
+
+/* Case D as one run. */
+static void case_d_in_one_run(void)
+{
+    hall(1, 1, 1);
+    new_run();
+    accepts(add(SWAP, 1, 1, 300), 0, "D: step 1");
+    accepts(add(TAKE, 1, 1, 1), 300, "D: step 2");
+    accepts(add(SWAP, 1, 1, 7), 300, "D: step 3");
+    accepts(add(RETIRE, 1, 0, 0), 300, "D: step 4");
+    accepts(add(COLLECT, 1, 0, 0), 0, "D: step 5");
+    accepts(add(DROP, 1, 1, 0), 300, "D: step 6");
+    accepts(add(COLLECT, 1, 0, 0), 300, "D: step 7");
+    refuses(add(RETIRE, 1, 0, 0), BOARD_OWES_NOTHING, "D: step 8");
+    accepts(perform_exact_run(), 0, "D in one run");
+}
+
+/* Runs of one kind of step, all refused, or that change nothing but the numbers. */
+static void runs_of_one_kind(void)
+{
+    for (enum function function = TAKE; function <= COLLECT; function++) {
+        hall(3, 1, 2);
+        new_run();
+        for (uint16_t i = 0; i < 10; i++)
+            add(function, 2, 1, 0);
+        accepts(perform_exact_run(), 0, "a run of one kind");
+    }
+    hall(3, 1, 2);
+    new_run();
+    add_other_codes(3);
+    accepts(perform_exact_run(), 0, "a run of other codes alone");
+    check(memcmp(before, lent.table, lent.bytes) == 0, "other codes leave every byte of the table");
+}
+
+/* Runs of up to three steps in every length, with every length of the replies. */
+static void every_run_length(void)
+{
+    static const struct step steps_of[] = {{3, 0, 1, 0, 1, 9}, {1, 1, 1, 1, 1, 0}, {2, 2, 1, 1, 0, 0}};
+    for (size_t steps = 0; steps <= 3; steps++)
+        for (size_t left_over = 0; left_over < STEP_BYTES; left_over++)
+            for (size_t room = 0; room <= REPLY_BYTES * steps + 5; room++) {
+                bool fits = room >= REPLY_BYTES * steps;
+                hall(1, 1, 1);
+                new_run();
+                for (size_t i = 0; i < steps; i++)
+                    accepts(add_step(&run, &steps_of[i]), i == 0 ? 0 : 9, "the steps");
+                set_word(record(1) + READY, 1); /* unsound */
+                refuses(perform_run(left_over, room), fits ? BOARD_UNSOUND : BOARD_TABLE_SHORT, "4, and then 5");
+                set_word(record(1) + READY, 0);
+                check(perform_run(left_over, room) == (fits ? 0 : refusal(BOARD_TABLE_SHORT)), "0 or 4");
+            }
+}
+
+/* What is left over, and all but the run's replies, is on an inaccessible page. */
+static void run_out_of_reach(size_t steps_beyond, size_t replies_beyond)
+{
+    steps_out_of_reach = steps_beyond;
+    replies_out_of_reach = replies_beyond;
+    case_d_in_one_run();
+    hall_with_run(2, 1, 3, 2);
+    accepts(perform_exact_run(), 0, "a run that is all within reach");
+    new_run();
+    accepts(perform_exact_run(), 0, "a run without steps");
+    steps_out_of_reach = replies_out_of_reach = 0;
+}
+
+static void runs_without_tables(void)
+{
+    hall(1, 1, 1);
+    new_run();
+    add(COLLECT, 1, 0, 0);
+    lend_run(0, REPLY_BYTES);
+    uint8_t *steps = lent_steps.table, *replies = lent_replies.table, *table = lent.table;
+    size_t bytes = lent.bytes;
+    refuses(board_run(NULL, 0, NULL, 0, NULL, 0), BOARD_UNSOUND, "no table at all");
+    refuses(board_run(steps, 12, replies, 4, NULL, 0), BOARD_UNSOUND, "no table of the board");
+    refuses(board_run(steps, 12, NULL, 0, NULL, 0), BOARD_TABLE_SHORT, "no replies and no table");
+    refuses(board_run(steps, 12, NULL, 0, table, bytes), BOARD_TABLE_SHORT, "no replies");
+    refuses(board_run(steps, PTRDIFF_MAX, replies, 4, table, bytes), BOARD_TABLE_SHORT, "very many steps");
+    accepts(board_run(NULL, 0, NULL, 0, table, bytes), 0, "no steps and no replies");
+    accepts(board_run(NULL, 0, replies, 4, table, bytes), 0, "no steps");
+    accepts(board_run(steps, 11, NULL, 0, table, bytes), 0, "no whole step and no replies");
+    check(due(1) == 0 && guards_intact(&lent_replies, 0), "nothing done yet");
+    accepts(board_run(steps, 12, replies, 4, table, bytes), 0, "one step");
+    check(due(1) == 1, "done once");
+}
+
+/* ---- a shift --------------------------------------------------------- */
+
+/* A number that is mostly there, and sometimes just beside. */
+static uint16_t random_number(uint16_t last)
+{
+    return one_in(40) ? (uint16_t)(one_in(2) * (last + 1)) : random_up_to(last);
+}
+
+/* Mostly of the last desk. In the first half, hardly any collects: its list fills. */
+static struct step random_step(size_t index, size_t steps)
+{
+    uint16_t desk = random_number(one_in(2) ? word(0) : random_up_to(word(0)));
+    uint16_t code = random_up_to(index < steps / 2 && !one_in(50) ? 4 : 5);
+    uint16_t message = due_message(run.table, lent.bytes, desk);
+    return (struct step){
+        .code = one_in(30) ? (uint16_t)(one_in(2) ? random_word() | 8 : code << 8) : code,
+        .message = one_in(30) ? (uint16_t)(message + (one_in(2) ? -1 : random_up_to(300))) : message,
+        .desk = desk,
+        .screen = random_number(word(1)),
+        .position = random_number(one_in(2) ? word(2) : 1),
+        .session = one_in(10) ? 0 : one_in(2) ? random_up_to(9) : random_word(),
+    };
+}
+
+/* The reply numbers of a step in a run. */
+static const uint16_t step_replies[] = {0, 6, 7, 8, 9, 10, 11, 12, 13, 14, 17, 23};
+
+static void generate_shift(size_t steps)
+{
+    bool occurs[BOARD_OTHER_MESSAGE + 1] = {0}, accepted[FUNCTIONS] = {0}, handed_back = false;
+    new_run();
+    for (size_t i = 0; i < steps; i++) {
+        struct step step = random_step(i, steps);
+        uint32_t answer = add_step(&run, &step);
+        if (board_number(answer) <= BOARD_OTHER_MESSAGE)
+            occurs[board_number(answer)] = true;
+        if (board_number(answer) == BOARD_ACCEPTED)
+            accepted[step.code] = true;
+        handed_back = handed_back || (step.code == COLLECT && board_session(answer) != 0);
+    }
+    for (size_t i = 0; i < sizeof step_replies / sizeof *step_replies; i++)
+        check(occurs[step_replies[i]], "every reply number occurs in the shift");
+    for (int function = TAKE; function <= COLLECT; function++)
+        check(accepted[function], "every step is accepted in the shift");
+    check(handed_back, "a collect of the shift hands back");
+}
+
+/* The shift again, as runs of 0 to 40 steps. */
+static void shift_in_pieces(void)
+{
+    memcpy(lent.table, before, lent.bytes);
+    lend_run(0, REPLY_BYTES * run.count);
+    for (size_t first = 0, steps; first < run.count; first += steps) {
+        steps = random_word() % 41;
+        if (steps > run.count - first)
+            steps = run.count - first;
+        accepts(board_run(lent_steps.table + STEP_BYTES * first, STEP_BYTES * steps,
+                          lent_replies.table + REPLY_BYTES * first, REPLY_BYTES * steps, lent.table, bytes_passed),
+                0, "a piece of the shift");
+    }
+    check_tables(BOARD_ACCEPTED, lent_replies.table, lent.table);
+    check(guards_intact(&lent_replies, REPLY_BYTES * run.count), "nothing written outside the shift's replies");
+}
+
+static void shift(uint16_t desks, uint16_t screens, uint16_t positions)
+{
+    hall(desks, screens, positions);
+    for (uint16_t desk = 1; desk <= desks; desk++)
+        set_due(desk, (uint16_t)(65535 - 100 * (desk - 1)));
+    generate_shift(MAX_STEPS);
+    accepts(perform_exact_run(), 0, "a shift in one run");
+    shift_in_pieces();
 }
 
 /* ---- over the limits of the training room ---------------------------- */
@@ -951,6 +1437,63 @@ static size_t stack_of(void (*calls)(void))
     while (left < sizeof stack && stack[left] == UNTOUCHED)
         left++;
     return sizeof stack - left;
+}
+
+/* The steps of a busy hall as one run, again and again. */
+enum { BUSY_STEPS = 100000 };
+
+static uint8_t busy_run_table[BOARD_MAX_BYTES], busy_replies[BUSY_STEPS * REPLY_BYTES];
+static uint8_t busy_run_steps[BUSY_STEPS * STEP_BYTES];
+static size_t busy_steps;
+
+/* Adds a step of desk 1 with the message number that is due. */
+static void add_busy(enum function function, uint16_t second, uint16_t third)
+{
+    if (busy_steps == BUSY_STEPS)
+        return;
+    uint16_t message = due_message(busy_run_table, sizeof busy_run_table, 1);
+    struct step step = step_of(&(struct call){HALL, function, message, {1, second, third}}, 0);
+    send_step(&step, busy_run_table, sizeof busy_run_table);
+    write_step(busy_run_steps, busy_steps++, &step);
+}
+
+static void make_busy_run(void)
+{
+    busy_steps = 0;
+    board_open(busy_desks, busy_screens, busy_positions, busy_run_table, sizeof busy_run_table);
+    for (uint16_t session = 1; busy_steps < BUSY_STEPS; session++) {
+        add_busy(SWAP, 1, session);
+        add_busy(SWAP, 1, session); /* a repeat */
+        add_busy(TAKE, 1, 1);
+        add_busy(SWAP, 1, 0);
+        add_busy(RETIRE, 0, 0);
+        if (session % 3 == 0)
+            add_busy(DROP, 1, 0);
+        for (int collects = 0; collects < 400 && session % 130 == 0; collects++)
+            add_busy(COLLECT, 0, 0);
+    }
+}
+
+static void busy_run(void)
+{
+    board_open(busy_desks, busy_screens, busy_positions, busy_run_table, sizeof busy_run_table);
+    board_run(busy_run_steps, busy_steps * STEP_BYTES, busy_replies, sizeof busy_replies, busy_run_table,
+              sizeof busy_run_table);
+}
+
+static void stack_use_of_runs(uint16_t desks, uint16_t screens, uint16_t positions)
+{
+    static const size_t steps[] = {0, 1, 2000, BUSY_STEPS};
+    size_t used[4];
+    busy_desks = desks, busy_screens = screens, busy_positions = positions;
+    make_busy_run();
+    busy_run();
+    for (size_t i = 0; i < 4; i++) {
+        busy_steps = steps[i];
+        used[i] = stack_of(busy_run) - stack_of(no_calls);
+        check(used[i] <= STACK_SAID, "no more stack for a run than the header says");
+    }
+    check(used[3] == used[2], "no more stack for a long run");
 }
 
 static void stack_use(uint16_t desks, uint16_t screens, uint16_t positions)
@@ -1061,6 +1604,70 @@ static void message_numbers_on_read_only_pages(void)
     end();
 }
 
+static void runs_on_read_only_pages(void)
+{
+    begin("runs, with all pages outside the footprint read-only");
+    check(BOARD_TAKE == 1 && BOARD_DROP == 2 && BOARD_SWAP == 3 && BOARD_RETIRE == 4 && BOARD_COLLECT == 5,
+          "the header's codes");
+    check(BOARD_STEP_WORDS == 6 && BOARD_REPLY_WORDS == 2 && BOARD_NO_CODE == 17, "the header's numbers");
+    read_only = true;
+    for (int place = AT_START; place < PLACES; place++) {
+        book_place = place;
+        book_spare = (size_t)place % (SPARE + 1);
+        case_d_in_one_run();
+        runs_of_one_kind();
+        every_reply(1, 1, 1, 1);
+        every_reply(2, 1, 3, 2);
+    }
+    every_reply(6, 1, 12, 4);
+    every_reply(16, 4, 64, 1);
+    every_reply(16, 4, 64, 16);
+    book_spare = 0;
+    every_run_length();
+    read_only = false;
+    end();
+}
+
+static void runs_at_every_place(void)
+{
+    begin("runs of every length");
+    for (int place = AT_START; place < PLACES; place++) {
+        book_place = place;
+        every_run_length();
+    }
+    end();
+
+    begin("runs with all that they need not access out of reach");
+    for (size_t beyond = 1; beyond < STEP_BYTES; beyond++) {
+        run_out_of_reach(beyond, beyond);
+        run_out_of_reach(0, beyond);
+        run_out_of_reach(beyond, 0);
+    }
+    run_out_of_reach(STEP_BYTES - 1, PTRDIFF_MAX - SHORT_RUN * REPLY_BYTES);
+    end();
+
+    begin("runs without tables, and with one that is too long");
+    runs_without_tables();
+    end();
+}
+
+static void shifts(void)
+{
+    struct guarded_memory short_steps = lent_steps, short_replies = lent_replies;
+    lent_steps = make_guarded_memory(MAX_STEPS * STEP_BYTES);
+    lent_replies = make_guarded_memory(MAX_STEPS * REPLY_BYTES);
+    begin("a shift in one run");
+    for (int place = AT_START; place <= ALIGNED_0 + 1; place++) {
+        book_place = place;
+        shift(1, 1, 1);
+        shift(3, 1, 2);
+        shift(16, 4, 64);
+    }
+    end();
+    lent_steps = short_steps;
+    lent_replies = short_replies;
+}
+
 static void over_the_limits(void)
 {
     static const uint16_t sessions[] = {1000, 1001, 1023, 1024, 65535};
@@ -1088,6 +1695,11 @@ static void stack(void)
     if (room == HALL)
         stack_use(6, 1, 12);
     stack_use(limits->desks, limits->screens, limits->positions);
+    if (room == HALL) {
+        stack_use_of_runs(1, 1, 1);
+        stack_use_of_runs(6, 1, 12);
+        stack_use_of_runs(16, 4, 64);
+    }
     end();
 }
 
@@ -1111,8 +1723,12 @@ static void any_table(void)
 
 int main(void)
 {
+    page = (size_t)sysconf(_SC_PAGESIZE);
     lent = make_guarded_memory(BOARD_MAX_BYTES);
-    make_strip();
+    lent_steps = make_guarded_memory(SHORT_RUN * STEP_BYTES);
+    lent_replies = make_guarded_memory(SHORT_RUN * REPLY_BYTES);
+    table_strip = make_strip(TABLE_PAGES);
+    reply_strip = make_strip(REPLY_PAGES);
     catch_signals();
     for (int which = HALL; which < ROOMS; which++) {
         enter((enum room)which);
@@ -1121,6 +1737,11 @@ int main(void)
         every_answer_on_read_only_pages();
         repeats_on_read_only_pages();
         message_numbers_on_read_only_pages();
+        if (room == HALL) {
+            runs_on_read_only_pages();
+            runs_at_every_place();
+            shifts();
+        }
         stack();
         any_table();
     }

@@ -11,5 +11,6 @@ build_driver() {
     library=$1 built=$2
     shift 2
     gcc -std=c11 -Wall -Wextra -Wpedantic -Werror -O2 -I"$root/include" -I"$root/tests/c" "$@" \
-        "$root/tests/stores/driver.c" "$root/tests/c/calls.c" "$root/tests/c/layout.c" "$library" -o "$built"
+        "$root/tests/stores/driver.c" "$root/tests/c/calls.c" "$root/tests/c/layout.c" "$root/tests/c/runs.c" \
+        "$library" -o "$built"
 }

@@ -1,44 +1,61 @@
 #!/usr/bin/env python3
-"""Compares every store of the calls of both rooms with the footprint of the call.
+"""Compares every store of the calls of both rooms, and of runs, with the footprint of the call.
 
 usage: tests/stores/check.py DRIVER [ARGUMENT ..]
 
-DRIVER is driver.c with an archive. It runs under valgrind's lackey, which prints every store with its address and size. The
-driver stores to its marker before and after each call, and prints the footprint of each call. A store that changes nothing
-counts like any other. The last line is 'stores: N calls, M stores into tables, K stray', and the exit status is 0 only if K
-is 0.
+DRIVER is driver.c with an archive. It runs under valgrind's lackey, which prints every store with its address and size.
+The driver stores to its marker before and after each call, and prints the footprint of each call, table by table. A
+store that changes nothing counts like any other. The last line is 'stores: N calls, M stores into tables, K stray', and
+the exit status is 0 only if K is 0.
 """
 import os
 import subprocess
 import sys
 import tempfile
 
-class Call:
-    """A call as the driver prints it. The footprint is a list of ranges of bytes of the table, empty for a refusal. The last
-    range must be stored to: that of an opening is all of it, that of a step is the desk's message number."""
 
-    def __init__(self, line):
-        self.name, self.hall, table, memory, footprint = line.removeprefix('call ').split('|')
-        self.table = int(table)
-        self.first, self.past = map(int, memory.split())
-        self.footprint = [tuple(map(int, part.split('-'))) for part in footprint.split()]
-        self.call = self.name.split()[0]            # board_take
+class Lent:
+    """A table that a call is lent, as the driver prints it. The footprint is a list of ranges of its bytes, empty for a
+    refusal; the required ones must be stored to."""
+
+    def __init__(self, text):
+        self.name, address, first, past, *ranges = text.split()
+        self.address, self.first, self.past = int(address), int(first), int(past)
+        self.footprint = [self.parsed(part) for part in ranges]
+        self.required = [self.parsed(part) for part in ranges if part.endswith('!')]
         self.stored = set()
 
+    @staticmethod
+    def parsed(part):
+        return tuple(map(int, part.rstrip('!').split('-')))
+
+    def is_near(self, address, size):
+        """Whether a store is to the memory in or around the table."""
+        return self.first < address + size and address < self.past
+
     def store(self, address, size):
-        """Notes the bytes of the table that are stored to."""
-        self.stored.update(range(address - self.table, address - self.table + size))
-
-    def is_complete(self):
-        """An accepted call changes its last range: if the trace shows no store to it, the trace is broken, or the board."""
-        return not self.footprint or self.stored.issuperset(range(*self.footprint[-1]))
-
-    def stray_byte(self, address, size):
-        """The offset in the table of the first byte of this store that is outside the footprint, or None."""
-        for byte in range(address - self.table, address - self.table + size):
+        """Notes the bytes of the table that are stored to. Returns the offset of the first that is outside the
+        footprint, or None."""
+        stored = range(address - self.address, address - self.address + size)
+        self.stored.update(stored)
+        for byte in stored:
             if not any(first <= byte < past for first, past in self.footprint):
                 return byte
         return None
+
+    def is_complete(self):
+        return all(self.stored.issuperset(range(*part)) for part in self.required)
+
+
+class Call:
+    def __init__(self, line):
+        self.name, self.hall, *lent = line.removeprefix('call ').split('|')
+        self.lent = [Lent(text) for text in lent]
+        self.call = self.name.split()[0]            # board_take
+
+    def is_complete(self):
+        """If the trace does not show a store that an accepted call must make, the trace is broken, or the board."""
+        return all(table.is_complete() for table in self.lent)
 
 
 def traced(command):
@@ -89,19 +106,20 @@ def main():
     marker, calls = parsed(lines, status)
     count, stray = 0, {}
     for call, address, size in during_calls(stores, marker, calls):
-        if address + size <= call.first or address >= call.past:
-            continue
-        count += 1
-        call.store(address, size)
-        byte = call.stray_byte(address, size)
-        if byte is not None:
-            stray.setdefault(call.call, []).append((call, byte, size))
-    for call, byte, size in (found[0] for found in stray.values()):
-        print(f'stores: {call.name} in a hall of {call.hall}: a store of {size} bytes to byte {byte} of the table (word '
-              f'{byte // 2}), outside its footprint')
+        for table in call.lent:
+            if not table.is_near(address, size):
+                continue
+            count += 1
+            byte = table.store(address, size)
+            if byte is not None:
+                stray.setdefault(call.call, []).append((call, table, byte, size))
+    for call, table, byte, size in (found[0] for found in stray.values()):
+        print(f'stores: {call.name} in a hall of {call.hall}: a store of {size} bytes to byte {byte} of the '
+              f'{table.name} (word {byte // 2}), outside its footprint')
     for call in calls:
         if not call.is_complete():
-            sys.exit(f'stores: {call.name} in a hall of {call.hall}: accepted, but the trace does not show all its stores')
+            sys.exit(f'stores: {call.name} in a hall of {call.hall}: accepted, but the trace does not show all its '
+                     'stores')
     strays = sum(map(len, stray.values()))
     print(f'stores: {len(calls)} calls, {count} stores into tables, {strays} stray')
     sys.exit(1 if strays else 0)

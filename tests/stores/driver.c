@@ -3,17 +3,23 @@
  * which bytes it may store to:
  *
  *     marker ADDRESS
- *     call NAME AND NUMBERS|HALL|TABLE|MEMORY FIRST PAST|FIRST-PAST FIRST-PAST ..
+ *     call NAME AND NUMBERS|HALL|LENT|LENT ..
  *
  * The driver stores to the marker just before and just after each call, in the
- * order of the lines. TABLE is an address, MEMORY is the range of addresses
- * around the table, and the ranges at the end are bytes of the table: the
- * footprint of an accepted call, from documents 01 and 02 and the table's words
- * before the call. The last of a step's is the desk's message number, to which it
- * must store. A refusal has none. The code below says of each call whether it is
- * accepted.
+ * order of the lines. LENT is a table that the call is lent:
+ *
+ *     NAME ADDRESS FIRST PAST RANGE RANGE ..
+ *
+ * FIRST and PAST are the addresses of the memory around it. A range, FIRST-PAST, is
+ * bytes of the table that the call may store to, from documents 01 and 02 and the
+ * table's words before the call; after one with a '!' it must have stored to them.
+ * These are all bytes of an opening, the desk's message number of an accepted step,
+ * and the replies of an accepted run. A refusal has no ranges. The code below says
+ * of each call whether it is accepted.
+ *
+ * Each step of the hall is made as a single call and as a run of one step.
  */
-#include "layout.h"
+#include "runs.h"
 
 #include <stdio.h>
 #include <stdlib.h>
@@ -31,6 +37,8 @@ static uint16_t hall_desks, hall_screens, hall_positions;
 static size_t calls;
 
 static _Alignas(64) uint8_t memory[MARGIN + PLACES + BOARD_MAX_BYTES + SPARE + MARGIN];
+static _Alignas(64) uint8_t step_memory[MARGIN + PLACES + SHORT_RUN * STEP_BYTES + SPARE + MARGIN];
+static _Alignas(64) uint8_t reply_memory[MARGIN + PLACES + SHORT_RUN * REPLY_BYTES + SPARE + MARGIN];
 
 static uint16_t word(size_t at)
 {
@@ -47,28 +55,49 @@ static size_t record(uint16_t desk)
     return record_index(kept, desk);
 }
 
+static void expect(bool good, const char *what)
+{
+    if (!good) {
+        printf("wrong state: %s\n", what);
+        exit(1);
+    }
+}
+
+static void expect_number(uint16_t number, enum board_reply expected)
+{
+    if (number != expected) {
+        printf("reply number %u where %u is right\n", number, expected);
+        exit(1);
+    }
+}
+
 /* ---- a call ----------------------------------------------------------- */
+
+static void print_lent(const char *name, const uint8_t *lent, const uint8_t *first, size_t length)
+{
+    printf("|%s %zu %zu %zu", name, (size_t)lent, (size_t)first, (size_t)(first + length));
+}
 
 static void print_footprint(const struct call *call)
 {
     struct footprint footprint = footprint_of(call, kept);
     for (size_t i = 0; i < footprint.count; i++)
-        printf(" %zu-%zu", footprint.ranges[i].first, footprint.ranges[i].past);
+        printf(" %zu-%zu%s", footprint.ranges[i].first, footprint.ranges[i].past, i + 1 == footprint.count ? "!" : "");
 }
 
 static void print_line(const struct call *call, const uint8_t *table, bool accepted)
 {
     printf("call ");
     print_call(call);
-    printf("|%u %u %u|%zu|%zu %zu|", hall_desks, hall_screens, hall_positions,
-           (size_t)table, (size_t)memory, (size_t)(memory + sizeof memory));
+    printf("|%u %u %u", hall_desks, hall_screens, hall_positions);
+    print_lent("table", table, memory, sizeof memory);
     if (accepted)
         print_footprint(call);
     printf("\n");
 }
 
-/* Makes the call, which must get this reply number; returns its session. */
-static uint16_t make(const struct call *call, enum board_reply number)
+/* Makes the call, which must get this reply number; returns its answer. */
+static uint32_t make_single(const struct call *call, enum board_reply number)
 {
     uint8_t *table = memory + MARGIN + calls % PLACES;
     memcpy(table, kept, lent_bytes);
@@ -78,10 +107,89 @@ static uint16_t make(const struct call *call, enum board_reply number)
     marker = 0;
     memcpy(kept, table, lent_bytes);
     calls++;
-    if (board_number(answer) != number) {
-        printf("reply number %u where %u is right\n", board_number(answer), number);
-        exit(1);
+    expect_number(board_number(answer), number);
+    return answer;
+}
+
+/* ---- a run ------------------------------------------------------------ */
+
+static struct run run;
+
+/* The footprint of the run, and again the message number of each accepted step. */
+static void print_run_footprint(void)
+{
+    for (size_t i = 0; i < run.ranges; i++)
+        printf(" %zu-%zu", run.footprint[i].first, run.footprint[i].past);
+    for (size_t i = 0; i < run.count; i++) {
+        if (board_number(run.answers[i]) != BOARD_ACCEPTED)
+            continue;
+        size_t message = 2 * message_index(kept, run.steps[i].desk);
+        printf(" %zu-%zu!", message, message + 2);
     }
+}
+
+static void print_run_line(const uint8_t *steps, const uint8_t *replies, const uint8_t *table, bool accepted)
+{
+    printf("call board_run of %zu steps|%u %u %u", run.count, hall_desks, hall_screens, hall_positions);
+    print_lent("steps", steps, step_memory, sizeof step_memory);
+    print_lent("replies", replies, reply_memory, sizeof reply_memory);
+    if (accepted && run.count != 0)
+        printf(" 0-%zu!", REPLY_BYTES * run.count);
+    print_lent("table", table, memory, sizeof memory);
+    if (accepted)
+        print_run_footprint();
+    printf("\n");
+}
+
+static void expect_answers(const uint8_t *replies)
+{
+    for (size_t i = 0; i < run.count; i++)
+        expect(read_reply(replies, i) == run.answers[i], "the replies of a run");
+    expect(memcmp(kept, run.table, lent_bytes) == 0, "the table after a run");
+}
+
+/* Makes the run with so many left-over bytes behind its steps, and room for so many
+ * bytes of replies. */
+static void make_run(size_t left_over, size_t room, enum board_reply number)
+{
+    uint8_t *steps = step_memory + MARGIN + calls % 3, *replies = reply_memory + MARGIN + calls % 5;
+    uint8_t *table = memory + MARGIN + calls % PLACES;
+    for (size_t i = 0; i < run.count; i++)
+        write_step(steps, i, &run.steps[i]);
+    memcpy(table, kept, lent_bytes);
+    print_run_line(steps, replies, table, number == BOARD_ACCEPTED);
+    size_t bytes = STEP_BYTES * run.count + left_over;
+    marker = 1;
+    uint32_t answer = board_run(steps, bytes, replies, room, table, lent_bytes);
+    marker = 0;
+    memcpy(kept, table, lent_bytes);
+    calls++;
+    expect_number(board_number(answer), number);
+    if (number == BOARD_ACCEPTED)
+        expect_answers(replies);
+}
+
+/* A run of one step, on the table before its single call. */
+static void make_run_of(const struct call *call, const uint8_t *table, uint32_t answer)
+{
+    struct step step = step_of(call, 0xEEEE);
+    bool unsound = board_number(answer) == BOARD_UNSOUND;
+    begin_run(&run, table, lent_bytes);
+    memcpy(kept, table, lent_bytes);
+    expect(add_step(&run, &step) == answer, "the same answer again");
+    make_run(calls % STEP_BYTES, REPLY_BYTES + calls % SPARE, unsound ? BOARD_UNSOUND : BOARD_ACCEPTED);
+}
+
+/* ---- both ------------------------------------------------------------- */
+
+/* Makes the call, and a step of the hall also as a run; returns its session. */
+static uint16_t make(const struct call *call, enum board_reply number)
+{
+    static uint8_t before[sizeof kept];
+    memcpy(before, kept, lent_bytes);
+    uint32_t answer = make_single(call, number);
+    if (call->room == HALL && call->function != OPEN)
+        make_run_of(call, before, answer);
     return board_session(answer);
 }
 
@@ -89,14 +197,6 @@ static uint16_t make(const struct call *call, enum board_reply number)
 static uint16_t call(enum function function, uint16_t a, uint16_t b, uint16_t c, enum board_reply number)
 {
     return make(&(struct call){room, function, due_message(kept, lent_bytes, a), {a, b, c}}, number);
-}
-
-static void expect(bool good, const char *what)
-{
-    if (!good) {
-        printf("wrong state: %s\n", what);
-        exit(1);
-    }
 }
 
 /* ---- what is called --------------------------------------------------- */
@@ -266,6 +366,84 @@ static void readings(uint16_t desk, bool steps)
     expect(back == 2 && word(at + READY) == 0, "handed back to the last");
 }
 
+/* Adds a step to the run, which must reply this number. */
+static void add(enum function function, uint16_t desk, uint16_t b, uint16_t c, enum board_reply number)
+{
+    uint16_t message = due_message(run.table, lent_bytes, desk);
+    struct step step = step_of(&(struct call){HALL, function, message, {desk, b, c}}, 0xEEEE);
+    expect_number(board_number(add_step(&run, &step)), number);
+}
+
+static void add_code(uint16_t code, uint16_t desk)
+{
+    struct step step = {code, due_message(run.table, lent_bytes, desk), desk, 1, 1, 1};
+    expect_number(board_number(add_step(&run, &step)), BOARD_NO_CODE);
+}
+
+/* Steps of a desk that owes nothing and whose list is full; only the first are
+ * accepted. */
+static void add_mixed_steps(uint16_t desk)
+{
+    add(SWAP, desk, 1, 8, BOARD_ACCEPTED);
+    add(SWAP, desk, 1, 8, BOARD_ACCEPTED); /* a repeat */
+    add(TAKE, desk, 1, 1, BOARD_ACCEPTED);
+    add(SWAP, desk, 1, 0, BOARD_ACCEPTED);
+    add_code(0, desk);
+    add_code(257, desk);
+    add(SWAP, desk, 1, 8, BOARD_OWING);
+    add(RETIRE, desk, 0, 0, BOARD_NO_ROOM);
+    add(TAKE, desk, 1, 1, BOARD_SCREEN_FULL);
+    add(COLLECT, 0, 0, 0, BOARD_NO_DESK);
+    add(TAKE, desk, 0, 1, BOARD_NO_SCREEN);
+    add(SWAP, desk, 0, 1, BOARD_NO_POSITION);
+}
+
+static void refused_steps(uint16_t desk)
+{
+    begin_run(&run, kept, lent_bytes);
+    add_code(0, desk);
+    add(RETIRE, desk, 0, 0, BOARD_OWES_NOTHING);
+    add(DROP, desk, 1, 0, BOARD_SCREEN_EMPTY);
+    add_code(6, desk);
+    add_code(65535, 0);
+    make_run(11, REPLY_BYTES * run.count + SPARE, BOARD_ACCEPTED);
+}
+
+static void refused_runs(void)
+{
+    size_t exact = REPLY_BYTES * run.count, last = record(hall_desks) + MARKS + 7;
+    make_run(0, exact - 1, BOARD_TABLE_SHORT);
+    make_run(11, 0, BOARD_TABLE_SHORT);
+    set_word(last, 0x8000);
+    make_run(0, exact - 1, BOARD_TABLE_SHORT);
+    make_run(0, exact, BOARD_UNSOUND);
+    make_run(11, exact + SPARE, BOARD_UNSOUND);
+    set_word(last, 0);
+}
+
+/* Runs of several steps: refused, with refused steps, and with accepted ones of which
+ * the last empty the list. */
+static void runs(uint16_t desk)
+{
+    set_screens(0);
+    set_word(position_index(1), 0);
+    set_list(desk, 2 * all_screens(kept));
+    begin_run(&run, kept, lent_bytes);
+    make_run(0, 0, BOARD_ACCEPTED);
+    make_run(11, SPARE, BOARD_ACCEPTED);
+    refused_steps(desk);
+    begin_run(&run, kept, lent_bytes);
+    add_mixed_steps(desk);
+    refused_runs();
+    make_run(0, REPLY_BYTES * run.count, BOARD_ACCEPTED);
+    begin_run(&run, kept, lent_bytes);
+    add(DROP, desk, 1, 0, BOARD_ACCEPTED);
+    for (size_t collects = 0; collects < all_screens(kept) / 2 + 3; collects++)
+        add(COLLECT, desk, 0, 0, BOARD_ACCEPTED);
+    add(RETIRE, desk, 0, 0, BOARD_ACCEPTED);
+    make_run(7, REPLY_BYTES * run.count + SPARE, BOARD_ACCEPTED);
+}
+
 static void hall(enum room of, uint16_t desks, uint16_t screens, uint16_t positions)
 {
     room = of;
@@ -278,6 +456,8 @@ static void hall(enum room of, uint16_t desks, uint16_t screens, uint16_t positi
         screens_and_positions(1);
         readings((uint16_t)(desks / 2), false);
     }
+    if (room == HALL)
+        runs(desks);
 }
 
 /* With the argument 'small', the smallest hall of each room alone. */

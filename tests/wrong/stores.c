@@ -1,6 +1,6 @@
 /*
  * Wrong boards for the self-test: the right board, with a store outside the
- * footprint in one call. All but one store the old value, so that answers and
+ * footprint in one call. All but two store the old value, so that answers and
  * words stay right. Link with --wrap and the name of the call.
  */
 #include "session_board.h"
@@ -116,6 +116,45 @@ uint32_t __wrap_board_open(uint16_t desks, uint16_t screens, uint16_t positions,
     uint32_t answer = __real_board_open(desks, screens, positions, table, bytes);
     if (board_number(answer) == BOARD_ACCEPTED)
         table[2 * board_need(desks, screens, positions)] = 0;
+    return answer;
+}
+#elif defined RUN_REWRITES_A_REPLY_PAST_THE_RUN || defined RUN_REFUSED_CLEARS_THE_REPLIES || \
+    defined RUN_REWRITES_THE_FIRST_WORD || defined RUN_OTHER_CODE_REWRITES_THE_MESSAGE || \
+    defined RUN_REWRITES_A_STEP
+enum { STEP_BYTES = 12, REPLY_BYTES = 4 };
+
+uint32_t __real_board_run(const uint8_t *steps, size_t step_bytes, uint8_t *replies, size_t reply_bytes,
+                          uint8_t *table, size_t bytes);
+
+uint32_t __wrap_board_run(const uint8_t *steps, size_t step_bytes, uint8_t *replies, size_t reply_bytes,
+                          uint8_t *table, size_t bytes)
+{
+    uint32_t answer = __real_board_run(steps, step_bytes, replies, reply_bytes, table, bytes);
+    size_t count = step_bytes / STEP_BYTES;
+#if defined RUN_REFUSED_CLEARS_THE_REPLIES
+    for (size_t byte = 0; answer != 0 && byte < REPLY_BYTES * count && byte < reply_bytes; byte++)
+        replies[byte] = 0;
+#else
+    if (answer != 0)
+        return answer;
+#if defined RUN_REWRITES_A_REPLY_PAST_THE_RUN
+    if (reply_bytes > REPLY_BYTES * count)
+        rewrite(replies, REPLY_BYTES * count);
+#elif defined RUN_REWRITES_THE_FIRST_WORD
+    (void)count;
+    rewrite(table, 0);
+#elif defined RUN_OTHER_CODE_REWRITES_THE_MESSAGE
+    for (size_t i = 0; i < count; i++) {
+        const uint8_t *step = steps + STEP_BYTES * i;
+        uint16_t desk = (uint16_t)(step[4] | step[5] << 8);
+        if (replies[REPLY_BYTES * i] == BOARD_NO_CODE && desk >= 1 && desk <= table[0])
+            rewrite(table, message_byte(table, desk));
+    }
+#else
+    if (count != 0)
+        rewrite((uint8_t *)steps, STEP_BYTES * count - 1);
+#endif
+#endif
     return answer;
 }
 #elif defined TRAINING_OPEN_TOO_LARGE_REWRITES_THE_FIRST_WORD

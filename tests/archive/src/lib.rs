@@ -1,6 +1,6 @@
-//! The calls of the archive as safe functions, the same six for each room: a slice
-//! always points to as many bytes as its length says. Inlined, so that timing them
-//! times the calls alone.
+//! The calls of the archive as safe functions, the same six for each room, and the run
+//! of the hall: a slice always points to as many bytes as its length says. Inlined, so
+//! that timing them times the calls alone.
 
 /// Its message number `m`, desk `d`, screen `s` and position `p`; an opening's `p`, `c`
 /// and `l` are the desks, screens and positions.
@@ -12,6 +12,15 @@ mod c {
         pub fn board_swap(m: u16, d: u16, p: u16, new: u16, table: *mut u8, bytes: usize) -> u32;
         pub fn board_retire(m: u16, d: u16, table: *mut u8, bytes: usize) -> u32;
         pub fn board_collect(m: u16, d: u16, table: *mut u8, bytes: usize) -> u32;
+
+        pub fn board_run(
+            steps: *const u8,
+            step_bytes: usize,
+            replies: *mut u8,
+            reply_bytes: usize,
+            table: *mut u8,
+            bytes: usize,
+        ) -> u32;
 
         pub fn training_open(p: u16, c: u16, l: u16, table: *mut u8, bytes: usize) -> u32;
         pub fn training_take(m: u16, d: u16, s: u16, p: u16, table: *mut u8, bytes: usize) -> u32;
@@ -100,4 +109,12 @@ impl Calls {
     pub fn collect(&self, message: u16, desk: u16, table: &mut [u8]) -> u32 {
         unsafe { (self.collect)(message, desk, table.as_mut_ptr(), table.len()) }
     }
+}
+
+/// A run of steps in the hall.
+#[inline]
+pub fn run(steps: &[u8], replies: &mut [u8], table: &mut [u8]) -> u32 {
+    let (step_bytes, reply_bytes, bytes) = (steps.len(), replies.len(), table.len());
+    let (steps, replies, table) = (steps.as_ptr(), replies.as_mut_ptr(), table.as_mut_ptr());
+    unsafe { c::board_run(steps, step_bytes, replies, reply_bytes, table, bytes) }
 }

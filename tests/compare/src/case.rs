@@ -1,11 +1,9 @@
 //! A case: a table and the calls made on it, one after the other.
 
 use crate::call::Call;
+use crate::guarded::Guarded;
 use std::fmt;
 use std::str::FromStr;
-
-/// Guard bytes on each side of a table.
-const GUARD: usize = 64;
 
 #[derive(Clone, Debug, PartialEq, Eq)]
 pub struct Case {
@@ -31,6 +29,16 @@ pub struct Compared {
 }
 
 impl Compared {
+    /// Makes the call to the reference.
+    pub fn of_call(call: Call, table: &mut [u8]) -> Compared {
+        let repeats = call.repeats(table);
+        let found_too_large = call.finds_too_large(table);
+        let due_message = call.due_message(table);
+        let answer = call.to_reference(table);
+        let of_another_desk = answer >> 16 == 23 && call.has_message_of_a_desk(table);
+        Compared { call, repeats, found_too_large, due_message, of_another_desk, answer }
+    }
+
     pub fn number(&self) -> u16 {
         (self.answer >> 16) as u16
     }
@@ -59,14 +67,10 @@ impl Case {
         let mut of_reference = Guarded::new(&self.table, self.align);
         let mut of_archive = Guarded::new(&self.table, self.align);
         for (index, &call) in self.calls.iter().enumerate() {
-            let repeats = call.repeats(of_reference.table());
-            let found_too_large = call.finds_too_large(of_reference.table());
-            let due_message = call.due_message(of_reference.table());
-            let answer = call.to_reference(of_reference.table());
+            let compared = Compared::of_call(call, of_reference.table());
+            let answer = compared.answer;
             let archive = call.to_archive(of_archive.table());
-            let of_another_desk =
-                answer >> 16 == 23 && call.has_message_of_a_desk(of_reference.table());
-            seen(Compared { call, repeats, found_too_large, due_message, of_another_desk, answer });
+            seen(compared);
             if answer != archive || of_reference.bytes() != of_archive.bytes() {
                 let byte = of_reference.first_difference(&of_archive);
                 return Some(Difference { call: index, reference: answer, archive, byte });
@@ -80,45 +84,8 @@ impl Case {
     }
 }
 
-/// A table between guard bytes.
-struct Guarded {
-    memory: Vec<u8>,
-    start: usize,
-    length: usize,
-}
-
-impl Guarded {
-    fn new(table: &[u8], align: usize) -> Guarded {
-        let length = table.len();
-        let mut memory = vec![0; length + 2 * GUARD + 8];
-        let start = GUARD + align.wrapping_sub(memory.as_ptr() as usize) % 8;
-        // No two neighbours alike, and none 0: a stray write is unlikely to match.
-        for at in 0..GUARD {
-            memory[start - GUARD + at] = at as u8 + 1;
-            memory[start + length + at] = 255 - at as u8;
-        }
-        memory[start..start + length].copy_from_slice(table);
-        Guarded { memory, start, length }
-    }
-
-    fn table(&mut self) -> &mut [u8] {
-        &mut self.memory[self.start..self.start + self.length]
-    }
-
-    /// The table with its guards.
-    fn bytes(&self) -> &[u8] {
-        &self.memory[self.start - GUARD..self.start + self.length + GUARD]
-    }
-
-    fn first_difference(&self, other: &Guarded) -> Option<(isize, u8, u8)> {
-        let mut pairs = self.bytes().iter().zip(other.bytes());
-        let at = pairs.position(|(mine, others)| mine != others)?;
-        Some((at as isize - GUARD as isize, self.bytes()[at], other.bytes()[at]))
-    }
-}
-
 /// `0 | 01 00 01 00 01 00 00*36 | board_swap 0 1 1 5; training_collect 1 1`: the alignment,
-/// the table in hex with runs counted, the calls.
+/// the table in hex with equal bytes counted, the calls.
 impl fmt::Display for Case {
     fn fmt(&self, out: &mut fmt::Formatter) -> fmt::Result {
         let calls: Vec<String> = self.calls.iter().map(Call::to_string).collect();
@@ -127,16 +94,16 @@ impl fmt::Display for Case {
 }
 
 pub fn hex(bytes: &[u8]) -> String {
-    let runs = bytes.chunk_by(|a, b| a == b);
-    runs.map(|run| match run.len() {
-        1 => format!(" {:02X}", run[0]),
-        2 => format!(" {0:02X} {0:02X}", run[0]),
-        length => format!(" {:02X}*{length}", run[0]),
-    })
-    .collect()
+    let alike = bytes.chunk_by(|a, b| a == b);
+    let text = alike.map(|alike| match alike.len() {
+        1 => format!(" {:02X}", alike[0]),
+        2 => format!(" {0:02X} {0:02X}", alike[0]),
+        length => format!(" {:02X}*{length}", alike[0]),
+    });
+    text.collect()
 }
 
-fn bytes(hex: &str) -> Result<Vec<u8>, String> {
+pub fn bytes(hex: &str) -> Result<Vec<u8>, String> {
     let mut bytes = Vec::new();
     for part in hex.split_whitespace() {
         let (byte, times) = part.split_once('*').unwrap_or((part, "1"));

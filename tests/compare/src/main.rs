@@ -1,6 +1,7 @@
-//! Compares the archive with the reference: every answer and every byte.
+//! Compares the archive with the reference, and its runs with its single calls: every
+//! answer and every byte.
 //!
-//!     compare [--seed N] [--calls N] [--seconds N]   many cases
+//!     compare [--seed N] [--calls N] [--seconds N]   many cases, some of them runs
 //!     compare --seed N --case N                      one of them again
 //!     compare --replay 'CASE'                        a case as it was printed
 
@@ -9,14 +10,19 @@ mod case;
 mod crash;
 mod damage;
 mod distances;
+mod guarded;
+mod input;
 mod make;
+mod make_run;
 mod rng;
+mod run;
 mod shrink;
+mod shrink_run;
 mod tables;
 mod tally;
+mod tally_run;
 
-use case::{hex, Case};
-use shrink::{shrink, size};
+use input::Input;
 use std::process::ExitCode;
 use std::time::{Duration, Instant};
 use tally::Tally;
@@ -26,7 +32,7 @@ struct Options {
     calls: u64,
     seconds: u64,
     case: Option<u64>,
-    replay: Option<Case>,
+    replay: Option<Input>,
 }
 
 fn main() -> ExitCode {
@@ -37,11 +43,11 @@ fn main() -> ExitCode {
             return ExitCode::from(2);
         }
     };
-    if let Some(case) = &options.replay {
-        return compare_one(case);
+    if let Some(input) = &options.replay {
+        return compare_one(input);
     }
     if let Some(number) = options.case {
-        return compare_one(&make::case(options.seed, number));
+        return compare_one(&Input::of_number(options.seed, number));
     }
     compare_many(&options)
 }
@@ -75,10 +81,10 @@ fn compare_many(options: &Options) -> ExitCode {
     crash::watch(options.seed);
     while tally.calls < options.calls && begun.elapsed() < Duration::from_secs(options.seconds) {
         crash::now_at(number);
-        let case = make::case(options.seed, number);
-        if case.run(|compared| tally.count(&compared)).is_some() {
-            explain_case(options.seed, number, case);
-            println!("compare: {} calls, 1 difference", tally.calls);
+        let input = Input::of_number(options.seed, number);
+        if input.differs(&mut tally) {
+            explain(options.seed, number, input);
+            println!("compare: {}, 1 difference", compared(&tally));
             return ExitCode::FAILURE;
         }
         number += 1;
@@ -92,86 +98,60 @@ fn compare_many(options: &Options) -> ExitCode {
 fn judge(tally: &Tally) -> ExitCode {
     let missing = tally.missing();
     missing.iter().for_each(|missing| println!("{missing}"));
-    let calls = tally.calls;
+    let compared = compared(tally);
     if missing.is_empty() {
-        println!("compare: {calls} calls, 0 differences");
+        println!("compare: {compared}, 0 differences");
         ExitCode::SUCCESS
     } else {
-        println!("compare: {calls} calls, 0 differences, {} never occurred", missing.len());
+        println!("compare: {compared}, 0 differences, {} never occurred", missing.len());
         ExitCode::FAILURE
     }
 }
 
-fn explain_case(seed: u64, number: u64, case: Case) {
+fn compared(tally: &Tally) -> String {
+    let Tally { calls, runs, .. } = tally;
+    format!("{calls} calls, {} runs of {} steps", runs.runs, runs.steps)
+}
+
+fn explain(seed: u64, number: u64, input: Input) {
     println!("case {number} of seed {seed} differs");
     println!("again: compare --seed {seed} --case {number}");
-    let case = shrink(case);
-    explain(&case);
-    if let Some(smaller) = smaller_after(seed, number, &case) {
-        explain(&smaller);
+    let input = input.shrunk();
+    input.explain();
+    if let Some(smaller) = smaller_after(seed, number, &input) {
+        smaller.explain();
     }
 }
 
-fn compare_one(case: &Case) -> ExitCode {
+fn compare_one(input: &Input) -> ExitCode {
     let mut tally = Tally::default();
-    let differs = case.run(|compared| tally.count(&compared)).is_some();
-    if differs {
-        explain(&shrink(case.clone()));
-        println!("compare: {} calls, 1 difference", tally.calls);
+    if input.differs(&mut tally) {
+        input.clone().shrunk().explain();
+        println!("compare: {}, 1 difference", compared(&tally));
         ExitCode::FAILURE
     } else {
-        println!("compare: {} calls, 0 differences", tally.calls);
+        println!("compare: {}, 0 differences", compared(&tally));
         ExitCode::SUCCESS
     }
 }
 
-/// A smaller case among those after this one. A board that is wrong in one case
+/// A smaller input among those after this one. A board that is wrong in one case
 /// is usually wrong in more, and one of those may be simpler.
-fn smaller_after(seed: u64, number: u64, case: &Case) -> Option<Case> {
+fn smaller_after(seed: u64, number: u64, input: &Input) -> Option<Input> {
     let begun = Instant::now();
-    let mut smallest = None;
+    let mut smallest: Option<Input> = None;
     for later in number + 1.. {
         if begun.elapsed() > Duration::from_secs(2) {
             break;
         }
         crash::now_at(later);
-        let other = make::case(seed, later);
-        if other.differs() {
-            let other = shrink(other);
-            if size(&other) < size(smallest.as_ref().unwrap_or(case)) {
+        let other = Input::of_number(seed, later);
+        if other.differs(&mut Tally::default()) {
+            let other = other.shrunk();
+            if other.size() < smallest.as_ref().unwrap_or(input).size() {
                 smallest = Some(other);
             }
         }
     }
     smallest
-}
-
-/// A case that differs, the answers to its calls, and how to run it again.
-fn explain(case: &Case) {
-    println!(
-        "smallest case so far: {} calls, a table of {} bytes",
-        case.calls.len(),
-        case.table.len()
-    );
-    println!("table:{}", hex(&case.table));
-    let mut answers = Vec::new();
-    let difference = case.run(|compared| answers.push(compared.answer));
-    for (call, &answer) in case.calls.iter().zip(&answers) {
-        println!("  {call}: {}", reply(answer));
-    }
-    if let Some(difference) = difference {
-        println!(
-            "  reference {}, archive {}",
-            reply(difference.reference),
-            reply(difference.archive)
-        );
-        if let Some((at, reference, archive)) = difference.byte {
-            println!("  byte {at}: reference {reference:02X}, archive {archive:02X}");
-        }
-    }
-    println!("replay: compare --replay '{case}'");
-}
-
-fn reply(answer: u32) -> String {
-    format!("{} {}", answer >> 16, answer & 0xFFFF)
 }

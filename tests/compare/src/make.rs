@@ -24,6 +24,23 @@ pub fn case(seed: u64, number: u64) -> Case {
     }
 }
 
+/// A case whose steps become those of a run. Most of its tables are sound: a run does
+/// nothing on others.
+pub fn case_for_run(rng: &mut Rng) -> Case {
+    let room = Room::Hall;
+    match rng.below(16) {
+        0..=3 => history(rng, room),
+        4..=10 => {
+            let calls = on_sound_table(rng, room);
+            let most = rng.pick(&[4, 24, 60]);
+            steps(rng, calls, most)
+        }
+        11 | 12 => from_damaged_table(rng, room),
+        13 | 14 => from_cut_or_long_table(rng, room),
+        _ => from_any_bytes(rng, room),
+    }
+}
+
 /// The room of one call of a case.
 fn mostly(rng: &mut Rng, room: Room) -> Room {
     if rng.one_in(16) {

@@ -59,7 +59,7 @@ fn cut_after_difference(case: &mut Case) {
     }
 }
 
-/// Leaves out runs of calls, long ones first.
+/// Leaves out calls, many at once first.
 fn fewer_calls(smallest: &mut Case) {
     let mut length = smallest.calls.len() / 2;
     while length > 0 {
@@ -139,7 +139,7 @@ fn smaller_hall(smallest: &mut Case) {
     }
 }
 
-fn halls_within(hall: &Hall) -> Vec<Hall> {
+pub fn halls_within(hall: &Hall) -> Vec<Hall> {
     let mut halls = Vec::new();
     for desks in 1..=hall.desks {
         for screens in 1..=hall.screens {
@@ -163,7 +163,7 @@ fn hall_of(case: &Case) -> Option<Hall> {
 }
 
 /// The same case in a smaller hall, as far as possible.
-fn moved(case: &Case, from: &Hall, to: &Hall, skipped: u16) -> Case {
+pub fn moved(case: &Case, from: &Hall, to: &Hall, skipped: u16) -> Case {
     let spare = case.table.len().saturating_sub(2 * from.need());
     let mut table = vec![0; 2 * to.need() + spare];
     if case.table.len() >= 2 * from.need() {

@@ -1,8 +1,9 @@
-//! What was compared: the calls of each room and function, and among the swaps the
-//! repeats, by reply number and by what else they showed.
+//! What was compared: the calls of each room and function, and the steps of runs, and
+//! among the swaps the repeats, by reply number and by what else they showed.
 
 use crate::call::{Room, FUNCTIONS, ROOMS};
 use crate::case::Compared;
+use crate::tally_run::RunTally;
 use std::fmt;
 
 /// The reply numbers of calls. Those between are replies to sheets.
@@ -86,9 +87,9 @@ const NOTES: [Note; 7] = [
     },
 ];
 
-/// The calls of a room, in columns.
+/// The calls of a room, or the steps of runs, in columns.
 #[derive(Default)]
-struct Counts {
+pub struct Counts {
     by_number: [[u64; COLUMNS]; NUMBERS.len()],
     by_note: [[u64; COLUMNS]; NOTES.len()],
 }
@@ -97,30 +98,37 @@ struct Counts {
 pub struct Tally {
     of_room: [Counts; ROOMS.len()],
     pub calls: u64,
+    pub runs: RunTally,
 }
 
 impl Tally {
-    /// A repeat is counted as a swap too.
     pub fn count(&mut self, compared: &Compared) {
-        let call = compared.call;
-        let counts = &mut self.of_room[call.room as usize];
-        counts.count(call.function as usize, compared);
-        if compared.repeats {
-            let of_none = call.numbers[2] == 0;
-            counts.count(if of_none { REPEAT_OF_NONE } else { REPEAT }, compared);
-        }
+        self.of_room[compared.call.room as usize].count(compared);
         self.calls += 1;
     }
 
     /// What must occur, but never did.
     pub fn missing(&self) -> Vec<String> {
-        ROOMS.iter().zip(&self.of_room).flat_map(|(&room, counts)| counts.missing(room)).collect()
+        let of_rooms = ROOMS.iter().zip(&self.of_room).flat_map(|(&room, counts)| {
+            let prefix = format!("{}_", room.prefix());
+            counts.missing(&prefix, room, |_| true)
+        });
+        of_rooms.chain(self.runs.missing()).collect()
     }
 }
 
 impl Counts {
-    /// Counts an answer of the reference.
-    fn count(&mut self, column: usize, compared: &Compared) {
+    /// Counts an answer of the reference. A repeat is counted as a swap too.
+    pub fn count(&mut self, compared: &Compared) {
+        let call = compared.call;
+        self.count_in(call.function as usize, compared);
+        if compared.repeats {
+            let of_none = call.numbers[2] == 0;
+            self.count_in(if of_none { REPEAT_OF_NONE } else { REPEAT }, compared);
+        }
+    }
+
+    fn count_in(&mut self, column: usize, compared: &Compared) {
         let row = NUMBERS.iter().position(|&number| number == compared.number());
         self.by_number[row.expect("a reply number of a call")][column] += 1;
         for (note, by_column) in NOTES.iter().zip(&mut self.by_note) {
@@ -128,12 +136,15 @@ impl Counts {
         }
     }
 
-    fn missing(&self, room: Room) -> Vec<String> {
+    /// What must occur in the room, but never did; of the reply numbers, those that are
+    /// due.
+    pub fn missing(&self, prefix: &str, room: Room, is_due: fn(u16) -> bool) -> Vec<String> {
         let mut missing = Vec::new();
         for column in 0..COLUMNS {
-            let call = format!("{}_{}", room.prefix(), name(column));
+            let call = format!("{prefix}{}", name(column));
             for (number, by_column) in NUMBERS.iter().zip(&self.by_number) {
-                if replies(room, column).contains(number) && by_column[column] == 0 {
+                let replies = replies(room, column);
+                if replies.contains(number) && is_due(*number) && by_column[column] == 0 {
                     missing.push(format!("{call} never answered {number}"));
                 }
             }
@@ -146,6 +157,7 @@ impl Counts {
         missing
     }
 
+    /// A row for each reply number, all calls, and a row for each note.
     fn rows(&self) -> impl Iterator<Item = (String, [u64; COLUMNS])> + '_ {
         let by_number = NUMBERS.iter().zip(self.by_number);
         let by_number = by_number.map(|(number, calls)| (number.to_string(), calls));
@@ -159,25 +171,35 @@ impl Counts {
     }
 }
 
-/// A table for each room.
+/// A table for each room, and those of the runs.
 impl fmt::Display for Tally {
     fn fmt(&self, out: &mut fmt::Formatter) -> fmt::Result {
         for (room, counts) in ROOMS.iter().zip(&self.of_room) {
-            write!(out, "{:<16}", format!("{}_", room.prefix()))?;
-            (0..COLUMNS).try_for_each(|column| write!(out, "{:>9}", name(column)))?;
-            writeln!(out)?;
-            for (name, calls) in counts.rows() {
-                write!(out, "{name:<16}")?;
-                for calls in calls {
-                    match calls {
-                        0 => write!(out, "{:>9}", "-")?,
-                        calls => write!(out, "{calls:>9}")?,
-                    }
-                }
-                writeln!(out)?;
-            }
-            writeln!(out)?;
+            counts.print(out, &format!("{}_", room.prefix()))?;
         }
-        Ok(())
+        write!(out, "{}", self.runs)
     }
+}
+
+impl Counts {
+    pub fn print(&self, out: &mut fmt::Formatter, title: &str) -> fmt::Result {
+        write!(out, "{title:<16}")?;
+        (0..COLUMNS).try_for_each(|column| write!(out, "{:>9}", name(column)))?;
+        writeln!(out)?;
+        for (name, calls) in self.rows() {
+            print_row(out, &name, &calls)?;
+        }
+        writeln!(out)
+    }
+}
+
+pub fn print_row(out: &mut fmt::Formatter, name: &str, counts: &[u64]) -> fmt::Result {
+    write!(out, "{name:<16}")?;
+    for count in counts {
+        match count {
+            0 => write!(out, "{:>9}", "-")?,
+            count => write!(out, "{count:>9}")?,
+        }
+    }
+    writeln!(out)
 }

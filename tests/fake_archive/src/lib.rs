@@ -20,6 +20,16 @@ unsafe fn lent<'a>(table: *mut u8, bytes: usize) -> &'a mut [u8] {
     }
 }
 
+/// # Safety
+/// As for `lent`; nothing is written.
+unsafe fn lent_to_read<'a>(table: *const u8, bytes: usize) -> &'a [u8] {
+    if bytes == 0 {
+        &[]
+    } else {
+        std::slice::from_raw_parts(table, bytes)
+    }
+}
+
 /// The calls of a room: its limits, then for each call its C name, its function in
 /// the reference, and its numbers.
 macro_rules! calls {
@@ -51,4 +61,17 @@ calls! {
     training_swap = swap(message, desk, position, session);
     training_retire = retire(message, desk);
     training_collect = collect(message, desk);
+}
+
+#[no_mangle]
+unsafe extern "C" fn board_run(
+    steps: *const u8,
+    step_bytes: usize,
+    replies: *mut u8,
+    reply_bytes: usize,
+    table: *mut u8,
+    bytes: usize,
+) -> u32 {
+    let steps = lent_to_read(steps, step_bytes);
+    answer(board::run(steps, lent(replies, reply_bytes), lent(table, bytes)))
 }

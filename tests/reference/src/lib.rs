@@ -8,6 +8,7 @@
 mod hall;
 mod limits;
 mod record;
+mod run;
 pub mod sheet;
 mod sound;
 mod words;
@@ -15,6 +16,7 @@ mod words;
 pub use self::hall::Hall;
 pub use self::limits::Limits;
 pub use self::record::place;
+pub use self::run::run;
 pub use self::sound::is_sound;
 pub use self::words::{set_word, word};
 
@@ -39,6 +41,8 @@ pub enum Refusal {
     Owing = 12,
     OwesNothing = 13,
     NoRoom = 14,
+    /// Of a step in a run: its code is not 1 to 5.
+    BadCode = 17,
     /// A size or a session that the hall allows and this room does not.
     OverLimits = 22,
     /// Not the desk's next message number.

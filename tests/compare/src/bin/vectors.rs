@@ -17,6 +17,7 @@ mod former;
 mod vector_bytes;
 
 use call::Call;
+use reference::answer;
 use std::path::Path;
 use std::process::ExitCode;
 use std::{env, fs};
@@ -91,42 +92,83 @@ fn run_file(file: &str, layout: Layout, faults: &mut Vec<String>) -> Result<usiz
     }
 }
 
-/// A call, the table it is lent, its answer, and the table after it.
+/// A call or a run, the tables it is lent, its answer, and the tables after it.
 struct Vector {
     /// The call as the line has it.
     text: String,
-    call: Call,
-    table: Vec<u8>,
+    sent: Sent,
+    tables: Vec<Vec<u8>>,
     answer: u32,
-    after: Vec<u8>,
+    after: Vec<Vec<u8>>,
+}
+
+enum Sent {
+    Call(Call),
+    /// It has no numbers; its tables are steps, replies and the board's.
+    Run,
+}
+
+impl Sent {
+    fn of_text(text: &str, layout: Layout) -> Result<Sent, String> {
+        Ok(match (text, layout) {
+            ("board_run", _) => Sent::Run,
+            (_, Layout::Current) => Sent::Call(text.parse()?),
+            (_, Layout::Former) => Sent::Call(former::call(text)?),
+        })
+    }
+
+    /// The names of the tables.
+    fn tables(&self) -> &'static [&'static str] {
+        match self {
+            Sent::Call(_) => &["table"],
+            Sent::Run => &["steps", "replies", "table"],
+        }
+    }
+
+    fn to_archive(&self, tables: &mut [Vec<u8>]) -> u32 {
+        match (self, tables) {
+            (Sent::Call(call), [table]) => call.to_archive(table),
+            (Sent::Run, [steps, replies, table]) => archive::run(steps, replies, table),
+            _ => unreachable!("as many tables as names"),
+        }
+    }
+
+    fn to_reference(&self, tables: &mut [Vec<u8>]) -> u32 {
+        match (self, tables) {
+            (Sent::Call(call), [table]) => call.to_reference(table),
+            (Sent::Run, [steps, replies, table]) => answer(reference::run(steps, replies, table)),
+            _ => unreachable!("as many tables as names"),
+        }
+    }
 }
 
 impl Vector {
     /// Where the archive or the reference differs from the line.
     fn faults(&self) -> Vec<String> {
-        let mut of_archive = self.table.clone();
-        let archive = self.call.to_archive(&mut of_archive);
-        let mut of_reference = self.table.clone();
-        let reference = self.call.to_reference(&mut of_reference);
+        let mut of_archive = self.tables.clone();
+        let archive = self.sent.to_archive(&mut of_archive);
+        let mut of_reference = self.tables.clone();
+        let reference = self.sent.to_reference(&mut of_reference);
         let mut faults = self.differences("archive", archive, &of_archive);
         faults.extend(self.differences("reference", reference, &of_reference));
         faults
     }
 
-    /// The answer, and the table's first byte, that are not as expected.
-    fn differences(&self, board: &str, answer: u32, table: &[u8]) -> Vec<String> {
+    /// The answer, and the first byte of each table, that are not as expected.
+    fn differences(&self, board: &str, answer: u32, tables: &[Vec<u8>]) -> Vec<String> {
         let call = &self.text;
         let mut faults = Vec::new();
         if answer != self.answer {
             let (expected, got) = (reply(self.answer), reply(answer));
             faults.push(format!("{call}: expected {expected}, {board} answered {got}"));
         }
-        let mut bytes = self.after.iter().zip(table);
-        if let Some(at) = bytes.position(|(expected, got)| expected != got) {
-            let (expected, got) = (self.after[at], table[at]);
-            faults.push(format!(
-                "{call}: byte {at}: expected {expected:02x}, {board} left {got:02x}"
-            ));
+        for (name, (after, table)) in self.sent.tables().iter().zip(self.after.iter().zip(tables)) {
+            let mut bytes = after.iter().zip(table);
+            if let Some(at) = bytes.position(|(expected, got)| expected != got) {
+                let what = format!("{call}: byte {at} of the {name}");
+                let (expected, got) = (after[at], table[at]);
+                faults.push(format!("{what}: expected {expected:02x}, {board} left {got:02x}"));
+            }
         }
         faults
     }
@@ -140,24 +182,34 @@ impl Vector {
     /// `board_swap 0 1 1 5 | 010001000100.00*36 | 0 0 | 0100010001000500.00*32.0100`
     fn of_line(line: &str, layout: Layout) -> Result<Vector, String> {
         let fields: Vec<&str> = line.split(" | ").collect();
-        let [text, table, answer, after] = fields[..] else {
+        let [text, tables, answer, after] = fields[..] else {
             return Err(format!("{} fields, not 4", fields.len()));
         };
-        let table = bytes(table)?;
-        let answer = numbers(answer)?;
-        // `=` is a table that has not changed. A call cannot change its length.
-        let after = if after == "=" { table.clone() } else { bytes(after)? };
-        if after.len() != table.len() {
-            return Err(format!("{text}: the table after the call has another length"));
-        }
+        let sent = Sent::of_text(text, layout)?;
         let text = text.to_string();
-        Ok(match layout {
-            Layout::Current => Vector { call: text.parse()?, text, table, answer, after },
-            Layout::Former => {
-                let call = former::call(&text)?;
-                let after = former::after(call, answer >> 16 == 0, &table, &after);
-                Vector { text, call, table: former::before(call, &table), answer, after }
+        let tables = tables.split(' ').map(bytes).collect::<Result<Vec<_>, _>>()?;
+        let answer = numbers(answer)?;
+        let after: Vec<&str> = after.split(' ').collect();
+        if [tables.len(), after.len()] != [sent.tables().len(); 2] {
+            return Err(format!("{text}: not the number of its tables"));
+        }
+        // `=` is a table that has not changed. A call cannot change its length.
+        let after = tables.iter().zip(after).map(|(table, after)| match after {
+            "=" => Ok(table.clone()),
+            after => bytes(after),
+        });
+        let after = after.collect::<Result<Vec<_>, _>>()?;
+        if tables.iter().map(Vec::len).ne(after.iter().map(Vec::len)) {
+            return Err(format!("{text}: a table after the call has another length"));
+        }
+        Ok(match (layout, sent) {
+            (Layout::Former, Sent::Call(call)) => {
+                let is_accepted = answer >> 16 == 0;
+                let after = former::after(call, is_accepted, &tables[0], &after[0]);
+                let tables = vec![former::before(call, &tables[0])];
+                Vector { text, sent: Sent::Call(call), tables, answer, after: vec![after] }
             }
+            (_, sent) => Vector { text, sent, tables, answer, after },
         })
     }
 }

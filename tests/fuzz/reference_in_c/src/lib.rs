@@ -22,7 +22,7 @@ pub unsafe extern "C" fn reference_call(
 ) -> u32 {
     let limits = if room == 0 { Limits::HALL } else { Limits::TRAINING };
     let [a, b, c] = *numbers;
-    let table = if bytes == 0 { &mut [] } else { slice::from_raw_parts_mut(table, bytes) };
+    let table = lent(table, bytes);
     answer(match function {
         0 => reference::open(limits, a, b, c, table),
         1 => reference::take(limits, message, a, b, c, table),
@@ -32,6 +32,23 @@ pub unsafe extern "C" fn reference_call(
         5 => reference::collect(limits, message, a, table),
         _ => unreachable!("six functions"),
     })
+}
+
+/// A run of steps in the hall.
+///
+/// # Safety
+/// Each of the three points to its number of bytes, or this is 0.
+#[no_mangle]
+pub unsafe extern "C" fn reference_run(
+    steps: *const u8,
+    step_bytes: usize,
+    replies: *mut u8,
+    reply_bytes: usize,
+    table: *mut u8,
+    bytes: usize,
+) -> u32 {
+    let steps = slice_of(steps, step_bytes);
+    answer(reference::run(steps, lent(replies, reply_bytes), lent(table, bytes)))
 }
 
 /// What a sheet program writes, valid until the next call; its length goes to
@@ -61,11 +78,19 @@ pub unsafe extern "C" fn reference_output(
     keep(output, &raw mut OUTPUT, length)
 }
 
-unsafe fn slice_of<'a>(sheet: *const u8, bytes: usize) -> &'a [u8] {
+unsafe fn slice_of<'a>(start: *const u8, bytes: usize) -> &'a [u8] {
     if bytes == 0 {
         &[]
     } else {
-        slice::from_raw_parts(sheet, bytes)
+        slice::from_raw_parts(start, bytes)
+    }
+}
+
+unsafe fn lent<'a>(start: *mut u8, bytes: usize) -> &'a mut [u8] {
+    if bytes == 0 {
+        &mut []
+    } else {
+        slice::from_raw_parts_mut(start, bytes)
     }
 }
 
