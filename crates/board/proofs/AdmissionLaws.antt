@@ -10,7 +10,7 @@ use lib.ListN.{drop, getD, length}
 use lib.Seq.{drop-drop}
 use borrow.Author.Tests.{eqb-true, le-leb, leb-true}
 use Rattle.rules.specs.Bytes.{Words16}
-use Rattle.rules.specs.Hall.{Hall, Limits, allScreens, maxAllScreens}
+use Rattle.rules.specs.Hall.{Hall, Limits, allScreens, maxAllScreens, maxDesks, maxPositions}
 use Rattle.rules.specs.Lists.{chunks, every}
 use Rattle.rules.specs.Runs.{answerRequest}
 use Rattle.rules.specs.Steps.{Call, Result, inRange}
@@ -81,6 +81,20 @@ sound-hall {limits} {t} {h} q = go (sound limits t) refl
     go : (b : Bool) → sound limits t ≡ b → SoundHall limits t h
     go true e = let z : Sound h ≡ Sound (numbersIn t) = rw e at q in record { yes-sound = e; is = cc }
     go false e = let z : Sound h ≡ Unsound = rw e at q in let never : _≡_ {A = ℕ} 0 1 = cc in absurd (omega arith)
+
+-- its numbers are within the limits
+pub record Bounded (h : Numbers) : Type 0 where
+  pub desks : h .desks ≤ maxDesks
+  pub positions : h .positions ≤ maxPositions
+  pub all : h .all ≤ maxAllScreens
+
+pub hall-bounded : {limits : Limits} {t : List ℕ} {h : Numbers} → SoundHall limits t h → Bounded h
+hall-bounded {limits} {t} {h} hall =
+    let desks = ap (λ (x : Numbers). x .desks) (hall .is) in
+    let positions = ap (λ (x : Numbers). x .positions) (hall .is) in
+    let all = ap (λ (x : Numbers). x .all) (hall .is) in
+    let f = known limits t (hall .yes-sound) in
+    record { desks = omega (arith, desks, f .fits .desks); positions = omega (arith, positions, f .fits .positions); all = omega (arith, all, f .bounded) }
 
 pub not-sound : (limits : Limits) (t : List ℕ) → Unsound ≡ soundnessOf limits t → sound limits t ≡ false
 unfolding soundnessOf

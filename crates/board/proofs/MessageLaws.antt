@@ -1,25 +1,27 @@
--- The message number: an accepted step, and no other, moves it on; and what `next_message` finds.
-use Prim.Native.Nat.{ℕ, zero, suc, _+_, _*_, _≤_, _<_}
+-- The message number: an accepted step, and no other, moves it on; and what `next_in` finds.
+use Prim.Native.Nat.{ℕ, zero, suc, _+_, _*_, _<_}
 use native.Mathlib.Omega.{arith}
-use mathlib.Core.Bool.{true, false, cond, _&&_, and-false}
+use mathlib.Core.Bool.{true, false, and-false}
 use mathlib.Core.List.{List}
 use mathlib.Core.Path.{_≡_, refl, sym, ap, _∙_}
 use lib.Dec.{eqb·suc-zero}
-use lib.ListN.{getD, length, set, List·getD-eq-default}
+use lib.ListN.{getD, length, set}
 use borrow.Author.Tests.{eq-eqb, ne-eqb}
 use Rattle.rules.specs.Bytes.{wordsOfBytes}
-use Rattle.rules.specs.Hall.{Limits, hallOf, maxDesks, maxScreens}
+use Rattle.rules.specs.Hall.{Limits}
 use Rattle.rules.specs.Messages.{nextIn}
 use Rattle.rules.specs.Steps.{Result, Step, _numbered_, _sends_, accept, advance, decide, firstNo, inRange, performStep, stepQuestions}
-use Rattle.rules.specs.Table.{decode, hallIn, headerWords, inHall, nextWord, stepTable, tableAfterStep}
+use Rattle.rules.specs.Table.{decode, hallIn, inHall, nextWord, stepTable, tableAfterStep, within}
 use Rattle.rules.specs.laws.history.StepEffects.{in-range}
-use Rattle.rules.specs.laws.table.TableSteps.{accepted-step, asked, number-word, refused-step}
+use Rattle.rules.specs.laws.lists.Bools.{and-left}
+use Rattle.rules.specs.laws.table.TableSteps.{accepted-step, asked, known-inside, number-word, refused-step}
 use Rattle.words.proofs.Laws.{length-words, written-then}
 use Rattle.reply.specs.Answer.{answerOf, tableResult}
 use Rattle.reply.specs.declared.Reply.{Reply}
 use Rattle.board.specs.Results.{Matches, Performed, Stepped, admittedStep, movedOn}
 use Rattle.board.specs.declared.Location.{Location}
-use Rattle.board.proofs.AdmissionLaws.{AdmitsCall, admitted}
+use Rattle.board.specs.declared.Hall.{Hall as Numbers}
+use Rattle.board.proofs.AdmissionLaws.{AdmitsCall, SoundHall, admitted}
 
 -- a step of a desk that is admitted with its next message number, given the result of all but the number
 module _ {limits : Limits} {t : List ℕ} {message desk : ℕ} {p : Location} (a : AdmitsCall limits t message desk p) (step : Step) where
@@ -71,30 +73,15 @@ stepped {before = before} {between} {after} {message} {p = p} a step done long m
           .last;
     }
 
--- ---- the next message number of desk d in any table
-pub next-of-short : (t : List ℕ) (d : ℕ) → length t < headerWords → 0 ≡ nextIn t d
-next-of-short t d h =
-    let desks = inRange (hallIn t .desks) maxDesks in
-    let screens = inRange (hallIn t .screens) maxScreens in
-    let none : getD t 2 0 ≡ 0 = List·getD-eq-default t 0 (omega arith) in
-    rw (none, and-false screens, and-false desks)
+-- ---- the next message number of desk d in a sound table
+module _ {limits : Limits} {t : List ℕ} {h : Numbers} (hall : SoundHall limits t h) (d : ℕ) where
+  desks-are : h .desks ≡ hallIn t .desks
+  desks-are = ap (λ (x : Numbers). x .desks) (hall .is)
 
--- the header is read as P, c and L
-module _ (t : List ℕ) (d P c L : ℕ) (desks-is : P ≡ getD t 0 0) (screens-is : c ≡ getD t 1 0) (positions-is : L ≡ getD t 2 0) where
-  next-is : cond (inHall (hallOf P c L) && inRange d P) (getD t (nextWord (hallOf P c L) d) 0) 0 ≡ nextIn t d
-  next-is =
-      (λ i. let hall = hallOf (desks-is i) (screens-is i) (positions-is i) in cond (inHall hall && inRange d (hall .desks)) (getD t (nextWord hall d) 0) 0)
+  pub next-of-no-desk : inRange d (h .desks) ≡ false → 0 ≡ nextIn t d
+  next-of-no-desk out = sym (rw (ap (inRange d) (sym desks-are) ∙ out, and-false (inHall (hallIn t))))
 
-  pub next-of-no-hall : inHall (hallOf P c L) ≡ false → 0 ≡ nextIn t d
-  next-of-no-hall out = sym (rw out) ∙ next-is
-
-  module _ (inside : inHall (hallOf P c L) ≡ true) where
-    pub next-of-no-desk : inRange d P ≡ false → 0 ≡ nextIn t d
-    next-of-no-desk out = sym (rw (inside, out)) ∙ next-is
-
-    module _ (own : inRange d P ≡ true) (at : ℕ) (at-is : at ≡ nextWord (hallOf P c L) d) where
-      pub next-of-desk : getD t at 0 ≡ nextIn t d
-      next-of-desk = ap (λ (k : ℕ). getD t k 0) at-is ∙ sym (rw (inside, own)) ∙ next-is
-
-      pub next-past-the-end : length t ≤ at → 0 ≡ nextIn t d
-      next-past-the-end h = sym (List·getD-eq-default t 0 h) ∙ next-of-desk
+  pub next-of-desk : inRange d (h .desks) ≡ true → {at : ℕ} → at ≡ nextWord (hallIn t) d → getD t at 0 ≡ nextIn t d
+  next-of-desk own at-is =
+      let inside = and-left (inHall (hallIn t)) (within limits (hallIn t)) (known-inside limits t (hall .yes-sound)) in
+      ap (λ (k : ℕ). getD t k 0) at-is ∙ sym (rw (inside, ap (inRange d) (sym desks-are) ∙ own))

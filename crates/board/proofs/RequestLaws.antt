@@ -5,7 +5,6 @@ use mathlib.Core.List.{List}
 use mathlib.Core.Option.{Option, none, some}
 use mathlib.Core.Path.{_≡_, refl}
 use borrow.Author.Tests.{ne-eqb}
-use Rattle.rules.specs.Bytes.{wordsOfBytes}
 use Rattle.rules.specs.Hall.{Limits}
 use Rattle.rules.specs.Runs.{requestFor}
 use Rattle.rules.specs.Steps.{Call, Collect, Drop, Retire, Swap, Take, _numbered_, _sends_}

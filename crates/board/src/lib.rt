@@ -262,9 +262,10 @@ fn admit(t: &[u8], limits: Limits, hall: Hall, message: u16, desk: u16) -> Admis
     requires { ⌜ Sound hall ≡ soundnessOf (limitsOf limits) (wordsOfBytes (now t)) ⌝ }
     ensures { λ r. ⌜ r ≡ admissionOf (wordsOfBytes (now (t .entry))) message desk ⌝ }
 {
+    let p = hall.desks;
     let l = hall.positions;
     let s = hall.all;
-    if !in_range(desk, hall.desks) {
+    if !in_range(desk, p) {
         return Admission::NoDesk;
     }
     let d = desk as usize;
@@ -282,6 +283,19 @@ fn admit(t: &[u8], limits: Limits, hall: Hall, message: u16, desk: u16) -> Admis
         end: e,
         next: next,
     })
+}
+
+// The next message number of a desk in a sound table; 0 for a desk that the hall does not have.
+pub fn next_in(t: &[u8], limits: Limits, hall: Hall, desk: u16) -> u16
+    requires { ⌜ Sound hall ≡ soundnessOf (limitsOf limits) (wordsOfBytes (now t)) ⌝ }
+    ensures { λ r. ⌜ r ≡ nextIn (wordsOfBytes (now (t .entry))) desk ⌝ }
+{
+    if !in_range(desk, hall.desks) {
+        return 0;
+    }
+    let s = hall.all;
+    let a = record_start(hall.positions, s, desk as usize - 1);
+    word(t, a + tail_offset(s))
 }
 
 // What the opening of a hall asks, in order, of its three numbers and of the words that the table has.
@@ -320,32 +334,6 @@ pub fn open(t: &mut [u8], limits: Limits, desks: u16, screens: u16, positions: u
     put_word(t, SCREENS, screens);
     put_word(t, POSITIONS, positions);
     Reply::Accepted(0)
-}
-
-// The next message number of a desk. The table need not be sound: if P, c or L is out of range, the hall has no such desk or the table ends
-// before the number, it is 0.
-pub fn next_message(t: &[u8], desk: u16) -> u16
-    ensures { λ r. ⌜ r ≡ nextIn (wordsOfBytes (now (t .entry))) desk ⌝ }
-{
-    let n = t.len() >> 1;
-    if n < HEADER {
-        return 0;
-    }
-    let desks = word(t, DESKS);
-    let screens = word(t, SCREENS);
-    let positions = word(t, POSITIONS);
-    if !in_hall(desks, screens, positions) {
-        return 0;
-    }
-    if !in_range(desk, desks as usize) {
-        return 0;
-    }
-    let s = desks as usize * screens as usize;
-    let next = record_start(positions as usize, s, desk as usize - 1) + tail_offset(s);
-    if n <= next {
-        return 0;
-    }
-    word(t, next)
 }
 
 // Ends an admitted step, given its reply: after an acceptance the desk's next message number, word `next`, is the one after the call's; 0

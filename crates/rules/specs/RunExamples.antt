@@ -1,14 +1,14 @@
 -- The theorem about runs applied: a session that a run puts and takes, that a single call replaces, and that another run retires and hands back.
-use Prim.Native.Nat.{ℕ, _+_, _*_, _≤_, _<_}
+use Prim.Native.Nat.{ℕ, _+_, _≤_, _<_}
 use native.Mathlib.Omega.{arith}
 use mathlib.Core.Path.{_≡_, refl}
-use mathlib.Core.List.{List, [], _∷_, _++_, map}
+use mathlib.Core.List.{List, [], _∷_, _++_}
 use lib.ListN.{getD, replicate, take}
 use Rattle.rules.specs.Bytes.{IsBytes, bytesOfWords, openBytes, overwriteWords, stepBytes}
-use Rattle.rules.specs.Cases.{_⇒_, ok, refusedWith}
+use Rattle.rules.specs.Cases.{_⇒_, ok}
 use Rattle.rules.specs.Demands.{Demand2}
 use Rattle.rules.specs.Hall.{hallLimits, hallOf}
-use Rattle.rules.specs.History.{_by_, effectAt, handBacks, handBacksOf, handsBack, retirements, retirementsOf, retires}
+use Rattle.rules.specs.History.{_by_, effectAt, handBacks, handBacksOf, retirements, retirementsOf, retires}
 use Rattle.rules.specs.MessageCases.{tableOfOne}
 use Rattle.rules.specs.Runs.{AllSent16, Sent, callsOf, inOneCall, lentOf, mixedHistory, mixedTables, runBytes, single, tableAfterMixed}
 use Rattle.rules.specs.Steps.{Collect, Drop, Event, Retire, Swap, Take, _numbered_, _sends_, end, run}

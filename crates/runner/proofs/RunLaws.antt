@@ -4,7 +4,7 @@ use native.Mathlib.Omega.{arith}
 use mathlib.Core.Bool.{Bool, true, false}
 use mathlib.Core.List.{List, [], _∷_, _++_, append-assoc, append-nil, map}
 use mathlib.Core.Option.{Option, none, some}
-use mathlib.Core.Path.{_≡_, refl, sym, ap, subst, _∙_}
+use mathlib.Core.Path.{_≡_, refl, sym, ap, _∙_}
 use lib.Dec.{leb}
 use lib.ListN.{drop, getD, length, set, take, take-append-drop}
 use lib.Seq.{drop-drop, getD-take, length-take-le}
@@ -12,10 +12,9 @@ use borrow.Author.Tests.{leb-true}
 use Rattle.rules.specs.Bytes.{IsBytes, overwriteWords, stepBytes, wordsOfBytes}
 use Rattle.rules.specs.Hall.{Limits}
 use Rattle.rules.specs.Lists.{chunks}
-use Rattle.rules.specs.Runs.{Lent, afterAll, answerRequest, answersTo, lentAfter, lentOf, replyWidth, replyWords, requestFor, requestIn, requestsIn, runBytes}
+use Rattle.rules.specs.Runs.{afterAll, answerRequest, answersTo, lentAfter, lentOf, replyWidth, replyWords, requestFor, requestIn, requestsIn, runBytes}
 use Rattle.rules.specs.Runs.{stepWidth}
-use Rattle.rules.specs.Steps.{Answer, Call, Result}
-use Rattle.rules.specs.Table.{stepTable}
+use Rattle.rules.specs.Steps.{Call, Result}
 use Rattle.rules.specs.laws.bytes.Bytes.{overwrite-back, overwrite-front, words-are-16}
 use Rattle.reply.specs.Answer.{answerOf, tableResult}
 use Rattle.reply.specs.declared.Reply.{Reply}

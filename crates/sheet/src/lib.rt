@@ -1,6 +1,6 @@
 use board::Soundness;
 use board::check;
-use board::next_message;
+use board::next_in;
 use board::open;
 use board::request;
 use limits::Limits;
@@ -70,7 +70,7 @@ pub fn run_record(table: &mut [u8], limits: Limits, soundness: Soundness, entry:
         },
         Soundness::Sound(hall) => {
             let desk = entry.desk;
-            let message = next_message(table, desk);
+            let message = next_in(table, limits, hall, desk);
             request(
                 table,
                 limits,

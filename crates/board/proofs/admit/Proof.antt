@@ -1,14 +1,13 @@
 -- `board::admit` meets its contract.
-use Prim.Native.Nat.{ℕ, _+_, _-_, _*_, _≤_}
+use Prim.Native.Nat.{ℕ, _+_, _-_}
 use native.Mathlib.Omega.{arith}
 use mathlib.Core.Bool.{true}
 use mathlib.Core.List.{List}
 use mathlib.Core.Path.{_≡_, sym, ap, ap₂, _∙_}
-use lib.ListN.{getD, length}
+use lib.ListN.{getD}
 use borrow.Author.Needs.{needs}
 use borrow.Author.Tests.{eq-eqb, ne-eqb}
 use Rattle.rules.specs.Bytes.{wordsOfBytes}
-use Rattle.rules.specs.Hall.{Limits, maxAllScreens, maxDesks, maxPositions}
 use Rattle.rules.specs.Steps.{inRange}
 use Rattle.rules.specs.Table.{hallIn, nextWord, startFor, tailOffset}
 use Rattle.rules.specs.laws.history.StepEffects.{in-range}
@@ -18,7 +17,7 @@ use Rattle.words.proofs.Laws.{length-words}
 use Rattle.board.specs.Admission.{admissionOf}
 use Rattle.board.specs.declared.Admission.the-variants.{At}
 use Rattle.board.specs.declared.Hall.{Hall}
-use Rattle.board.proofs.AdmissionLaws.{SoundHall, sound-hall}
+use Rattle.board.proofs.AdmissionLaws.{Bounded, SoundHall, hall-bounded, sound-hall}
 use Rattle.board.proofs.SoundLaws.{said-no, said-yes}
 use Rattle.board.proofs.admit.Statement.{statement}
 use Rattle.board.proofs.admit.Tie as tie
@@ -33,19 +32,8 @@ numbers o = sound-hall (o .pre)
 facts : (o : tie.Start) → Known (words o)
 facts o = known (limitsOf (o .args .limits)) (words o) (numbers o .yes-sound)
 
--- it is within the limits
-record Within (hall : Hall) : Type 0 where
-  pub desks : hall .desks ≤ maxDesks
-  pub positions : hall .positions ≤ maxPositions
-  pub all : hall .all ≤ maxAllScreens
-
-within : (o : tie.Start) → Within (o .args .hall)
-within o =
-    let desks = ap (λ (h : Hall). h .desks) (numbers o .is) in
-    let positions = ap (λ (h : Hall). h .positions) (numbers o .is) in
-    let all = ap (λ (h : Hall). h .all) (numbers o .is) in
-    let f = facts o in
-    record { desks = omega (arith, desks, f .fits .desks); positions = omega (arith, positions, f .fits .positions); all = omega (arith, all, f .bounded) }
+within : (o : tie.Start) → Bounded (o .args .hall)
+within o = hall-bounded (numbers o)
 
 -- the desk is one of the hall's
 own-desk : (c : tie.Else1) → let start = c .before .before .before in inRange (start .args .desk) (hallIn (words start) .desks) ≡ true

@@ -1,13 +1,9 @@
 -- `board::check` meets its contract: the header is broken, or the records decide.
-use Prim.Native.Nat.{_*_, _≤_}
 use native.Mathlib.Nat.{mul-le-mul}
 use native.Mathlib.Omega.{arith}
-use mathlib.Core.List.{List}
-use mathlib.Core.Path.{_≡_, sym, ap, _∙_}
-use lib.ListN.{length}
+use mathlib.Core.Path.{sym, ap, _∙_}
 use borrow.Author.Needs.{needs}
 use Rattle.rules.specs.Bytes.{wordsOfBytes}
-use Rattle.rules.specs.Hall.{Limits, maxAllScreens, maxDesks, maxPositions}
 use Rattle.rules.specs.Table.{hallIn, startFor}
 use Rattle.rules.specs.laws.table.EncodedStep.{limits-fit}
 use Rattle.limits.specs.Room.{limitsOf}

@@ -1,6 +1,5 @@
 -- `runner::run` meets its contract: 4, 5, or the steps.
-use mathlib.Core.Bool.{true}
-use mathlib.Core.Path.{_≡_, sym, _∙_}
+use mathlib.Core.Path.{sym, _∙_}
 use borrow.Author.Needs.{needs}
 use Rattle.limits.specs.Room.{limitsOf}
 use Rattle.board.proofs.SoundLaws.{said-no, said-yes}
@@ -35,7 +34,7 @@ same-length c = search needs
 
 returns-2 : tie.Need-returns-2
 returns-2 c =
-    let after-check = c .before .before in let else1 = after-check .before .before in let a = else1 .before .before .before .before .before .args in
+    let else1 = c .before .before .before .before in
     let room = said-yes (else1 .before .has-room .ensures) (else1 .if1 .left) in
     search run-unsound
 

@@ -15,8 +15,10 @@ enum-told c = search needs
 enum-known-soundness : tie.Need-enum-known-soundness
 enum-known-soundness c = search needs
 
-next-message-requires : tie.Need-next-message-requires
-next-message-requires c κs = search needs
+next-in-requires : tie.Need-next-in-requires
+next-in-requires c κs =
+    let after-soundness = c .before .before in let start = after-soundness .before .before .before in
+    sym (after-soundness .soundness .given .1) ∙ start .pre
 
 request-requires : tie.Need-request-requires
 request-requires c κs =
@@ -45,10 +47,10 @@ same-length c = search needs
 
 returns-4 : tie.Need-returns-4
 returns-4 c =
-    let after-request = c .before .before in let after-next-message = after-request .before .before in
-    let start = after-next-message .before .before .before .before .before .before in
-    record-sent (limitsOf (start .args .limits)) (start .args .table .now) (recordOf (start .args .entry)) (after-next-message .next-message .ensures) (after-request .request .ensures)
+    let after-request = c .before .before in let after-next-in = after-request .before .before in
+    let start = after-next-in .before .before .before .before .before .before in
+    record-sent (limitsOf (start .args .limits)) (start .args .table .now) (recordOf (start .args .entry)) (after-next-in .next-in .ensures) (after-request .request .ensures)
 
 pub run-record-spec : {M : Type 1} → statement M
 run-record-spec =
-    tie.close (tie.spec enum-told enum-known-soundness next-message-requires request-requires returns returns-2 returns-3 same-length returns-4)
+    tie.close (tie.spec enum-told enum-known-soundness next-in-requires request-requires returns returns-2 returns-3 same-length returns-4)

@@ -2,22 +2,22 @@
 use Prim.Native.Nat.{ℕ, zero, suc, _+_, _*_, _/_, _≤_, _<_}
 use native.Mathlib.Omega.{arith}
 use mathlib.Core.Path.{_≡_, refl, sym, ap, subst, _∙_}
-use mathlib.Core.Bool.{Bool, true, false, cond, _||_}
-use mathlib.Core.List.{List, [], _∷_, _++_, append-assoc, map, map-append}
+use mathlib.Core.Bool.{Bool, true, false, cond}
+use mathlib.Core.List.{List, [], _∷_, _++_, map}
 use mathlib.Core.Option.{Option, none, some}
 use lib.ListN.{length, getD, take, drop}
 use lib.Dec.{eqb, eqb·suc-zero, leb, ltb}
 use borrow.Author.Tests.{eqb-true, leb-true, ltb-false, ltb-true}
-use Rattle.rules.specs.Bytes.{Agrees, Call16, Calls16, IsBytes, Words16, overwriteWords, stepBytes, wordsOfBytes}
+use Rattle.rules.specs.Bytes.{Call16, Calls16, IsBytes, Words16, overwriteWords, stepBytes, wordsOfBytes}
 use Rattle.rules.specs.Demands.{Demand1, footprint, onBytesOf, refusals, stepRefusals}
 use Rattle.rules.specs.Hall.{Limits}
 use Rattle.rules.specs.Lists.{chunks, every, occurrences, toNat}
 use Rattle.rules.specs.Runs.{AllSent16, Lent, RunDemand1, Sent, Sent16, SentDemand1, Singly, afterAll, answerRequest, answersTo, callsOf, eventsOf, eventsTold}
 use Rattle.rules.specs.Runs.{inOneCall, lentAfter, lentOf, mixedHistory, replyFootprint, replyWords, requestFor, requestFootprint, requestIn, requestsIn}
 use Rattle.rules.specs.Runs.{runBytes, runFootprint, runQuestions, runRefusals, single, tableAfterMixed, tableAfterSent}
-use Rattle.rules.specs.Steps.{Answer, Call, Collect, Drop, Event, Result, Retire, Step, Swap, Take, _numbered_, _sends_, ask, decide, end, firstNo, run}
+use Rattle.rules.specs.Steps.{Call, Collect, Drop, Event, Result, Retire, Step, Swap, Take, _numbered_, _sends_, ask, decide, end, firstNo, run}
 use Rattle.rules.specs.Table.{sound, stepTable}
-use Rattle.rules.specs.laws.bytes.Bytes.{bytes-demand1, bytes-step, overwrite-are-bytes, overwrite-length, overwrite-past, same-past, words-are-16, words-length, words-then}
+use Rattle.rules.specs.laws.bytes.Bytes.{bytes-demand1, bytes-step, overwrite-length, overwrite-past, same-past, words-are-16, words-length, words-then}
 use Rattle.rules.specs.laws.bytes.FirstBoard.{firstBoard}
 use Rattle.rules.specs.laws.desk.Decoding.{small-drop, small-take}
 use Rattle.rules.specs.laws.lists.Bools.{and-left, and-right}
