@@ -3,13 +3,14 @@
 #   make host           builds and runs the example host in C
 #   make test           the gate: all proofs from nothing, the edits that must be refused, the tests outside Rattle
 #   make lib            the archive and its header, in build/
-#   make bench          times the six calls against boards in Rust and in C, and the sheet programs against those in Rust
+#   make bench          times the six calls against boards in Rust and in C, runs of steps against a program in Rust
+#                       without the soundness check, and the sheet programs against those in Rust
 #   make instructions   counts the instructions of the hall's calls at the largest hall; needs valgrind
 #   make proved         lists the theorems
 #   make edits          tries the wrong programs and rules in edits/: each must be refused where it says
 #   make gallery        draws the example sheets again, in docs/gallery/
-#   make selftest       shows that the comparisons catch 86 wrong boards and 203 wrong sheet programs, and that the trace of
-#                       stores catches 13 stray ones (40 minutes or more)
+#   make selftest       shows that the comparisons catch 121 wrong boards and 203 wrong sheet programs, and that the trace of
+#                       stores catches 18 stray ones (40 minutes or more)
 #   make soak           runs the comparisons with new seeds; MINUTES=10 says how long (default: 1)
 #   make fuzz           fuzzes the calls, then the sheet programs, each for half of MINUTES; installs clang if missing
 #   make fuzz-selftest  shows that the fuzzing catches wrong boards, stray accesses and wrong programs (minutes)
@@ -57,6 +58,8 @@ bench: lib $(PROGRAMS)
 	@bench/c_board/compare.sh
 	@echo
 	@$(CARGO) bench/Cargo.toml
+	@echo
+	@$(CARGO) bench/Cargo.toml -- runs
 	@cargo build --quiet --offline --release --manifest-path tests/reference/Cargo.toml
 	@echo
 	@$(CARGO) bench/sheets/Cargo.toml -- target/bin target/outside/release

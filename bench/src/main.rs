@@ -1,17 +1,20 @@
 //! Times the six calls of the archive, of the board in Rust and of the one in
 //! C: the same questions, over the same bytes, in the same run. Prints
-//! nanoseconds per call; with the argument `instructions`, the instructions
-//! of the archive's calls.
+//! nanoseconds per call; with the argument `runs`, nanoseconds per step in runs
+//! of steps; with `instructions`, the instructions of the archive's calls.
 
 mod boards;
 mod halls;
 mod instructions;
+mod shift;
 mod timing;
+mod unchecked;
 
 use boards::BOARDS;
 use halls::{tasks, Task, HALLS};
 use instructions::{make_one_call, print_instructions, ONE_CALL};
 use reference::{Hall, Limits};
+use shift::print_runs;
 use std::array::from_fn;
 use std::env;
 use std::process::Command;
@@ -26,6 +29,8 @@ const PROCESSES: usize = 5;
 const TIMES_ONLY: &str = "times-only";
 /// The argument that asks for instructions.
 const INSTRUCTIONS: &str = "instructions";
+/// The argument that asks for runs of steps.
+const RUNS: &str = "runs";
 
 fn main() {
     let largest = || halls().last().expect("some halls");
@@ -35,6 +40,7 @@ fn main() {
             print_places(&mut Clock::new());
         }
         Some(TIMES_ONLY) => print_times(),
+        Some(RUNS) => print_runs(&largest()),
         Some(INSTRUCTIONS) => print_instructions(&largest()),
         Some(ONE_CALL) => make_one_call(&largest()),
         Some(other) => panic!("unknown argument '{other}'"),
