@@ -76,11 +76,11 @@ pub record SoundHall (limits : Limits) (t : List ℕ) (h : Numbers) : Type 0 whe
 
 pub sound-hall : {limits : Limits} {t : List ℕ} {h : Numbers} → Sound h ≡ soundnessOf limits t → SoundHall limits t h
 unfolding soundnessOf
-sound-hall {limits} {t} {h} q = go (sound limits t) refl
+sound-hall {limits} {t} {h} q = by-soundness (sound limits t) refl
   where
-    go : (b : Bool) → sound limits t ≡ b → SoundHall limits t h
-    go true e = let z : Sound h ≡ Sound (numbersIn t) = rw e at q in record { yes-sound = e; is = cc }
-    go false e = let z : Sound h ≡ Unsound = rw e at q in let never : _≡_ {A = ℕ} 0 1 = cc in absurd (omega arith)
+    by-soundness : (b : Bool) → sound limits t ≡ b → SoundHall limits t h
+    by-soundness true e = let z : Sound h ≡ Sound (numbersIn t) = rw e at q in record { yes-sound = e; is = cc }
+    by-soundness false e = let z : Sound h ≡ Unsound = rw e at q in let never : _≡_ {A = ℕ} 0 1 = cc in absurd (omega arith)
 
 -- its numbers are within the limits
 pub record Bounded (h : Numbers) : Type 0 where
@@ -98,11 +98,11 @@ hall-bounded {limits} {t} {h} hall =
 
 pub not-sound : (limits : Limits) (t : List ℕ) → Unsound ≡ soundnessOf limits t → sound limits t ≡ false
 unfolding soundnessOf
-not-sound limits t q = go (sound limits t) refl
+not-sound limits t q = by-soundness (sound limits t) refl
   where
-    go : (b : Bool) → sound limits t ≡ b → sound limits t ≡ false
-    go true e = let z : Unsound ≡ Sound (numbersIn t) = rw e at q in let never : _≡_ {A = ℕ} 0 1 = cc in absurd (omega arith)
-    go false e = e
+    by-soundness : (b : Bool) → sound limits t ≡ b → sound limits t ≡ false
+    by-soundness true e = let z : Unsound ≡ Sound (numbersIn t) = rw e at q in let never : _≡_ {A = ℕ} 0 1 = cc in absurd (omega arith)
+    by-soundness false e = e
 
 -- and how it finds out: the header, then the records
 pub broken-unsound : (limits : Limits) (t : List ℕ) {h : Header} → h ≡ Broken → h ≡ headerOf limits t → Unsound ≡ soundnessOf limits t
@@ -129,12 +129,12 @@ pub still-sound : (limits : Limits) (t : List ℕ) → Words16 t → (asked : Op
     → soundnessOf limits (answerRequest (stepTable limits) t asked .after) ≡ soundnessOf limits t
 unfolding soundnessOf
 still-sound limits t wide none = refl
-still-sound limits t wide (some c) = go (sound limits t) refl
+still-sound limits t wide (some c) = by-soundness (sound limits t) refl
   where
-    go : (b : Bool) → sound limits t ≡ b → soundnessOf limits (stepTable limits t c .after) ≡ soundnessOf limits t
-    go true e =
+    by-soundness : (b : Bool) → sound limits t ≡ b → soundnessOf limits (stepTable limits t c .after) ≡ soundnessOf limits t
+    by-soundness true e =
         rw (step-stays-sound limits t wide c e, e) (ap (λ (H : Hall). Sound (record { desks = H .desks; screens = H .screens; positions = H .positions; all = allScreens H })) (hall-stays limits t wide e c))
-    go false e = ap (λ (result : Result (List ℕ)). soundnessOf limits (result .after)) (unsound-step limits t c e)
+    by-soundness false e = ap (λ (result : Result (List ℕ)). soundnessOf limits (result .after)) (unsound-step limits t c e)
 
 -- ---- accepted
 pub record Admitted (limits : Limits) (t : List ℕ) (desk : ℕ) (p : Location) : Type 0 where

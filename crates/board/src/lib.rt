@@ -256,8 +256,8 @@ enum Admission {
     At(Location),
 }
 
-// What every step asks first of a sound table: is the desk 1 to P, is the message number the desk's next. Precondition, here and for each
-// step whose name ends in `_in`: the table is sound in a room with these limits, and this is its hall.
+// What every step asks first of a sound table: is the desk 1 to P, is the message number the desk's next. Precondition, here, for each
+// function whose name ends in `_in` and for `request`: the table is sound in a room with these limits, and this is its hall.
 fn admit(t: &[u8], limits: Limits, hall: Hall, message: u16, desk: u16) -> Admission
     requires { ⌜ Sound hall ≡ soundnessOf (limitsOf limits) (wordsOfBytes (now t)) ⌝ }
     ensures { λ r. ⌜ r ≡ admissionOf (wordsOfBytes (now (t .entry))) message desk ⌝ }
@@ -382,7 +382,7 @@ fn take_at(
 }
 
 // Take, in a sound table.
-pub fn take_in(
+fn take_in(
     t: &mut [u8],
     limits: Limits,
     hall: Hall,
@@ -443,14 +443,7 @@ fn drop_at(t: &mut [u8], limits: Limits, desk: u16, location: Location, screen: 
 }
 
 // Drop, in a sound table.
-pub fn drop_in(
-    t: &mut [u8],
-    limits: Limits,
-    hall: Hall,
-    message: u16,
-    desk: u16,
-    screen: u16,
-) -> Reply
+fn drop_in(t: &mut [u8], limits: Limits, hall: Hall, message: u16, desk: u16, screen: u16) -> Reply
     requires { ⌜ Sound hall ≡ soundnessOf (limitsOf limits) (wordsOfBytes (now t)) ⌝ }
     ensures { λ r. ⌜ Stepped (limitsOf limits) (desk sends Drop screen numbered message) (now (t .entry)) r (now (t .exit)) ⌝ }
 {
@@ -511,7 +504,7 @@ fn swap_at(
 }
 
 // Swap, in a sound table.
-pub fn swap_in(
+fn swap_in(
     t: &mut [u8],
     limits: Limits,
     hall: Hall,
@@ -564,7 +557,7 @@ fn retire_at(t: &mut [u8], limits: Limits, desk: u16, location: Location) -> Rep
 }
 
 // Retire, in a sound table.
-pub fn retire_in(t: &mut [u8], limits: Limits, hall: Hall, message: u16, desk: u16) -> Reply
+fn retire_in(t: &mut [u8], limits: Limits, hall: Hall, message: u16, desk: u16) -> Reply
     requires { ⌜ Sound hall ≡ soundnessOf (limitsOf limits) (wordsOfBytes (now t)) ⌝ }
     ensures { λ r. ⌜ Stepped (limitsOf limits) (desk sends Retire numbered message) (now (t .entry)) r (now (t .exit)) ⌝ }
 {
@@ -610,7 +603,7 @@ fn collect_at(t: &mut [u8], limits: Limits, desk: u16, location: Location) -> Re
 }
 
 // Collect, in a sound table.
-pub fn collect_in(t: &mut [u8], limits: Limits, hall: Hall, message: u16, desk: u16) -> Reply
+fn collect_in(t: &mut [u8], limits: Limits, hall: Hall, message: u16, desk: u16) -> Reply
     requires { ⌜ Sound hall ≡ soundnessOf (limitsOf limits) (wordsOfBytes (now t)) ⌝ }
     ensures { λ r. ⌜ Stepped (limitsOf limits) (desk sends Collect numbered message) (now (t .entry)) r (now (t .exit)) ⌝ }
 {

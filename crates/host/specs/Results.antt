@@ -10,5 +10,5 @@ abbrev pub bytesResult : ℕ → List ℕ → Result (List ℕ)
 bytesResult number bytes = record { answer = unpack number; after = bytes }
 
 -- what a run gives, from its number and the two tables that it leaves
-abbrev pub lentResult : ℕ → List ℕ → List ℕ → Result Lent
-lentResult number replies table = record { answer = unpack number; after = lentOf replies table }
+abbrev pub runResult : ℕ → List ℕ → List ℕ → Result Lent
+runResult number replies table = record { answer = unpack number; after = lentOf replies table }

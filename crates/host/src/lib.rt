@@ -14,7 +14,7 @@ ghost use Rattle.rules.specs.Hall.{hallLimits, hallOf, trainingLimits};
 ghost use Rattle.rules.specs.Runs.{lentOf, runBytes};
 ghost use Rattle.rules.specs.Steps.{Collect, Drop, Retire, Swap, Take, _numbered_, _sends_};
 ghost use Rattle.limits.specs.Room.{limitsOf};
-ghost use Rattle.host.specs.Results.{bytesResult, lentResult};
+ghost use Rattle.host.specs.Results.{bytesResult, runResult};
 
 // ---- The calls in a room with any limits: on bytes, answered by one number. A step carries a message number, which must be its desk's next;
 // an accepted step moves that on.
@@ -135,7 +135,7 @@ pub extern "C" fn board_collect(message: u16, desk: u16, table: &mut [u8]) -> u3
 // A run: steps of mixed kinds, six words each, done one after another as the calls above do them; two words reply to each.
 #[no_mangle]
 pub extern "C" fn board_run(steps: &[u8], replies: &mut [u8], table: &mut [u8]) -> u32
-    ensures { λ r. ⌜ lentResult r (now (replies .exit)) (now (table .exit)) ≡ runBytes hallLimits (now (steps .entry)) (lentOf (now (replies .entry)) (now (table .entry))) ⌝ }
+    ensures { λ r. ⌜ runResult r (now (replies .exit)) (now (table .exit)) ≡ runBytes hallLimits (now (steps .entry)) (lentOf (now (replies .entry)) (now (table .entry))) ⌝ }
     ensures unchanged { λ _. ⌜ now (steps .exit) ≡ now (steps .entry) ⌝ }
 {
     answer(run(steps, replies, table, Board::HALL))

@@ -11,7 +11,7 @@ use Rattle.rules.specs.Cases.{_⇒_, ok, refusedWith}
 use Rattle.rules.specs.Hall.{Limits, hallLimits, trainingLimits}
 use Rattle.rules.specs.Lists.{concat, occurrences}
 use Rattle.rules.specs.MessageCases.{tableOfOne}
-use Rattle.rules.specs.Runs.{RunDemand1, Sent, Singly, answerRequest, callsOf, eventsTold, inOneCall, lentOf, mixedHistory, mixedTables}
+use Rattle.rules.specs.Runs.{RunDemand1, Sent, Singly, answerRequest, callsMade, callsOf, eventsInReplies, inOneCall, lentOf, mixedHistory, mixedTables}
 use Rattle.rules.specs.Runs.{replyFootprint, requestFor, requestsIn, runBytes, runFootprint, runRefusals, single, tableAfterMixed, tableAfterSent}
 use Rattle.rules.specs.Steps.{Answer, Call, Collect, Drop, Event, Retire, Swap, Take, _numbered_, _sends_, accept, end, refuse, run}
 use Rattle.rules.specs.Table.{decodeDesk, encodeDesk, recordSound, sound, stepTable}
@@ -92,19 +92,25 @@ answerFor room table = runBytes hallLimits (bytesOfWords (replicate 13 1)) (lent
 abbrev sound1 : List ℕ
 sound1 = bytesOfWords (tableOfOne 5 0 0 0 0 0 1)
 
--- 7 bytes hold three words; 8 hold four. Too short a table is not sound; both: 4.
+-- (one session is ready, and the list is empty)
+abbrev unsound1 : List ℕ
+unsound1 = bytesOfWords (tableOfOne 5 0 0 1 0 0 1)
+
+-- 7 bytes hold three words; 8 hold four. Too short a table is not sound, nor one with an unsound record; both questions answered no: 4.
 pub run-asks :
     (map (λ (room : ℕ). answerFor room sound1) (0 ∷ 4 ∷ 7 ∷ 8 ∷ 9 ∷ []) ≡ refusedWith 4 ∷ refusedWith 4 ∷ refusedWith 4 ∷ ok 0 ∷ ok 0 ∷ [])
     × (map (λ (room : ℕ). answerFor room (take 41 sound1)) (7 ∷ 8 ∷ 9 ∷ []) ≡ refusedWith 4 ∷ refusedWith 5 ∷ refusedWith 5 ∷ [])
+    × (map (λ (room : ℕ). answerFor room unsound1) (7 ∷ 8 ∷ 9 ∷ []) ≡ refusedWith 4 ∷ refusedWith 5 ∷ refusedWith 5 ∷ [])
 unfolding runBytes overwriteWords stepBytes stepTable sound recordSound encodeDesk decodeDesk
-run-asks = (refl, refl)
+run-asks = (refl, refl, refl)
 
 -- Nothing is done then: not even the first of two steps.
 pub nothing-done :
     (runBytes hallLimits (bytesOfWords (replicate 12 1)) (lentOf (replicate 7 3) sound1) ≡ refuse 4 (lentOf (replicate 7 3) sound1))
     × (runBytes hallLimits (bytesOfWords (replicate 12 1)) (lentOf (replicate 8 3) (take 41 sound1)) ≡ refuse 5 (lentOf (replicate 8 3) (take 41 sound1)))
+    × (runBytes hallLimits (bytesOfWords (replicate 12 1)) (lentOf (replicate 8 3) unsound1) ≡ refuse 5 (lentOf (replicate 8 3) unsound1))
 unfolding runBytes overwriteWords stepBytes stepTable sound recordSound encodeDesk decodeDesk
-nothing-done = (refl, refl)
+nothing-done = (refl, refl, refl)
 
 -- An empty run passes 4 and is asked 5; words left over want no reply.
 pub empty-runs :
@@ -123,18 +129,20 @@ unfolding runBytes overwriteWords stepBytes stepTable sound recordSound encodeDe
 in-a-room = (refl, refl)
 
 -- ---- Footprints, by bytes: a take names its screen (word 4) and the message number (word 20); a swap the position (word 3) and the owed word (5), and
--- the retire after it the count of waiting (9) and the first place of the list (18). A code that requests nothing names no word.
--- A swap onto an empty position does not name the owed word, but one after it does: it finds the session there.
+-- the retire after it the count of waiting (9) and the first place of the list (18). A code that requests nothing names no word, nor
+-- does a step that is refused (here with 23). A swap onto an empty position does not name the owed word, but one after it does: it finds the session
+-- there.
 pub run-footprint :
     (map (runFootprint hallLimits sound1 (some (1 sends Take 1 1 numbered 1) ∷ [])) (6 ∷ 7 ∷ 8 ∷ 9 ∷ 10 ∷ 40 ∷ 41 ∷ 42 ∷ []) ≡ false ∷ false ∷ true ∷ true ∷ false ∷ true ∷ true ∷ false ∷ [])
     × (map (runFootprint hallLimits sound1 (none ∷ some (1 sends Swap 1 0 numbered 1) ∷ some (1 sends Retire numbered 2) ∷ [])) (5 ∷ 6 ∷ 8 ∷ 10 ∷ 18 ∷ 36 ∷ 40 ∷ [])
     ≡ false ∷ true ∷ false ∷ true ∷ true ∷ true ∷ true ∷ [])
     × (map (runFootprint hallLimits sound1 (none ∷ [])) (6 ∷ 8 ∷ 40 ∷ []) ≡ false ∷ false ∷ false ∷ [])
+    × (map (runFootprint hallLimits sound1 (some (1 sends Take 1 1 numbered 0) ∷ [])) (6 ∷ 8 ∷ 40 ∷ []) ≡ false ∷ false ∷ false ∷ [])
     × (map (runFootprint hallLimits (bytesOfWords (tableOfOne 0 0 0 0 0 0 0)) (some (1 sends Swap 1 5) ∷ [])) (6 ∷ 10 ∷ []) ≡ true ∷ false ∷ [])
     × (map (runFootprint hallLimits (bytesOfWords (tableOfOne 0 0 0 0 0 0 0)) (some (1 sends Swap 1 5) ∷ some (1 sends Swap 1 6 numbered 1) ∷ [])) (6 ∷ 10 ∷ []) ≡ true ∷ true ∷ [])
     × (map (replyFootprint 2) (0 ∷ 7 ∷ 8 ∷ []) ≡ true ∷ true ∷ false ∷ [])
 unfolding stepBytes stepTable overwriteWords sound recordSound encodeDesk decodeDesk
-run-footprint = (refl, refl, refl, refl, refl, refl)
+run-footprint = (refl, refl, refl, refl, refl, refl, refl)
 
 -- ---- Runs and single calls mixed: a swap; a run of a take, code 8 and a swap; a run that is refused with 4; and a retire.
 abbrev mixed : List Sent
@@ -145,20 +153,22 @@ mixed =
     ∷ single (1 sends Retire numbered 3)
     ∷ []
 
--- The host learns four answers: code 8 asked for no call, and the refused run did nothing.
-pub mixed-is-told :
+-- Four calls were made, and the host learns their answers: code 8 requests none, and the refused run did nothing.
+pub mixed-computed :
     (mixedHistory hallLimits (bytesOfWords (tableOfOne 0 0 0 0 0 0 0)) mixed
     ≡ (1 sends Swap 1 5 ⇒ ok 0) ∷ (1 sends Take 1 1 numbered 1 ⇒ ok 5) ∷ (1 sends Swap 1 6 numbered 2 ⇒ ok 5) ∷ (1 sends Retire numbered 3 ⇒ ok 5) ∷ [])
     × (tableAfterMixed hallLimits (bytesOfWords (tableOfOne 0 0 0 0 0 0 0)) mixed ≡ bytesOfWords (tableOfOne 6 5 0 0 1 5 4))
     × (mixedTables hallLimits (bytesOfWords (tableOfOne 0 0 0 0 0 0 0)) mixed 3 ≡ tableOfOne 6 5 5 0 0 0 3)
+    × (callsMade hallLimits (bytesOfWords (tableOfOne 0 0 0 0 0 0 0)) mixed
+    ≡ (1 sends Swap 1 5) ∷ (1 sends Take 1 1 numbered 1) ∷ (1 sends Swap 1 6 numbered 2) ∷ (1 sends Retire numbered 3) ∷ [])
 unfolding runBytes overwriteWords stepBytes stepTable sound recordSound encodeDesk decodeDesk
-mixed-is-told = (refl, refl, refl)
+mixed-computed = (refl, refl, refl, refl)
 
--- What a reply table tells: two words an answer, in order.
-pub replies-tell :
-    eventsTold (some (1 sends Retire) ∷ none ∷ some (2 sends Collect) ∷ []) (13 ∷ 0 ∷ 17 ∷ 0 ∷ 0 ∷ 9 ∷ 4 ∷ [])
+-- The events in a reply table: two words an answer, in order, refused ones too.
+pub replies-read :
+    eventsInReplies (some (1 sends Retire) ∷ none ∷ some (2 sends Collect) ∷ []) (13 ∷ 0 ∷ 17 ∷ 0 ∷ 0 ∷ 9 ∷ 4 ∷ [])
     ≡ (1 sends Retire ⇒ refusedWith 13) ∷ (2 sends Collect ⇒ ok 9) ∷ []
-replies-tell = refl
+replies-read = refl
 
 -- ---- The statements at one instance.
 
@@ -196,6 +206,7 @@ module _ (table steps replies : List ℕ) (singly : Singly hallLimits table (sin
   history = mixedHistory hallLimits table (single (1 sends Collect) ∷ inOneCall steps replies ∷ [])
 
   pub says-singly :
-      (history ≡ run (stepBytes hallLimits) table (callsOf history))
+      (callsOf history ≡ callsMade hallLimits table (single (1 sends Collect) ∷ inOneCall steps replies ∷ []))
+      × (history ≡ run (stepBytes hallLimits) table (callsOf history))
       × (tableAfterSent hallLimits (stepBytes hallLimits table (1 sends Collect) .after) (inOneCall steps replies) ≡ end (stepBytes hallLimits) table (callsOf history))
-  says-singly = (singly .history, singly .after)
+  says-singly = (singly .calls, singly .history, singly .after)

@@ -1,15 +1,17 @@
--- The theorem about runs applied: a session that a run puts and takes, that a single call replaces, and that another run retires and hands back.
+-- The theorem about runs applied: a session that a run puts and takes, that a single call replaces, and that another run retires and hands back;
+-- and a message that is delivered singly and again in a run.
 use Prim.Native.Nat.{ℕ, _+_, _≤_, _<_}
 use native.Mathlib.Omega.{arith}
 use mathlib.Core.Path.{_≡_, refl}
-use mathlib.Core.List.{List, [], _∷_, _++_}
+use mathlib.Core.List.{List, [], _∷_, _++_, map}
 use lib.ListN.{getD, replicate, take}
 use Rattle.rules.specs.Bytes.{IsBytes, bytesOfWords, openBytes, overwriteWords, stepBytes}
-use Rattle.rules.specs.Cases.{_⇒_, ok}
+use Rattle.rules.specs.Cases.{_⇒_, ok, refusedWith}
 use Rattle.rules.specs.Demands.{Demand2}
 use Rattle.rules.specs.Hall.{hallLimits, hallOf}
-use Rattle.rules.specs.History.{_by_, effectAt, handBacks, handBacksOf, retirements, retirementsOf, retires}
+use Rattle.rules.specs.History.{_by_, effectAt, handBacks, handBacksOf, numberAt, retirements, retirementsOf, retires}
 use Rattle.rules.specs.MessageCases.{tableOfOne}
+use Rattle.rules.specs.Messages.{Redelivered}
 use Rattle.rules.specs.Runs.{AllSent16, Sent, callsOf, inOneCall, lentOf, mixedHistory, mixedTables, runBytes, single, tableAfterMixed}
 use Rattle.rules.specs.Steps.{Collect, Drop, Event, Retire, Swap, Take, _numbered_, _sends_, end, run}
 use Rattle.rules.specs.Table.{decodeDesk, encodeDesk, openTable, recordSound, sound, stepTable}
@@ -42,7 +44,7 @@ abbrev history : List Event
 history = mixedHistory hallLimits opened sent
 
 -- What the host learns: seven answers, the last of which hands 5 back.
-pub told :
+pub history-computed :
     history
     ≡ (1 sends Swap 1 5 ⇒ ok 0)
     ∷ (1 sends Take 1 1 numbered 1 ⇒ ok 5)
@@ -53,13 +55,13 @@ pub told :
     ∷ (1 sends Collect numbered 6 ⇒ ok 5)
     ∷ []
 unfolding openBytes openTable runBytes overwriteWords stepBytes stepTable sound recordSound encodeDesk decodeDesk
-told = refl
+history-computed = refl
 
 -- They are the answers of single calls, and the bytes are theirs.
-pub told-singly : (history ≡ run (stepBytes hallLimits) opened (callsOf history)) × (tableAfterMixed hallLimits opened sent ≡ end (stepBytes hallLimits) opened (callsOf history))
+pub history-is-single : (history ≡ run (stepBytes hallLimits) opened (callsOf history)) × (tableAfterMixed hallLimits opened sent ≡ end (stepBytes hallLimits) opened (callsOf history))
     × (tableAfterMixed hallLimits opened sent ≡ bytesOfWords (tableOfOne 6 0 0 0 0 0 7))
 unfolding openBytes openTable runBytes overwriteWords stepBytes stepTable sound recordSound encodeDesk decodeDesk
-told-singly =
+history-is-single =
     let singly = mixed-histories-meet-demands hallLimits .singly opened sent opened-are sent-wide in (singly .history, singly .after, refl)
   where
     opened-are : IsBytes opened
@@ -82,7 +84,7 @@ pub room-in-a-run : (i : ℕ) → retirements 1 (take i history) ≤ handBacks 1
 unfolding openBytes openTable
 room-in-a-run = mixed-histories-meet-demands hallLimits .demand-3 (hallOf 1 1 1) (bytesOfWords (replicate 21 777)) (bytes-are-bytes (replicate 21 777)) refl sent sent-wide .list 1
 
--- Demand 1: the first run, accepted, writes neither the header nor the list (bytes 5 and 36), nor a byte past its replies, here one.
+-- Demand 1: the first run is accepted, and writes neither the list (byte 36) nor past its two replies (byte 8).
 pub keeps-in-a-run :
     (getD (runBytes hallLimits (bytesOfWords firstWords) (lentOf (bytesOfWords (replicate 5 777)) (bytesOfWords (tableOfOne 0 0 0 0 0 0 0))) .after .table) 36 0 ≡ 0)
     × (getD (runBytes hallLimits (bytesOfWords firstWords) (lentOf (bytesOfWords (replicate 5 777)) (bytesOfWords (tableOfOne 0 0 0 0 0 0 0))) .after .replies) 8 0 ≡ 9)
@@ -90,3 +92,15 @@ unfolding runBytes overwriteWords stepBytes stepTable sound recordSound encodeDe
 keeps-in-a-run =
     let demand = mixed-histories-meet-demands hallLimits .demand-1 (bytesOfWords (tableOfOne 0 0 0 0 0 0 0)) (inOneCall (bytesOfWords firstWords) (bytesOfWords (replicate 5 777))) (bytes-are-bytes (tableOfOne 0 0 0 0 0 0 0)) (bytes-are-bytes firstWords, bytes-are-bytes (replicate 5 777)) in
     (demand .table .accepted refl 36 refl, demand .replies .accepted refl 8 refl)
+
+-- ---- A swap is delivered singly, and again in a run: it is refused with 23 there.
+abbrev twice : List Sent
+twice = single (1 sends Swap 1 5) ∷ inOneCall (bytesOfWords firstWords) (bytesOfWords (replicate 4 777)) ∷ []
+
+pub again-in-a-run : (map (λ (event : Event). event .answer) (mixedHistory hallLimits opened twice) ≡ ok 0 ∷ refusedWith 23 ∷ ok 5 ∷ []) × (numberAt (mixedHistory hallLimits opened twice) 1 ≡ 23)
+unfolding openBytes openTable runBytes overwriteWords stepBytes stepTable sound recordSound encodeDesk decodeDesk
+again-in-a-run =
+    let wide : AllSent16 twice = ((omega arith, omega arith, (omega arith, omega arith)), ((bytes-are-bytes firstWords, bytes-are-bytes (replicate 4 777)), tt)) in
+    let numbers = mixed-histories-meet-demands hallLimits .message-numbers (hallOf 1 1 1) (bytesOfWords (replicate 21 777)) (bytes-are-bytes (replicate 21 777)) refl twice wide in
+    let again : Redelivered (mixedHistory hallLimits opened twice) 0 1 = record { later = omega arith; within = omega arith; accepted = refl; desk = refl; message = refl } in
+    (refl, numbers .again 0 1 again (omega arith) .0)

@@ -2,15 +2,17 @@
 -- which runs and single calls are mixed. There is no proof here.
 use Prim.Native.Nat.{ℕ, _*_, _/_}
 use mathlib.Core.Path.{_≡_}
-use mathlib.Core.Bool.{Bool, false, cond, _||_}
+use mathlib.Core.Bool.{Bool, false, cond, _&&_, _||_}
 use mathlib.Core.List.{List, [], _∷_, _++_, map}
 use mathlib.Core.Option.{Option, none, some}
 use lib.ListN.{length, getD, take, drop}
 use lib.Dec.{leb, ltb, eqb}
 use Rattle.rules.specs.Bytes.{Call16, IsBytes, openBytes, overwriteWords, stepBytes, wordsOfBytes}
+use Rattle.rules.specs.Closing.{ClosingRule, HandBackCloses}
 use Rattle.rules.specs.Demands.{Demand1, Demand2, Demand3, footprint, onBytesOf, refusals}
 use Rattle.rules.specs.Hall.{Hall, Limits}
 use Rattle.rules.specs.Lists.{chunks}
+use Rattle.rules.specs.Messages.{MessageNumbers}
 use Rattle.rules.specs.Steps.{Answer, Call, Collect, Drop, Event, Question, Result, Retire, Swap, Take, _numbered_, _sends_, ask, decide, end, firstNo}
 use Rattle.rules.specs.Steps.{refuse, run}
 use Rattle.rules.specs.Table.{sound}
@@ -95,15 +97,16 @@ runBytes limits steps lent =
 
 -- ---- Demand 1 of a run.
 
--- The bytes of the table that the steps of a run name, each where the steps before it have been done.
-abbrev pub requestFootprint : List ℕ → Option Call → ℕ → Bool
-requestFootprint bytes none j = false
-requestFootprint bytes (some call) j = onBytesOf bytes (footprint (wordsOfBytes bytes) call) j
+-- The bytes of the table that the accepted steps of a run name, each where the steps before it have been done.
+abbrev pub requestFootprint : Limits → List ℕ → Option Call → ℕ → Bool
+requestFootprint limits bytes none j = false
+requestFootprint limits bytes (some call) j =
+    eqb (stepBytes limits bytes call .answer .number) 0 && onBytesOf bytes (footprint (wordsOfBytes bytes) call) j
 
 abbrev pub runFootprint : Limits → List ℕ → List (Option Call) → ℕ → Bool
 runFootprint limits bytes [] j = false
 runFootprint limits bytes (request ∷ requests) j =
-    requestFootprint bytes request j || runFootprint limits (answerRequest (stepBytes limits) bytes request .after) requests j
+    requestFootprint limits bytes request j || runFootprint limits (answerRequest (stepBytes limits) bytes request .after) requests j
 
 -- The bytes of the reply table that a run of n steps names.
 abbrev pub replyFootprint : ℕ → ℕ → Bool
@@ -146,19 +149,24 @@ abbrev pub tableAfterMixed : Limits → List ℕ → List Sent → List ℕ
 tableAfterMixed limits table [] = table
 tableAfterMixed limits table (sent ∷ rest) = tableAfterMixed limits (tableAfterSent limits table sent) rest
 
--- The calls among requests, each with the answer that the words of a reply table tell.
-abbrev pub eventsTold : List (Option Call) → List ℕ → List Event
-eventsTold [] words = []
-eventsTold (none ∷ requests) words = eventsTold requests (drop 2 words)
-eventsTold (some call ∷ requests) words =
-    record { call = call; answer = record { number = getD words 0 0; session = getD words 1 0 } } ∷ eventsTold requests (drop 2 words)
+-- The calls among requests, and each of them with its answer in the words of a reply table.
+abbrev pub callsAmong : List (Option Call) → List Call
+callsAmong [] = []
+callsAmong (none ∷ requests) = callsAmong requests
+callsAmong (some call ∷ requests) = call ∷ callsAmong requests
 
--- What the host learns: the call and its answer; of an accepted run, its calls and what the reply table tells; of a refused one, nothing.
+abbrev pub eventsInReplies : List (Option Call) → List ℕ → List Event
+eventsInReplies [] words = []
+eventsInReplies (none ∷ requests) words = eventsInReplies requests (drop 2 words)
+eventsInReplies (some call ∷ requests) words =
+    record { call = call; answer = record { number = getD words 0 0; session = getD words 1 0 } } ∷ eventsInReplies requests (drop 2 words)
+
+-- What the host learns: the call and its answer; of an accepted run, its calls and their answers in the reply table; of a refused one, nothing.
 abbrev pub eventsOf : Limits → List ℕ → Sent → List Event
 eventsOf limits table (single call) = record { call = call; answer = stepBytes limits table call .answer } ∷ []
 eventsOf limits table (inOneCall steps replies) =
     let result = runBytes limits steps (lentOf replies table) in
-    cond (eqb (result .answer .number) 0) (eventsTold (requestsIn (wordsOfBytes steps)) (wordsOfBytes (result .after .replies))) []
+    cond (eqb (result .answer .number) 0) (eventsInReplies (requestsIn (wordsOfBytes steps)) (wordsOfBytes (result .after .replies))) []
 
 abbrev pub mixedHistory : Limits → List ℕ → List Sent → List Event
 mixedHistory limits table [] = []
@@ -167,8 +175,19 @@ mixedHistory limits table (sent ∷ rest) = eventsOf limits table sent ++ mixedH
 abbrev pub callsOf : List Event → List Call
 callsOf history = map (λ event. event .call) history
 
--- A mixed history is one of single calls: the same answers, and the same bytes after them.
+-- The calls that were made: the single ones, and all those of the accepted runs.
+abbrev pub callsOfSent : Limits → List ℕ → Sent → List Call
+callsOfSent limits table (single call) = call ∷ []
+callsOfSent limits table (inOneCall steps replies) =
+    cond (eqb (runBytes limits steps (lentOf replies table) .answer .number) 0) (callsAmong (requestsIn (wordsOfBytes steps))) []
+
+abbrev pub callsMade : Limits → List ℕ → List Sent → List Call
+callsMade limits table [] = []
+callsMade limits table (sent ∷ rest) = callsOfSent limits table sent ++ callsMade limits (tableAfterSent limits table sent) rest
+
+-- A mixed history is one of single calls: the same calls, the same answers, and the same bytes after them.
 pub record Singly (limits : Limits) (table : List ℕ) (sent : List Sent) : Type 0 where
+  pub calls : callsOf (mixedHistory limits table sent) ≡ callsMade limits table sent
   pub history : mixedHistory limits table sent ≡ run (stepBytes limits) table (callsOf (mixedHistory limits table sent))
   pub after : tableAfterMixed limits table sent ≡ end (stepBytes limits) table (callsOf (mixedHistory limits table sent))
 
@@ -180,7 +199,7 @@ SentDemand1 limits bytes (inOneCall steps replies) = RunDemand1 limits steps (le
 abbrev pub mixedTables : Limits → List ℕ → List Sent → ℕ → List ℕ
 mixedTables limits table sent i = wordsOfBytes (end (stepBytes limits) table (take i (callsOf (mixedHistory limits table sent))))
 
--- The three demands, where runs and single calls are mixed.
+-- The three demands, the closing rule and message numbers, where runs and single calls are mixed.
 pub record MixedDemands (limits : Limits) : Type 0 where
   pub demand-1 : (bytes : List ℕ) (sent : Sent) → IsBytes bytes → Sent16 sent → SentDemand1 limits bytes sent
   pub singly : (bytes : List ℕ) (sent : List Sent) → IsBytes bytes → AllSent16 sent → Singly limits bytes sent
@@ -188,3 +207,9 @@ pub record MixedDemands (limits : Limits) : Type 0 where
       → let opened = openBytes limits hall bytes .after in Demand2 hall (mixedHistory limits opened sent) (mixedTables limits opened sent)
   pub demand-3 : (hall : Hall) (bytes : List ℕ) → IsBytes bytes → openBytes limits hall bytes .answer .number ≡ 0 → (sent : List Sent) → AllSent16 sent
       → let opened = openBytes limits hall bytes .after in Demand3 hall (mixedHistory limits opened sent) (mixedTables limits opened sent)
+  pub closing-rule : (hall : Hall) (bytes : List ℕ) → IsBytes bytes → openBytes limits hall bytes .answer .number ≡ 0 → (sent : List Sent) → AllSent16 sent
+      → ClosingRule hall (mixedTables limits (openBytes limits hall bytes .after) sent)
+  pub hand-back-closes : (hall : Hall) (bytes : List ℕ) → IsBytes bytes → openBytes limits hall bytes .answer .number ≡ 0 → (sent : List Sent) → AllSent16 sent
+      → let opened = openBytes limits hall bytes .after in HandBackCloses hall (mixedHistory limits opened sent) (mixedTables limits opened sent)
+  pub message-numbers : (hall : Hall) (bytes : List ℕ) → IsBytes bytes → openBytes limits hall bytes .answer .number ≡ 0 → (sent : List Sent) → AllSent16 sent
+      → let opened = openBytes limits hall bytes .after in MessageNumbers hall (mixedHistory limits opened sent) (mixedTables limits opened sent)

@@ -28,8 +28,8 @@ const STEP: usize = 6;
 // The words of a reply: number, session.
 const REPLY: usize = 2;
 
-// Whether a reply table of `lent` bytes has room for the replies to the steps in `sent` bytes. A reply is 4 bytes and a step three times as
-// much, so the steps fit if their bytes hold fewer than three times (the replies that fit, and one more) pieces of 4 bytes: no division.
+// Whether the replies to the steps in `sent` bytes fit into `lent` bytes. A step is three pieces of 4 bytes and a reply is one, so m replies
+// are enough for fewer than 3m + 3 pieces; this needs no division.
 fn has_room(sent: usize, lent: usize) -> bool
     ensures { λ r. ⌜ r ≡ leb (replyWidth * (sent / 2 / stepWidth)) (lent / 2) ⌝ }
 {

@@ -12,7 +12,8 @@ use Rattle.rules.specs.Bytes.{Call16, Calls16, IsBytes, Words16, overwri
 use Rattle.rules.specs.Demands.{Demand1, footprint, onBytesOf, refusals, stepRefusals}
 use Rattle.rules.specs.Hall.{Limits}
 use Rattle.rules.specs.Lists.{chunks, every, occurrences, toNat}
-use Rattle.rules.specs.Runs.{AllSent16, Lent, RunDemand1, Sent, Sent16, SentDemand1, Singly, afterAll, answerRequest, answersTo, callsOf, eventsOf, eventsTold}
+use Rattle.rules.specs.Runs.{AllSent16, Lent, RunDemand1, Sent, Sent16, SentDemand1, Singly, afterAll, answerRequest, answersTo, callsAmong, callsMade, callsOf, callsOfSent}
+use Rattle.rules.specs.Runs.{eventsInReplies, eventsOf}
 use Rattle.rules.specs.Runs.{inOneCall, lentAfter, lentOf, mixedHistory, replyFootprint, replyWords, requestFor, requestFootprint, requestIn, requestsIn}
 use Rattle.rules.specs.Runs.{runBytes, runFootprint, runQuestions, runRefusals, single, tableAfterMixed, tableAfterSent}
 use Rattle.rules.specs.Steps.{Call, Collect, Drop, Event, Result, Retire, Step, Swap, Take, _numbered_, _sends_, ask, decide, end, firstNo, run}
@@ -40,24 +41,19 @@ module _ {T : Type 0} (does : T → Call → Result T) where
   calls-of-run before (call ∷ calls) = ap {B = List Call} (λ r. call ∷ r) (calls-of-run (does before call .after) calls)
 
 -- ---- The calls among requests.
-abbrev callsAmong : List (Option Call) → List Call
-callsAmong [] = []
-callsAmong (none ∷ requests) = callsAmong requests
-callsAmong (some call ∷ requests) = call ∷ callsAmong requests
-
 module _ {T : Type 0} (does : T → Call → Result T) where
   all-is-end : (before : T) (requests : List (Option Call)) → afterAll does before requests ≡ end does before (callsAmong requests)
   all-is-end before [] = refl
   all-is-end before (none ∷ requests) = all-is-end before requests
   all-is-end before (some call ∷ requests) = all-is-end (does before call .after) requests
 
-  -- what their replies tell, whatever is behind them
-  told-is-run : (before : T) (requests : List (Option Call)) (rest : List ℕ)
-      → eventsTold requests (replyWords (answersTo does before requests) ++ rest) ≡ run does before (callsAmong requests)
-  told-is-run before [] rest = refl
-  told-is-run before (none ∷ requests) rest = told-is-run before requests rest
-  told-is-run before (some call ∷ requests) rest =
-      ap {B = List Event} (λ r. record { call = call; answer = does before call .answer } ∷ r) (told-is-run (does before call .after) requests rest)
+  -- the events in their replies, whatever is behind them
+  replies-give-run : (before : T) (requests : List (Option Call)) (rest : List ℕ)
+      → eventsInReplies requests (replyWords (answersTo does before requests) ++ rest) ≡ run does before (callsAmong requests)
+  replies-give-run before [] rest = refl
+  replies-give-run before (none ∷ requests) rest = replies-give-run before requests rest
+  replies-give-run before (some call ∷ requests) rest =
+      ap {B = List Event} (λ r. record { call = call; answer = does before call .answer } ∷ r) (replies-give-run (does before call .after) requests rest)
 
   answers-length : (before : T) (requests : List (Option Call)) → length (replyWords (answersTo does before requests)) ≡ 2 * length requests
   answers-length before [] = omega arith
@@ -191,7 +187,7 @@ module _ (limits : Limits) where
       (demand1 limits words are16 call)
 
   -- a byte that a request does not name, and one that no request names
-  request-keeps : (bytes : List ℕ) (request : Option Call) → IsBytes bytes → Request16 request → (j : ℕ) → requestFootprint bytes request j ≡ false
+  request-keeps : (bytes : List ℕ) (request : Option Call) → IsBytes bytes → Request16 request → (j : ℕ) → requestFootprint limits bytes request j ≡ false
       → getD (answerRequest (stepBytes limits) bytes request .after) j 0 ≡ getD bytes j 0
   unfolding stepBytes
   request-keeps bytes none are wide j unnamed = refl
@@ -199,7 +195,7 @@ module _ (limits : Limits) where
       by-number (stepTable limits (wordsOfBytes bytes) call .answer .number) refl
     where
       by-number : (n : ℕ) → stepTable limits (wordsOfBytes bytes) call .answer .number ≡ n → getD (stepBytes limits bytes call .after) j 0 ≡ getD bytes j 0
-      by-number zero is = step-demand1 bytes call are wide .accepted is j unnamed
+      by-number zero is = step-demand1 bytes call are wide .accepted is j (rw is at unnamed)
       by-number (suc n) is = ap (λ (b : List ℕ). getD b j 0) (step-demand1 bytes call are wide .refused n is .2)
 
   all-keep : (bytes : List ℕ) (requests : List (Option Call)) → IsBytes bytes → Requests16 requests → (j : ℕ) → runFootprint limits bytes requests j ≡ false
@@ -207,7 +203,7 @@ module _ (limits : Limits) where
   all-keep bytes [] are wide j unnamed = refl
   all-keep bytes (request ∷ requests) are wide j unnamed =
       let next = answerRequest (stepBytes limits) bytes request .after in
-      let parts = or-no (requestFootprint bytes request j) (runFootprint limits next requests j) unnamed in
+      let parts = or-no (requestFootprint limits bytes request j) (runFootprint limits next requests j) unnamed in
       all-keep next requests (answered bytes request are (wide .0) .areBytes) (wide .1) j (parts .1) ∙ request-keeps bytes request are (wide .0) j (parts .0)
 
   -- a run that was refused, and one that was accepted
@@ -275,21 +271,20 @@ module _ (limits : Limits) where
 
   -- ---- Mixed histories.
 
-  -- events, and the bytes after them, are those of single calls
-  record Single (table : List ℕ) (events : List Event) (after : List ℕ) : Type 0 where
-    pub calls : List Call
+  -- events, and the bytes after them, are those of these single calls
+  record Single (table : List ℕ) (calls : List Call) (events : List Event) (after : List ℕ) : Type 0 where
     pub wide : Calls16 calls
     pub history : events ≡ run (stepBytes limits) table calls
     pub end-is : after ≡ end (stepBytes limits) table calls
     pub areBytes : IsBytes after
 
-  single-sent : (table : List ℕ) (sent : Sent) → IsBytes table → Sent16 sent → Single table (eventsOf limits table sent) (tableAfterSent limits table sent)
+  single-sent : (table : List ℕ) (sent : Sent) → IsBytes table → Sent16 sent → Single table (callsOfSent limits table sent) (eventsOf limits table sent) (tableAfterSent limits table sent)
   single-sent table (single call) are wide =
-      record { calls = call ∷ []; wide = (wide, tt); history = refl; end-is = refl; areBytes = answered table (some call) are wide .areBytes }
+      record { wide = (wide, tt); history = refl; end-is = refl; areBytes = answered table (some call) are wide .areBytes }
   single-sent table (inOneCall steps replies) are wide =
       by-run steps (lentOf replies table)
-      (λ result. Single table (cond (eqb (result .answer .number) 0) (eventsTold (requestsIn (wordsOfBytes steps)) (wordsOfBytes (result .after .replies))) []) (result .after .table))
-      (λ n is. rw (eqb·suc-zero n) (record { calls = []; wide = tt; history = refl; end-is = refl; areBytes = are })) accepted
+      (λ result. Single table (cond (eqb (result .answer .number) 0) (callsAmong (requestsIn (wordsOfBytes steps))) []) (cond (eqb (result .answer .number) 0) (eventsInReplies (requestsIn (wordsOfBytes steps)) (wordsOfBytes (result .after .replies))) []) (result .after .table))
+      (λ n is. rw (eqb·suc-zero n) (record { wide = tt; history = refl; end-is = refl; areBytes = are })) accepted
     where
       asks : List (Option Call)
       asks = requestsIn (wordsOfBytes steps)
@@ -301,56 +296,55 @@ module _ (limits : Limits) where
       written = replyWords (answersTo (stepBytes limits) table (requestsIn (wordsOfBytes steps)))
 
       accepted : asked steps (lentOf replies table) ≡ 0
-          → Single table (eventsTold (requestsIn (wordsOfBytes steps)) (wordsOfBytes (overwriteWords written replies))) (afterAll (stepBytes limits) table (requestsIn (wordsOfBytes steps)))
+          → Single table (callsAmong (requestsIn (wordsOfBytes steps))) (eventsInReplies (requestsIn (wordsOfBytes steps)) (wordsOfBytes (overwriteWords written replies))) (afterAll (stepBytes limits) table (requestsIn (wordsOfBytes steps)))
       accepted is =
           let all = all-answered table (requestsIn (wordsOfBytes steps)) are asks-16 in
           record {
-            calls = callsAmong (requestsIn (wordsOfBytes steps));
             wide = calls-16 (requestsIn (wordsOfBytes steps)) asks-16;
             history =
-                ap (eventsTold (requestsIn (wordsOfBytes steps))) (overwritten written replies (all .words))
-                ∙ told-is-run (stepBytes limits) table (requestsIn (wordsOfBytes steps)) (wordsOfBytes (drop (2 * length written) replies));
+                ap (eventsInReplies (requestsIn (wordsOfBytes steps))) (overwritten written replies (all .words))
+                ∙ replies-give-run (stepBytes limits) table (requestsIn (wordsOfBytes steps)) (wordsOfBytes (drop (2 * length written) replies));
             end-is = all-is-end (stepBytes limits) table (requestsIn (wordsOfBytes steps));
             areBytes = all .areBytes;
           }
 
-  single-then : {table : List ℕ} {events : List Event} {between : List ℕ} {more : List Event} {after : List ℕ} → Single table events between
-      → Single between more after → Single table (events ++ more) after
-  single-then {table} one two = record {
-    calls = one .calls ++ two .calls;
-    wide = append-16 (one .calls) (two .calls) (one .wide) (two .wide);
+  single-then : {table : List ℕ} (calls next : List Call) {events : List Event} {between : List ℕ} {more : List Event} {after : List ℕ}
+      → Single table calls events between → Single between next more after → Single table (calls ++ next) (events ++ more) after
+  single-then {table} calls next one two = record {
+    wide = append-16 calls next (one .wide) (two .wide);
     history =
-        (λ i. one .history i ++ (two .history ∙ ap (λ (bytes : List ℕ). run (stepBytes limits) bytes (two .calls)) (one .end-is)) i)
-        ∙ sym (run-append (stepBytes limits) table (one .calls) (two .calls));
+        (λ i. one .history i ++ (two .history ∙ ap (λ (bytes : List ℕ). run (stepBytes limits) bytes next) (one .end-is)) i)
+        ∙ sym (run-append (stepBytes limits) table calls next);
     end-is =
-        two .end-is ∙ ap (λ (bytes : List ℕ). end (stepBytes limits) bytes (two .calls)) (one .end-is)
-        ∙ sym (end-append (stepBytes limits) table (one .calls) (two .calls));
+        two .end-is ∙ ap (λ (bytes : List ℕ). end (stepBytes limits) bytes next) (one .end-is)
+        ∙ sym (end-append (stepBytes limits) table calls next);
     areBytes = two .areBytes;
   }
 
   all-single : (table : List ℕ) (sent : List Sent) → IsBytes table → AllSent16 sent
-      → Single table (mixedHistory limits table sent) (tableAfterMixed limits table sent)
-  all-single table [] are wide = record { calls = []; wide = tt; history = refl; end-is = refl; areBytes = are }
+      → Single table (callsMade limits table sent) (mixedHistory limits table sent) (tableAfterMixed limits table sent)
+  all-single table [] are wide = record { wide = tt; history = refl; end-is = refl; areBytes = are }
   all-single table (first ∷ rest) are wide =
       let one = single-sent table first are (wide .0) in
-      single-then one (all-single (tableAfterSent limits table first) rest (one .areBytes) (wide .1))
+      single-then (callsOfSent limits table first) (callsMade limits (tableAfterSent limits table first) rest) one (all-single (tableAfterSent limits table first) rest (one .areBytes) (wide .1))
 
-  -- so their calls are those of the history
+  -- so the calls of the history are those that were made
   module _ (table : List ℕ) (sent : List Sent) (are : IsBytes table) (wide : AllSent16 sent) where
-    all : Single table (mixedHistory limits table sent) (tableAfterMixed limits table sent)
+    all : Single table (callsMade limits table sent) (mixedHistory limits table sent) (tableAfterMixed limits table sent)
     all = all-single table sent are wide
 
-    calls-are : all .calls ≡ callsOf (mixedHistory limits table sent)
-    calls-are = sym (ap callsOf (all .history) ∙ calls-of-run (stepBytes limits) table (all .calls))
+    calls-are : callsOf (mixedHistory limits table sent) ≡ callsMade limits table sent
+    calls-are = ap callsOf (all .history) ∙ calls-of-run (stepBytes limits) table (callsMade limits table sent)
 
     pub mixed-16 : Calls16 (callsOf (mixedHistory limits table sent))
-    mixed-16 = subst Calls16 calls-are (all .wide)
+    mixed-16 = subst Calls16 (sym calls-are) (all .wide)
 
     pub mixed-singly : Singly limits table sent
     mixed-singly =
         record {
-          history = all .history ∙ ap (run (stepBytes limits) table) calls-are;
-          after = all .end-is ∙ ap (end (stepBytes limits) table) calls-are;
+          calls = calls-are;
+          history = all .history ∙ ap (run (stepBytes limits) table) (sym calls-are);
+          after = all .end-is ∙ ap (end (stepBytes limits) table) (sym calls-are);
         }
 
   -- ---- Demand 1 of whatever is sent.
