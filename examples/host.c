@@ -46,7 +46,7 @@ static const char *reason(uint16_t number)
     case BOARD_BAD_DESKS: return "a hall has 1 to 16 desks";
     case BOARD_BAD_SCREENS: return "a desk has 1 to 4 screens";
     case BOARD_BAD_POSITIONS: return "a hall has 1 to 64 positions";
-    case BOARD_TABLE_SHORT: return "the table is too short for this hall";
+    case BOARD_TABLE_SHORT: return "too short: the table for this hall, or that of a run's replies";
     case BOARD_UNSOUND: return "the table is damaged, or no hall was opened in it";
     case BOARD_NO_DESK: return "the hall has no such desk";
     case BOARD_NO_SCREEN: return "the desk has no such screen";

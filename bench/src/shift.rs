@@ -14,7 +14,8 @@ const STEPS: usize = 1_000_000;
 const LENGTHS: [usize; 6] = [1, 10, 100, 1_000, 10_000, STEPS];
 /// How often each way of replaying the shift is timed, all in turn.
 const TURNS: usize = 21;
-/// Of a hundred steps so many are made at random, and nearly all of them refused.
+/// Of a hundred steps so many are made at random: of any code and desk, mostly with the message
+/// number of another. Nearly all are refused, with 17, 6 or 23.
 const WILD: u64 = 21;
 /// The sessions that are put: few, so that screens often show what is on a list.
 const SESSIONS: u64 = 400;
@@ -73,6 +74,8 @@ impl Shift {
             let refused = count(code, |reply| reply[0] != 0);
             println!("{name:<10}{accepted:>9}{refused:>9}");
         }
+        let other = self.replies.iter().filter(|reply| reply[0] == 17).count();
+        println!("{:<10}{:>9}{other:>9}", "17", 0);
         let refused = self.replies.iter().filter(|reply| reply[0] != 0).count();
         println!("{:<10}{:>9}{refused:>9}", "all", STEPS - refused);
         println!("{:<10}{:>9}", "hand-backs", count(5, |reply| reply[0] == 0 && reply[1] != 0));

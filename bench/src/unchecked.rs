@@ -1,7 +1,7 @@
 //! A run of steps with no question of soundness, the program that document 02
 //! asks to be measured against. Written to be fast: the words are 16-bit
-//! integers in place, the marks two 64-bit ones, and no index is checked,
-//! because a sound table leaves none out of range.
+//! integers in place, marks are counted and parted by two 64-bit ones, and no
+//! step checks an index, because a sound table leaves none out of range.
 
 use std::ptr;
 

@@ -12,7 +12,7 @@
  *
  * FIRST and PAST are the addresses of the memory around it. A range, FIRST-PAST, is
  * bytes of the table that the call may store to, from documents 01 and 02 and the
- * table's words before the call; after one with a '!' it must have stored to them.
+ * table's words before the call; a range that ends in '!' must be stored to.
  * These are all bytes of an opening, the desk's message number of an accepted step,
  * and the replies of an accepted run. A refusal has no ranges. The code below says
  * of each call whether it is accepted.
