@@ -455,3 +455,37 @@ uint32_t CALL(collect)(uint16_t message, uint16_t desk, uint8_t *table, size_t b
     memcpy(record + 2 * K, &numbers, 8);
     return accepted(next, message, session);
 }
+
+/* ---- the run ---------------------------------------------------------- */
+
+static uint32_t step(const uint8_t *words, uint8_t *table, size_t bytes)
+{
+    uint16_t message = get(words, 1), desk = get(words, 2), screen = get(words, 3);
+    uint16_t position = get(words, 4), session = get(words, 5);
+    switch (get(words, 0)) {
+    case BOARD_TAKE: return CALL(take)(message, desk, screen, position, table, bytes);
+    case BOARD_DROP: return CALL(drop)(message, desk, screen, table, bytes);
+    case BOARD_SWAP: return CALL(swap)(message, desk, position, session, table, bytes);
+    case BOARD_RETIRE: return CALL(retire)(message, desk, table, bytes);
+    case BOARD_COLLECT: return CALL(collect)(message, desk, table, bytes);
+    default: return refused(BOARD_NO_CODE);
+    }
+}
+
+/* By the single calls, so that the comparison has all calls; it is not timed. */
+uint32_t CALL(run)(const uint8_t *steps, size_t step_bytes, uint8_t *replies, size_t reply_bytes,
+                   uint8_t *table, size_t bytes)
+{
+    struct hall hall;
+    size_t count = step_bytes / (2 * BOARD_STEP_WORDS);
+    if (reply_bytes / (2 * BOARD_REPLY_WORDS) < count)
+        return refused(BOARD_TABLE_SHORT);
+    if (!sound(table, bytes, &hall))
+        return refused(BOARD_UNSOUND);
+    for (size_t i = 0; i < count; i++) {
+        uint32_t answer = step(steps + 2 * BOARD_STEP_WORDS * i, table, bytes);
+        set(replies, BOARD_REPLY_WORDS * i, board_number(answer));
+        set(replies, BOARD_REPLY_WORDS * i + 1, board_session(answer));
+    }
+    return refused(BOARD_ACCEPTED);
+}
