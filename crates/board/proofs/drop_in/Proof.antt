@@ -1,5 +1,6 @@
 -- `board::drop_in` meets its contract: each answer is that of `admit`, or the step was done and `move_on` followed.
 use borrow.Author.Needs.{needs}
+use Rattle.rules.specs.Steps.{Drop}
 use Rattle.board.proofs.AdmissionLaws.{admits, refused-desk, refused-number}
 use Rattle.board.proofs.MessageLaws.{number-in-bytes, stepped}
 use Rattle.board.proofs.ResultLaws.{matches-unchanged}
@@ -33,19 +34,24 @@ same-length : tie.Need-same-length
 same-length c = search needs
 
 returns : tie.Need-returns
-returns c = search (matches-unchanged, refused-desk, refused-number, stepped, admits)
+returns c = search (matches-unchanged, refused-desk)
 
 same-length-2 : tie.Need-same-length-2
 same-length-2 c = search needs
 
 returns-2 : tie.Need-returns-2
-returns-2 c = search (matches-unchanged, refused-desk, refused-number, stepped, admits)
+returns-2 c = search (matches-unchanged, refused-number)
 
 same-length-3 : tie.Need-same-length-3
 same-length-3 c = search needs
 
 returns-3 : tie.Need-returns-3
-returns-3 c = search (matches-unchanged, refused-desk, refused-number, stepped, admits)
+returns-3 c =
+    let after-drop-at = c .before .before .before .before .before .before in let after-admission = after-drop-at .before .before .before in
+    let after-admit = after-admission .before .before in let start = after-admit .before .before .before in
+    let admission = admits (start .pre) (after-admission .admission .given .1) (after-admit .admit .ensures) in
+    let done = after-drop-at .drop-at in
+    stepped admission (Drop (start .args .screen)) (done .ensures) (done .kept .0) (c .before .before .move-on .ensures)
 
 pub drop-in-spec : {M : Type 1} → statement M
 drop-in-spec = tie.close (tie.spec admit-requires enum-told enum-told-2 enum-known-admission drop-at-requires move-on-requires same-length returns same-length-2 returns-2 same-length-3 returns-3)
