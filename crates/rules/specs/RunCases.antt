@@ -6,12 +6,15 @@ use mathlib.Core.Bool.{true, false}
 use mathlib.Core.List.{List, [], _∷_, _++_, map}
 use mathlib.Core.Option.{Option, none, some}
 use lib.ListN.{getD, length, replicate, take}
-use Rattle.rules.specs.Bytes.{bytesOfWords, overwriteWords, stepBytes, wordsOfBytes}
-use Rattle.rules.specs.Cases.{_⇒_, ok, refusedWith}
+use Rattle.rules.specs.Bytes.{Call16, IsBytes, bytesOfWords, openBytes, overwriteWords, stepBytes, wordsOfBytes}
+use Rattle.rules.specs.Cases.{_⇒_, ok, refusedWith, wide}
+use Rattle.rules.specs.Closing.{ClosingRule, HandBackCloses}
+use Rattle.rules.specs.Demands.{Demand1, Demand2, Demand3, footprint, onBytesOf, refusals}
 use Rattle.rules.specs.Hall.{Limits, hallLimits, trainingLimits}
 use Rattle.rules.specs.Lists.{concat, occurrences}
 use Rattle.rules.specs.MessageCases.{tableOfOne}
-use Rattle.rules.specs.Runs.{RunDemand1, Sent, Singly, answerRequest, callsMade, callsOf, eventsInReplies, inOneCall, lentOf, mixedHistory, mixedTables}
+use Rattle.rules.specs.Messages.{MessageNumbers}
+use Rattle.rules.specs.Runs.{AllSent16, MixedDemands, RunDemand1, Sent, Singly, answerRequest, callsMade, callsOf, eventsInReplies, inOneCall, lentOf, mixedHistory, mixedTables}
 use Rattle.rules.specs.Runs.{replyFootprint, requestFor, requestsIn, runBytes, runFootprint, runRefusals, single, tableAfterMixed, tableAfterSent}
 use Rattle.rules.specs.Steps.{Answer, Call, Collect, Drop, Event, Retire, Swap, Take, _numbered_, _sends_, accept, end, refuse, run}
 use Rattle.rules.specs.Table.{decodeDesk, encodeDesk, recordSound, sound, stepTable}
@@ -172,6 +175,13 @@ replies-read = refl
 
 -- ---- The statements at one instance.
 
+-- The refusals of a run, and how wide a call and a run are that are sent.
+pub run-refusals : runRefusals ≡ 4 ∷ 5 ∷ []
+run-refusals = refl
+
+pub says-all-sent : (call : Call) (steps replies : List ℕ) → AllSent16 (single call ∷ inOneCall steps replies ∷ []) → Call16 call × IsBytes steps × IsBytes replies
+says-all-sent call steps replies numbers = (numbers .0, numbers .1 .0 .0, numbers .1 .0 .1)
+
 -- Demand 1 of a run, of each table.
 module _ (steps replies table : List ℕ) (demand : RunDemand1 hallLimits steps (lentOf replies table)) where
   pub says-run-refused : runBytes hallLimits steps (lentOf replies table) .answer .number ≡ 5
@@ -210,3 +220,34 @@ module _ (table steps replies : List ℕ) (singly : Singly hallLimits table (sin
       × (history ≡ run (stepBytes hallLimits) table (callsOf history))
       × (tableAfterSent hallLimits (stepBytes hallLimits table (1 sends Collect) .after) (inOneCall steps replies) ≡ end (stepBytes hallLimits) table (callsOf history))
   says-singly = (singly .calls, singly .history, singly .after)
+
+-- The demands of mixed histories, field by field, in a hall of 2, 3, 4.
+module _ (mixed : MixedDemands hallLimits) (bytes : List ℕ) (are : IsBytes bytes) where
+  pub says-mixed-run : (steps replies : List ℕ) → IsBytes steps → IsBytes replies → RunDemand1 hallLimits steps (lentOf replies bytes)
+  says-mixed-run steps replies steps-are replies-are = mixed .demand-1 bytes (inOneCall steps replies) are (steps-are, replies-are)
+
+  pub says-mixed-call : (call : Call) → Call16 call
+      → Demand1 (refusals call) (onBytesOf bytes (footprint (wordsOfBytes bytes) call)) bytes (stepBytes hallLimits bytes call)
+  says-mixed-call call numbers = mixed .demand-1 bytes (single call) are numbers
+
+  pub says-mixed-singly : (sent : List Sent) → AllSent16 sent → Singly hallLimits bytes sent
+  says-mixed-singly sent numbers = mixed .singly bytes sent are numbers
+
+  module _ (accepted : openBytes hallLimits wide bytes .answer .number ≡ 0) (sent : List Sent) (numbers : AllSent16 sent) where
+    abbrev opened : List ℕ
+    opened = openBytes hallLimits wide bytes .after
+
+    pub says-mixed-demand-2 : Demand2 wide (mixedHistory hallLimits opened sent) (mixedTables hallLimits opened sent)
+    says-mixed-demand-2 = mixed .demand-2 wide bytes are accepted sent numbers
+
+    pub says-mixed-demand-3 : Demand3 wide (mixedHistory hallLimits opened sent) (mixedTables hallLimits opened sent)
+    says-mixed-demand-3 = mixed .demand-3 wide bytes are accepted sent numbers
+
+    pub says-mixed-closing : ClosingRule wide (mixedTables hallLimits opened sent)
+    says-mixed-closing = mixed .closing-rule wide bytes are accepted sent numbers
+
+    pub says-mixed-hand-back : HandBackCloses wide (mixedHistory hallLimits opened sent) (mixedTables hallLimits opened sent)
+    says-mixed-hand-back = mixed .hand-back-closes wide bytes are accepted sent numbers
+
+    pub says-mixed-numbers : MessageNumbers wide (mixedHistory hallLimits opened sent) (mixedTables hallLimits opened sent)
+    says-mixed-numbers = mixed .message-numbers wide bytes are accepted sent numbers
