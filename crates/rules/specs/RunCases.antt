@@ -14,7 +14,7 @@ use Rattle.rules.specs.Hall.{Limits, hallLimits, trainingLimits}
 use Rattle.rules.specs.Lists.{concat, occurrences}
 use Rattle.rules.specs.MessageCases.{tableOfOne}
 use Rattle.rules.specs.Messages.{MessageNumbers}
-use Rattle.rules.specs.Runs.{AllSent16, MixedDemands, RunDemand1, Sent, Singly, answerRequest, callsMade, callsOf, eventsInReplies, inOneCall, lentOf, mixedHistory, mixedTables}
+use Rattle.rules.specs.Runs.{AllSent16, MixedDemands, RunDemand1, Sent, Singly, answerRequest, callsMade, callsOf, callsOfSent, eventsInReplies, inOneCall, lentOf, mixedHistory, mixedTables}
 use Rattle.rules.specs.Runs.{replyFootprint, requestFor, requestsIn, runBytes, runFootprint, runRefusals, single, tableAfterMixed, tableAfterSent}
 use Rattle.rules.specs.Steps.{Answer, Call, Collect, Drop, Event, Retire, Swap, Take, _numbered_, _sends_, accept, end, refuse, run}
 use Rattle.rules.specs.Table.{decodeDesk, encodeDesk, recordSound, sound, stepTable}
@@ -166,6 +166,11 @@ pub mixed-computed :
     ≡ (1 sends Swap 1 5) ∷ (1 sends Take 1 1 numbered 1) ∷ (1 sends Swap 1 6 numbered 2) ∷ (1 sends Retire numbered 3) ∷ [])
 unfolding runBytes overwriteWords stepBytes stepTable sound recordSound encodeDesk decodeDesk
 mixed-computed = (refl, refl, refl, refl)
+
+-- A run of one step, with room for its reply alone: its call was made. (The bytes of the table would be three steps.)
+pub one-call-made : callsOfSent hallLimits sound1 (inOneCall (bytesOfWords (1 ∷ 1 ∷ 1 ∷ 1 ∷ 1 ∷ 0 ∷ [])) (replicate 4 3)) ≡ (1 sends Take 1 1 numbered 1) ∷ []
+unfolding runBytes overwriteWords stepBytes stepTable sound recordSound encodeDesk decodeDesk
+one-call-made = refl
 
 -- The events in a reply table: two words an answer, in order, refused ones too.
 pub replies-read :
