@@ -58,7 +58,7 @@ pub struct Filled {
 
 // Runs the step that a record requests, in a room with these limits, with its desk's next message number. A code outside 1 to 5 is answered
 // 17, and nothing is written. Precondition: this is the soundness of the table.
-pub fn run_record(table: &mut [u8], limits: Limits, soundness: Soundness, entry: Record) -> Reply
+fn run_record(table: &mut [u8], limits: Limits, soundness: Soundness, entry: Record) -> Reply
     requires { ⌜ soundness ≡ soundnessOf (limitsOf limits) (wordsOfBytes (now table)) ⌝ }
     ensures { λ r. ⌜ Ran (limitsOf limits) (recordOf entry) (now (table .entry)) r (now (table .exit)) ⌝ }
 {
