@@ -1,0 +1,3 @@
+-- The definitions of the board whose list is a ring, and what is proved of them.
+pub mod Ring
+pub mod laws
