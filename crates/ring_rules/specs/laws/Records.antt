@@ -3,8 +3,8 @@ use Prim.Native.Nat.{ℕ, suc, _+_, _*_, _-_, _≤_, _<_}
 use native.Mathlib.Omega.{arith}
 use mathlib.Core.Path.{_≡_, refl, sym, ap, ap₂, _∙_}
 use mathlib.Core.List.{List, [], _∷_, _++_, append-assoc}
-use lib.ListN.{length, getD, take, drop, set, length-append, length-drop, length-set, take-append-drop, drop-of-length-le}
-use lib.Seq.{drop-at, drop-cons, drop-drop, getD-append-add, getD-at, length-take-le, set-append-left, take-all, take-at}
+use lib.ListN.{length, getD, take, drop, set, length-append, length-drop, length-set, take-append-drop, drop-of-length-le, List·getD-append}
+use lib.Seq.{drop-at, drop-cons, drop-drop, getD-append-add, getD-at, getD-drop, getD-take, length-take-le, set-append-left, take-all, take-at}
 use Rattle.rules.specs.Table.{listOffset, slotsIn, tailIn, tailOffset, tailWords, widthFor}
 use Rattle.rules.specs.laws.lists.ListSlices.{set-append-add}
 use Rattle.ring_rules.specs.Ring.{beginningIn, circular, linear, ringWidthFor, rotate}
@@ -163,6 +163,22 @@ module _ (S : ℕ) (r : List ℕ) (long : length r ≡ ringWidthFor S) where
 
   linear-parts : linear S r ≡ head ++ (rotate b slots ++ tail)
   linear-parts = ap (linear S) (parts-of S r long) ∙ linear-of S head slots tail b (head-length S r enough) (slots-length S r enough) (tail-length S r enough)
+
+  -- a word before the list, and a word of the tail
+  pub linear-head : (i : ℕ) → i < listOffset → getD (linear S r) i 0 ≡ getD r i 0
+  linear-head i h =
+      ap (λ (x : List ℕ). getD x i 0) linear-parts
+      ∙ List·getD-append head (rotate b slots ++ tail) 0 i (omega (arith, head-length S r enough))
+      ∙ getD-take listOffset r i 0 h
+
+  pub linear-tail : (i : ℕ) → i < tailWords → getD (linear S r) (tailOffset S + i) 0 ≡ getD r (tailOffset S + i) 0
+  linear-tail i h =
+      let e : tailOffset S + i ≡ length head + (length (rotate b slots) + i) = omega (arith, head-length S r enough, slots-length S r enough, rotate-length b slots) in
+      ap₂ {C = ℕ} (λ x k. getD x k 0) linear-parts e
+      ∙ getD-append-add head (rotate b slots ++ tail) (length (rotate b slots) + i) 0
+      ∙ getD-append-add (rotate b slots) tail i 0
+      ∙ getD-take tailWords (tailIn S r) i 0 h
+      ∙ getD-drop (tailOffset S) r i 0
 
   pub linear-set : (i v : ℕ) → i < listOffset → linear S (set r i v) ≡ set (linear S r) i v
   linear-set i v h =

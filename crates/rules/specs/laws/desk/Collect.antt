@@ -130,7 +130,7 @@ scan-keeps S shown A hS hl g = by-scan (Keeps S A) S shown A hS hl g (λ e. reco
 abbrev pub beforeHandBack : ℕ → List ℕ → Desk → Desk
 beforeHandBack S shown D = settle S (scan shown (begin D))
 
-before-hand-back : (S : ℕ) (shown : List ℕ) (D : Desk) → 1 ≤ S → length shown ≡ S → Orderly S D → Keeps S D (beforeHandBack S shown D)
+pub before-hand-back : (S : ℕ) (shown : List ℕ) (D : Desk) → 1 ≤ S → length shown ≡ S → Orderly S D → Keeps S D (beforeHandBack S shown D)
 before-hand-back S shown D hS hl ok =
     let b = begin-keeps S D hS ok in
     let p = scan-keeps S shown (begin D) hS hl (b .going) in
