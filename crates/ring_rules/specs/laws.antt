@@ -5,3 +5,6 @@ pub mod RingSteps
 pub mod Beginnings
 pub mod RingOpening
 pub mod RingHistories
+pub mod SlotWords
+pub mod NamedWords
+pub mod RingDemand1

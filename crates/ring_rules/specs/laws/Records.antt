@@ -1,12 +1,15 @@
 -- A ring's record and the record of the first board that it reads as: its parts, there and back, and what a store does.
-use Prim.Native.Nat.{ℕ, suc, _+_, _*_, _-_, _≤_, _<_}
+use Prim.Native.Nat.{ℕ, zero, suc, _+_, _*_, _-_, _≤_, _<_}
 use native.Mathlib.Omega.{arith}
 use mathlib.Core.Path.{_≡_, refl, sym, ap, ap₂, _∙_}
 use mathlib.Core.List.{List, [], _∷_, _++_, append-assoc}
 use lib.ListN.{length, getD, take, drop, set, length-append, length-drop, length-set, take-append-drop, drop-of-length-le, List·getD-append}
 use lib.Seq.{drop-at, drop-cons, drop-drop, getD-append-add, getD-at, getD-drop, getD-take, length-take-le, set-append-left, take-all, take-at}
+use Rattle.rules.specs.Bytes.{Words16}
 use Rattle.rules.specs.Table.{listOffset, slotsIn, tailIn, tailOffset, tailWords, widthFor}
+use Rattle.rules.specs.laws.desk.Decoding.{small-drop, small-take}
 use Rattle.rules.specs.laws.lists.ListSlices.{set-append-add}
+use Rattle.rules.specs.laws.table.WordBounds.{below-append}
 use Rattle.ring_rules.specs.Ring.{beginningIn, circular, linear, ringWidthFor, rotate}
 use Rattle.ring_rules.specs.laws.Rotations.{rotate-back, rotate-length, rotate-there}
 
@@ -61,6 +64,9 @@ module _ (S : ℕ) (head slots tail : List ℕ) (head-long : length head ≡ lis
   unfolding circular
   circular-of b = λ i. first-head i ++ (rotate (2 * S - b) (first-slots i) ++ (first-tail i ++ (b ∷ [])))
 
+rotate-words : (n : ℕ) (l : List ℕ) → Words16 l → Words16 (rotate n l)
+rotate-words n l small = below-append 65536 (drop n l) (take n l) (small-drop n l small) (small-take n l small)
+
 -- ---- The parts of any record of the right length.
 pub head-length : (S : ℕ) (r : List ℕ) → widthFor S ≤ length r → length (take listOffset r) ≡ listOffset
 head-length S r long = length-take-le listOffset r (omega arith)
@@ -85,6 +91,28 @@ parts-of S r long =
     ∙ ap (λ (x : List ℕ). beginningIn S r ∷ x) (drop-of-length-le r {i = suc (widthFor S)} (omega arith)) in
     three-parts S r
     ∙ ap (λ (x : List ℕ). take listOffset r ++ (slotsIn S r ++ x)) (sym (take-append-drop tailWords (tailIn S r)) ∙ ap (λ (x : List ℕ). take tailWords (tailIn S r) ++ x) last)
+
+-- words of 16 bits stay so
+pub linear-words : (S : ℕ) (r : List ℕ) → length r ≡ ringWidthFor S → Words16 r → Words16 (linear S r)
+unfolding linear
+linear-words S r long small =
+    let slots = small-take (2 * S) (drop listOffset r) (small-drop listOffset r small) in
+    below-append 65536 (take listOffset r) (rotate (beginningIn S r) (slotsIn S r) ++ take tailWords (tailIn S r)) (small-take listOffset r small)
+    (below-append 65536 (rotate (beginningIn S r) (slotsIn S r)) (take tailWords (tailIn S r)) (rotate-words (beginningIn S r) (slotsIn S r) slots)
+    (small-take tailWords (tailIn S r) (small-drop (tailOffset S) r small)))
+
+pub circular-words : (S b : ℕ) (w : List ℕ) → b < 65536 → Words16 w → Words16 (circular S b w)
+unfolding circular
+circular-words S b w h small =
+    let slots = small-take (2 * S) (drop listOffset w) (small-drop listOffset w small) in
+    let tail = small-drop (tailOffset S) w small in
+    below-append 65536 (take listOffset w) (rotate (2 * S - b) (slotsIn S w) ++ (tailIn S w ++ (b ∷ []))) (small-take listOffset w small)
+    (below-append 65536 (rotate (2 * S - b) (slotsIn S w)) (tailIn S w ++ (b ∷ [])) (rotate-words (2 * S - b) (slotsIn S w) slots)
+    (below-append 65536 (tailIn S w) (b ∷ []) tail last))
+  where
+    last : Words16 (b ∷ [])
+    last zero = h
+    last (suc i) = omega arith
 
 pub linear-length : (S : ℕ) (r : List ℕ) → length r ≡ ringWidthFor S → length (linear S r) ≡ widthFor S
 unfolding linear
@@ -163,6 +191,10 @@ module _ (S : ℕ) (r : List ℕ) (long : length r ≡ ringWidthFor S) where
 
   linear-parts : linear S r ≡ head ++ (rotate b slots ++ tail)
   linear-parts = ap (linear S) (parts-of S r long) ∙ linear-of S head slots tail b (head-length S r enough) (slots-length S r enough) (tail-length S r enough)
+
+  -- the slots that it reads as
+  pub linear-slots : slotsIn S (linear S r) ≡ rotate b slots
+  linear-slots = ap (slotsIn S) linear-parts ∙ first-slots S head (rotate b slots) tail (head-length S r enough) (rotate-length b slots ∙ slots-length S r enough)
 
   -- a word before the list, and a word of the tail
   pub linear-head : (i : ℕ) → i < listOffset → getD (linear S r) i 0 ≡ getD r i 0

@@ -77,10 +77,10 @@ retire-list D =
 tail-retire : (D : Desk) → encodeTail (retire D) ≡ encodeTail D
 tail-retire D = refl
 
-tail-collect : (S : ℕ) (shown : List ℕ) (D : Desk) → encodeTail (collect S shown D .after) ≡ encodeTail D
+pub tail-collect : (S : ℕ) (shown : List ℕ) (D : Desk) → encodeTail (collect S shown D .after) ≡ encodeTail D
 tail-collect S shown D = ap (λ (number : ℕ). number ∷ []) (next-collect S shown D)
 
-retire-keeps : (S : ℕ) (D : Desk) (j : ℕ) → usedSlots D < 2 * S → (j ≡ owedOffset → ⊥) → (j ≡ waitingOffset → ⊥) → (j ≡ listOffset + usedSlots D → ⊥)
+pub retire-keeps : (S : ℕ) (D : Desk) (j : ℕ) → usedSlots D < 2 * S → (j ≡ owedOffset → ⊥) → (j ≡ waitingOffset → ⊥) → (j ≡ listOffset + usedSlots D → ⊥)
     → getD (encodeDesk S (retire D)) j 0 ≡ getD (encodeDesk S D) j 0
 unfolding encodeDesk
 retire-keeps S D j room n0 n4 nl =
@@ -98,7 +98,7 @@ retire-keeps S D j room n0 n4 nl =
         ap (λ (l : List ℕ). getD (l ++ replicate (2 * S - length (listOf (retire D))) 0) i 0) (retire-list D)
         ∙ list-longer (listOf D) (D .owed) (2 * S - length (listOf (retire D))) (2 * S - length (listOf D)) i ne
 
-owed-first : (S : ℕ) (D : Desk) → getD (encodeDesk S D) 0 0 ≡ D .owed
+pub owed-first : (S : ℕ) (D : Desk) → getD (encodeDesk S D) 0 0 ≡ D .owed
 unfolding encodeDesk
 owed-first S D = refl
 

@@ -209,7 +209,7 @@ first-no-is-asked (q ∷ qs) n h = by-cases (q .yes?) h (first-no-is-asked qs n)
     by-cases true e later = omega (arith, later e)
     by-cases false e later = omega (arith, ap (indicator (suc n)) e, indicator-same (suc n))
 
-refusals-are-asked : (limits : Limits) (H : Hall) (st : State) (c : Call) → refusals c ≡ 5 ∷ map (λ q. q .number) (questions limits H st c)
+pub refusals-are-asked : (limits : Limits) (H : Hall) (st : State) (c : Call) → refusals c ≡ 5 ∷ map (λ q. q .number) (questions limits H st c)
 refusals-are-asked limits H st c = by-step (c .step)
   where
     by-step : (s : Step) → stepRefusals s ≡ 5 ∷ map (λ q. q .number) (questions limits H st (c .desk sends s numbered c .message))
