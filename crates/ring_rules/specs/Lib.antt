@@ -1,4 +1,5 @@
 -- The definitions of the board whose list is a ring, and what is proved of them.
 pub mod Ring
 pub mod RingDemands
+pub mod RingTheorems
 pub mod laws

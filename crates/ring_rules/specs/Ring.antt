@@ -5,6 +5,7 @@ use mathlib.Core.Bool.{Bool, true, false, cond, _&&_}
 use mathlib.Core.List.{List, [], _∷_, _++_}
 use lib.ListN.{length, getD, take, drop, set, replicate}
 use lib.Dec.{leb, ltb}
+use Rattle.rules.specs.Bytes.{openOnBytes, stepOnBytes}
 use Rattle.rules.specs.Hall.{Desk, Hall, Limits, State, allScreens, maxDesks, maxPositions, maxScreens}
 use Rattle.rules.specs.Lists.{chunks, every}
 use Rattle.rules.specs.Steps.{Call, Collect, Drop, Question, Result, Retire, Step, Swap, Take, advance, ask, begin, collect, decide, firstNo, inRange, isRepeat, perform}
@@ -174,3 +175,10 @@ ringQuestions limits hall table =
 
 unfoldable pub openRing : Limits → Hall → List ℕ → Result (List ℕ)
 openRing limits hall table = decide (firstNo (ringQuestions limits hall table)) table 0 (openedRing hall table)
+
+-- ---- The calls as the host makes them, on bytes.
+unfoldable pub openRingBytes : Limits → Hall → List ℕ → Result (List ℕ)
+openRingBytes limits = openOnBytes (openRing limits)
+
+unfoldable pub stepRingBytes : Limits → List ℕ → Call → Result (List ℕ)
+stepRingBytes limits = stepOnBytes (stepRing limits)

@@ -3,15 +3,19 @@ use Prim.Native.Nat.{ℕ, zero, suc, _+_, _*_, _%_, _≤_}
 use mathlib.Core.Path.{_≡_}
 use mathlib.Core.Bool.{Bool, true, cond, _&&_}
 use mathlib.Core.List.{List, [], _∷_, _++_, map}
-use lib.ListN.{length, getD}
+use lib.ListN.{length, getD, take}
 use lib.Dec.{eqb, ltb}
+use Rattle.rules.specs.Bytes.{Call16, Calls16, IsBytes, wordsOfBytes}
+use Rattle.rules.specs.Closing.{ClosingRule, HandBackCloses}
+use Rattle.rules.specs.Demands.{Demand1, Demand2, Demand3, onBytesOf, openingRefusals, refusals}
 use Rattle.rules.specs.Hall.{Desk, Hall, Limits, allScreens}
 use Rattle.rules.specs.History.{handBacks}
 use Rattle.rules.specs.Lists.{occurrences}
-use Rattle.rules.specs.Steps.{Call, Collect, Drop, Event, Result, Retire, Step, Swap, Take, begin, isRepeat, isSession, markedOf, scan, settle}
+use Rattle.rules.specs.Messages.{MessageNumbers}
+use Rattle.rules.specs.Steps.{Call, Collect, Drop, Event, Result, Retire, Step, Swap, Take, begin, end, isRepeat, isSession, markedOf, run, scan, settle}
 use Rattle.rules.specs.Table.{hallIn, listOffset, owedOffset, positionWord, scannedOffset, screenWord, usedIn, waitingOffset}
-use Rattle.ring_rules.specs.Ring.{beginningIn, beginningOffset, beginningWord, decodeRing, linearTable, ringNeed, ringNextWord, ringRecordOf, ringSound, ringStart}
-use Rattle.ring_rules.specs.Ring.{ringState, slotAfter}
+use Rattle.ring_rules.specs.Ring.{beginningIn, beginningOffset, beginningWord, decodeRing, linearTable, openRingBytes, ringNeed, ringNextWord, ringRecordOf, ringSound, ringStart}
+use Rattle.ring_rules.specs.Ring.{ringState, slotAfter, stepRingBytes}
 
 -- ---- "any sequence of steps gets the same replies from both boards, and [..] the ring read from its beginning is the first board's list."
 
@@ -91,3 +95,27 @@ ringFootprint table call i = ltb 0 (occurrences i (ringNames table call))
 -- The words that an opening names.
 abbrev pub ringOpeningFootprint : Hall → ℕ → Bool
 ringOpeningFootprint hall i = ltb i (ringNeed hall)
+
+-- ---- "What holds of the first board's replies and list then passes to it."
+
+-- A statement about a history and about tables holds of every history of the ring's calls from an accepted opening on, with 16-bit numbers, and of
+-- the tables of the first board that the ring reads as after its first i calls.
+abbrev pub FromOpening : Limits → Hall → (List Event → (ℕ → List ℕ) → Type 0) → Type 0
+FromOpening limits hall statement =
+    (bytes : List ℕ) → IsBytes bytes → openRingBytes limits hall bytes .answer .number ≡ 0 → (calls : List Call) → Calls16 calls
+    → let opened = openRingBytes limits hall bytes .after in
+    statement (run (stepRingBytes limits) opened calls) (λ i. linearTable (wordsOfBytes (end (stepRingBytes limits) opened (take i calls))))
+
+-- The calls of the ring as the host makes them, in a room with these limits. What demands 2 and 3, the closing rule and message numbers say of the
+-- words of the table holds of the first board's table that the ring reads as.
+pub record RingMeetsDemands (limits : Limits) : Type 0 where
+  pub demand-1 : (bytes : List ℕ) (call : Call) → IsBytes bytes → Call16 call
+      → Demand1 (refusals call) (onBytesOf bytes (ringFootprint (wordsOfBytes bytes) call)) bytes (stepRingBytes limits bytes call)
+  pub demand-1-opening : (hall : Hall) (bytes : List ℕ) → IsBytes bytes
+      → Demand1 openingRefusals (onBytesOf bytes (ringOpeningFootprint hall)) bytes (openRingBytes limits hall bytes)
+  -- about every history from an accepted opening on
+  pub demand-2 : (hall : Hall) → FromOpening limits hall (Demand2 hall)
+  pub demand-3 : (hall : Hall) → FromOpening limits hall (Demand3 hall)
+  pub closing-rule : (hall : Hall) → FromOpening limits hall (λ history tables. ClosingRule hall tables)
+  pub hand-back-closes : (hall : Hall) → FromOpening limits hall (HandBackCloses hall)
+  pub message-numbers : (hall : Hall) → FromOpening limits hall (MessageNumbers hall)

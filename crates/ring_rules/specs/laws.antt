@@ -8,3 +8,5 @@ pub mod RingHistories
 pub mod SlotWords
 pub mod NamedWords
 pub mod RingDemand1
+pub mod RingWords
+pub mod RingBytes

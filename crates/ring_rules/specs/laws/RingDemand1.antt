@@ -7,7 +7,7 @@ use mathlib.Core.Bool.{Bool, true, false, cond, not, true≢false}
 use mathlib.Core.List.{List, [], _∷_, _++_, map}
 use lib.Dec.{eqb, ltb}
 use borrow.Author.Tests.{eqb-false, eqb-true, ltb-false}
-use lib.ListN.{length, getD, take, drop, set, replicate, length-append, length-drop, length-replicate, length-set}
+use lib.ListN.{length, getD, take, drop, set, replicate, length-append, length-drop, length-map, length-replicate, length-set}
 use lib.Seq.{getD-drop, getD-set-other, getD-set-same, getD-take}
 use Rattle.rules.specs.Bytes.{Words16}
 use Rattle.rules.specs.Demands.{Demand1, openingRefusals, refusals}
@@ -295,6 +295,26 @@ module _ (limits : Limits) (t : List ℕ) (small : Words16 t) (k : RingKnown lim
       by-step m d (Swap p new) e none = swap-keeps m d p new e i none
       by-step m d Retire e none = retire-keeps-words m d e i none
       by-step m d Collect e none = collect-keeps-words m d e i none
+
+-- a collect that does not end a reading with a marked session names at most 15 words
+pub collect-names-few : (t : List ℕ) (m d : ℕ)
+    → let H = hallIn t in
+    let read = scan (ringState t .shown) (begin (decodeRing (allScreens H) (ringRecordOf H t d))) in
+    marksAtEnd (allScreens H) read ≡ false → length (ringNames t (d sends Collect numbered m)) ≤ 15
+collect-names-few t m d none =
+    let H = hallIn t in
+    let S = allScreens H in
+    let r = ringRecordOf H t d in
+    let b = beginningIn S r in
+    let read = scan (ringState t .shown) (begin (decodeRing S r)) in
+    let handed = handBackOffsets S b (settle S read .ready) in
+    let moved = cond (marksAtEnd S read) (testedOffsets S b read) [] in
+    let offsets = collectOffsets S (ringState t .shown) r in
+    omega (arith, length-map offsets (λ offset. ringStart H d + offset), length-append handed moved, handed-few S b (settle S read .ready), ap (λ (q : Bool). length (cond q (testedOffsets S b read) [])) none)
+  where
+    handed-few : (S b : ℕ) (ready : List ℕ) → length (handBackOffsets S b ready) ≤ 2
+    handed-few S b [] = omega arith
+    handed-few S b (x ∷ ready) = omega arith
 
 -- ---- Every step, by its three cases.
 pub by-ring-step : (limits : Limits) (Q : Result (List ℕ) → Type 0) (t : List ℕ) (c : Call)

@@ -8,13 +8,13 @@ use Rattle.rules.specs.Hall.{Hall}
 use Rattle.rules.specs.Steps.{Call, Event, end, run}
 use Rattle.rules.specs.laws.bytes.Bytes.{WordBoard, bytes-open, bytes-step}
 
-take-calls16 : (i : ℕ) (calls : List Call) → Calls16 calls → Calls16 (take i calls)
+pub take-calls16 : (i : ℕ) (calls : List Call) → Calls16 calls → Calls16 (take i calls)
 take-calls16 zero calls w = tt
 take-calls16 (suc i) [] w = tt
 take-calls16 (suc i) (call ∷ calls) w = (w .0, take-calls16 i calls (w .1))
 
 module _ (board : WordBoard) where
-  bytes-run : (bytes : List ℕ) (calls : List Call) → IsBytes bytes → Calls16 calls
+  pub bytes-run : (bytes : List ℕ) (calls : List Call) → IsBytes bytes → Calls16 calls
       → run (stepOnBytes (board .does)) bytes calls ≡ run (board .does) (wordsOfBytes bytes) calls
   bytes-run bytes [] h w = refl
   bytes-run bytes (call ∷ calls) h w =
@@ -22,7 +22,7 @@ module _ (board : WordBoard) where
       let later = bytes-run (stepOnBytes (board .does) bytes call .after) calls (a .areBytes) (w .1) in
       λ i. record { call = call; answer = a .answer i } ∷ (later ∙ ap (λ (t : List ℕ). run (board .does) t calls) (a .words)) i
 
-  bytes-end : (bytes : List ℕ) (calls : List Call) → IsBytes bytes → Calls16 calls
+  pub bytes-end : (bytes : List ℕ) (calls : List Call) → IsBytes bytes → Calls16 calls
       → wordsOfBytes (end (stepOnBytes (board .does)) bytes calls) ≡ end (board .does) (wordsOfBytes bytes) calls
   bytes-end bytes [] h w = refl
   bytes-end bytes (call ∷ calls) h w =

@@ -34,12 +34,12 @@ below-append m [] ys h g i = g i
 below-append m (x ∷ xs) ys h g zero = h 0
 below-append m (x ∷ xs) ys h g (suc i) = below-append m xs ys (λ j. h (suc j)) g i
 
-words-zeros : (n : ℕ) → Words16 (replicate n 0)
+pub words-zeros : (n : ℕ) → Words16 (replicate n 0)
 words-zeros zero i = omega arith
 words-zeros (suc n) zero = omega arith
 words-zeros (suc n) (suc i) = words-zeros n i
 
-words-set : (xs : List ℕ) (k v : ℕ) → v < 65536 → Words16 xs → Words16 (set xs k v)
+pub words-set : (xs : List ℕ) (k v : ℕ) → v < 65536 → Words16 xs → Words16 (set xs k v)
 words-set [] k v l h i = omega arith
 words-set (x ∷ xs) zero v l h zero = l
 words-set (x ∷ xs) zero v l h (suc i) = h (suc i)
@@ -77,7 +77,7 @@ mark-words (suc n) bits zero = word-of-bits-small 16 (take 16 bits) (omega (arit
 mark-words (suc n) bits (suc i) = mark-words n (drop 16 bits) i
 
 -- ---- A desk whose record is of 16-bit words.
-record Desk16 (S : ℕ) (D : Desk) : Type 0 where
+pub record Desk16 (S : ℕ) (D : Desk) : Type 0 where
   sound : Sound S D
   owed : D .owed < 65536
   next : D .next < 65536
@@ -91,7 +91,7 @@ tail-words : (D : Desk) → D .next < 65536 → Words16 (encodeTail D)
 tail-words D small zero = small
 tail-words D small (suc i) = omega arith
 
-record-words : (S : ℕ) (D : Desk) → S ≤ maxAllScreens → Desk16 S D → Words16 (encodeDesk S D)
+pub record-words : (S : ℕ) (D : Desk) → S ≤ maxAllScreens → Desk16 S D → Words16 (encodeDesk S D)
 unfolding encodeDesk
 record-words S D h k = at
   where
@@ -133,7 +133,7 @@ no-large-sessions S r h s l =
     omega
     (arith, no-large-copies s (take a list) l (small-take a list g), copies-on-slots s (take b (drop a list)) (take b (marksIn r)), no-large-copies s (take b (drop a list)) l (small-take b (drop a list) (small-drop a list g)), no-large-copies s (take c (drop (a + b) list)) l (small-take c (drop (a + b) list) (small-drop (a + b) list g)))
 
-desk-read : (t : List ℕ) (d : ℕ) → Words16 t → Known t → (1 ≤ d) × (d ≤ hallIn t .desks)
+pub desk-read : (t : List ℕ) (d : ℕ) → Words16 t → Known t → (1 ≤ d) × (d ≤ hallIn t .desks)
     → Desk16 (allScreens (hallIn t)) (deskOf (decode (hallIn t) t) d)
 desk-read t d h k r =
     let H : Hall = hallIn t in
@@ -147,7 +147,7 @@ desk-read t d h k r =
     }
 
 -- retire and collect keep it
-retire-16 : (S : ℕ) (D : Desk) → (D .owed ≡ 0 → ⊥) → usedSlots D < 2 * S → Desk16 S D → Desk16 S (retire D)
+pub retire-16 : (S : ℕ) (D : Desk) → (D .owed ≡ 0 → ⊥) → usedSlots D < 2 * S → Desk16 S D → Desk16 S (retire D)
 retire-16 S D z l k = record {
   sound = retire-sound S D z l (k .sound);
   owed = omega arith;
@@ -157,7 +157,7 @@ retire-16 S D z l k = record {
 }
 
 module _ (S : ℕ) (shown : List ℕ) (D : Desk) (some : 1 ≤ S) (all : length shown ≡ S) (k : Desk16 S D) where
-  collect-16 : Desk16 S (collect S shown D .after)
+  pub collect-16 : Desk16 S (collect S shown D .after)
   collect-16 =
       record {
         sound = collect-sound S shown D some all (k .sound);
