@@ -10,3 +10,4 @@ pub mod NamedWords
 pub mod RingDemand1
 pub mod RingWords
 pub mod RingBytes
+pub mod RingReads

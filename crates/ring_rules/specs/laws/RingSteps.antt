@@ -27,7 +27,7 @@ use Rattle.ring_rules.specs.Ring.{ringAfterStep, ringNeed, ringNextWord,
 use Rattle.ring_rules.specs.Ring.{settled, slotAfter, stepRing}
 use Rattle.ring_rules.specs.RingDemands.{SameStep}
 use Rattle.ring_rules.specs.laws.Records.{circular-beginning, circular-length, linear-circular, linear-set, linear-set-tail, linear-tail}
-use Rattle.ring_rules.specs.laws.RingTables.{hall-same, linear-table-length, number-linear, owed-linear, put-every, put-hall, put-long, put-same, record-long, record-same}
+use Rattle.ring_rules.specs.laws.RingTables.{hall-same, linear-table-length, number-linear, number-same, owed-linear, put-every, put-hall, put-long, put-same, record-long, record-same}
 use Rattle.ring_rules.specs.laws.RingTables.{record-within, records-same, same-hall, word-put, word-same, word-stored}
 
 -- ---- A sound ring.
@@ -228,20 +228,6 @@ module _ (H : Hall) (t : List ℕ) (long : ringNeed H ≤ length t) (good : ever
         store-unread (tailOffset S) v (omega arith) (unread-sound S (tailOffset S) v r (omega arith) same (number-unread S v (linear S r)) record-good) _
         (number-linear H t long d first last v)
 
-    -- the message number that both hold
-    number-same : getD (linearIn H t) (nextWord H d) 0 ≡ getD t (ringNextWord H d) 0
-    number-same =
-        let S = allScreens H in
-        let e : tailOffset S + 0 ≡ tailOffset S = omega arith in
-        let r = ringRecordOf H t d in
-        sym (getD-record (linearIn H t) (recordStart H d) (widthFor S) (tailOffset S) (omega arith))
-        ∙ ap (λ (x : List ℕ). getD x (tailOffset S) 0) (record-same H t long d first last)
-        ∙ subst (λ (k : ℕ). getD (linear S r) k 0 ≡ getD r k 0) e (linear-tail S r (record-long H t long d first last) 0 (omega arith))
-        ∙ getD-record t (ringStart H d) (ringWidthFor S) (tailOffset S) (omega arith)
-      where
-        getD-record : (x : List ℕ) (start width i : ℕ) → i < width → getD (take width (drop start x)) i 0 ≡ getD x (start + i) 0
-        getD-record x start width i h = getD-take width (drop start x) i 0 h ∙ getD-drop start x i 0
-
 -- ---- What is known of the first board that a sound ring reads as, at the ring's hall.
 pub record Holds (H : Hall) (T : List ℕ) : Type 0 where
   pub fits : Fits H
@@ -370,7 +356,7 @@ module _ (limits : Limits) (t : List ℕ) (k : RingKnown limits t) where
       let w1 = writes-step (c .message) d (c .step) e in
       let v = advance (getD t (ringNextWord H d) 0) in
       let w2 = store-number H u (let l = k .long in omega (arith, w1 .long)) (w1 .records) d (there .0) (there .1) v in
-      let q = number-same H t (k .long) (k .records) d (there .0) (there .1) in
+      let q = number-same H t (k .long) d (there .0) (there .1) in
       record {
         hall = w2 .hall ∙ w1 .hall;
         same =

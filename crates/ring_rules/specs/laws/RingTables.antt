@@ -6,14 +6,14 @@ use mathlib.Core.Path.{_≡_, refl, sym, ap, ap₂, _∙_, subst}
 use mathlib.Core.Bool.{Bool, true, false, _&&_}
 use mathlib.Core.List.{List, [], _∷_, _++_, map, append-assoc}
 use lib.ListN.{length, getD, take, drop, set, length-append, length-drop, length-set, take-append-drop, List·getD-append}
-use lib.Seq.{drop-at, drop-append-add, drop-drop, drop-set-lt, getD-take, length-take-le, set-append-left, take-add, take-append-add, take-at, take-set-lt, take-take}
+use lib.Seq.{drop-at, drop-append-add, drop-drop, drop-set-lt, getD-drop, getD-take, length-take-le, set-append-left, take-add, take-append-add, take-at, take-set-lt, take-take}
 use Rattle.rules.specs.Hall.{Hall, allScreens}
 use Rattle.rules.specs.Lists.{chunks, every}
 use Rattle.rules.specs.Table.{hallIn, headerWords, listOffset, putRecord, recordOf, recordStart, recordWidth, recordsIn, tailOffset, tailWords, widthFor}
 use Rattle.rules.specs.laws.lists.Bools.{and-left, and-right, and-true}
 use Rattle.rules.specs.laws.lists.ListSlices.{set-mid}
 use Rattle.ring_rules.specs.Ring.{frontWords, putRing, ringNeed, ringRecordOf, ringRecordsIn, ringStart, ringWidthFor, linear, linearIn, linearRecords}
-use Rattle.ring_rules.specs.laws.Records.{linear-length, linear-set, linear-set-tail}
+use Rattle.ring_rules.specs.laws.Records.{linear-head, linear-length, linear-set, linear-set-tail, linear-tail}
 
 -- ---- Records of w words, one after another: record i, from 0, replaced.
 abbrev put : ℕ → ℕ → List ℕ → List ℕ → List ℕ
@@ -251,3 +251,23 @@ module _ (H : Hall) (t : List ℕ) (long : ringNeed H ≤ length t) where
         word-linear (tailOffset S) v (omega arith)
         (subst (λ (k : ℕ). linear S (set (ringRecordOf H t d) k v) ≡ set (linear S (ringRecordOf H t d)) k v) e
         (linear-set-tail S (ringRecordOf H t d) record-long 0 v (omega arith)))
+
+    -- the words that both hold: the owed session and the message number
+    word-of : (x : List ℕ) (start width i : ℕ) → i < width → getD (take width (drop start x)) i 0 ≡ getD x (start + i) 0
+    word-of x start width i h = getD-take width (drop start x) i 0 h ∙ getD-drop start x i 0
+
+    same-word : (i : ℕ) → i < widthFor S → getD (linear S (ringRecordOf H t d)) i 0 ≡ getD (ringRecordOf H t d) i 0 → getD T (recordStart H d + i) 0 ≡ getD t (ringStart H d + i) 0
+    same-word i h same =
+        sym (word-of T (recordStart H d) (widthFor S) i h) ∙ ap (λ (x : List ℕ). getD x i 0) record-same ∙ same ∙ word-of t (ringStart H d) (ringWidthFor S) i (omega arith)
+
+    pub owed-same : getD T (recordStart H d) 0 ≡ getD t (ringStart H d) 0
+    owed-same =
+        let e : recordStart H d ≡ recordStart H d + 0 = omega arith in
+        let f : ringStart H d + 0 ≡ ringStart H d = omega arith in
+        ap (λ (k : ℕ). getD T k 0) e ∙ same-word 0 (omega arith) (linear-head S (ringRecordOf H t d) record-long 0 (omega arith)) ∙ ap (λ (k : ℕ). getD t k 0) f
+
+    pub number-same : getD T (recordStart H d + tailOffset S) 0 ≡ getD t (ringStart H d + tailOffset S) 0
+    number-same =
+        let e : tailOffset S + 0 ≡ tailOffset S = omega arith in
+        same-word (tailOffset S) (omega arith)
+        (subst (λ (k : ℕ). getD (linear S (ringRecordOf H t d)) k 0 ≡ getD (ringRecordOf H t d) k 0) e (linear-tail S (ringRecordOf H t d) record-long 0 (omega arith)))
