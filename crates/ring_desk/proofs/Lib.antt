@@ -1,0 +1,6 @@
+-- Laws that several proofs cite, and those that the board above cites (RingFound).
+pub mod AroundLaws
+pub mod RingReads
+pub mod RingParts
+pub mod RingCollect
+pub mod RingSettle
