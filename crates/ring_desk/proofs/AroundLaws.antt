@@ -6,9 +6,11 @@ use mathlib.Core.List.{List, [], _∷_, _++_, append-assoc}
 use mathlib.Core.Path.{_≡_, refl, sym, ap, ap₂, _∙_}
 use lib.ListN.{length, getD, take, drop, set, length-append, length-drop, length-replicate, replicate}
 use lib.Seq.{drop-append-le, drop-at, drop-cons, getD-take, length-take-le, set-at, take-all, take-append-add, take-append-le, take-at, take-suc, take-take}
-use borrow.Rule.Slice.PartMut.{putMid}
+use borrow.Rule.Slice.PartMut.{midOf, putMid}
+use Rattle.rules.specs.Bytes.{wordsOfBytes}
 use Rattle.rules.specs.Lists.{every}
 use Rattle.words.proofs.Copies.{copy-next}
+use Rattle.words.proofs.Laws.{length-words, words-part, words-take}
 use Rattle.marks.specs.Marks.{pick}
 use Rattle.ring_rules.specs.Ring.{rotate, slotAfter}
 use Rattle.ring_rules.specs.laws.Rotations.{place-rotate, rotate-back, rotate-length, slot-get, slot-set}
@@ -54,6 +56,21 @@ module _ (s a : ℕ) (l : List ℕ) (long : length l ≡ 2 * s) (h : a < 2 * s) 
   read-next part i p below few is read =
       let word : getD l p 0 ≡ getD (rotate a l) i 0 = ap (λ (k : ℕ). getD l k 0) is ∙ sym (slot-get s a l long h i (omega arith)) in
       ap (λ (v : ℕ). take (i + 1) (set part i v)) word ∙ copy-next part (rotate a l) i below (omega (arith, rotate-length a l)) read
+
+-- ---- a test of n slots from slot a on, on the bytes of a list: of one part, or of the end and then the front
+module _ (f : ℕ → Bool) (s a n : ℕ) (bytes : List ℕ) (long : length bytes ≡ 2 * (2 * s)) (h : a < 2 * s) (few : n ≤ 2 * s) where
+  words-long : length (wordsOfBytes bytes) ≡ 2 * s
+  words-long = omega (arith, length-words bytes)
+
+  pub test-inside : a + n ≤ 2 * s → every f (take n (rotate a (wordsOfBytes bytes))) ≡ every f (wordsOfBytes (midOf (2 * a) (2 * (a + n) - 2 * a) bytes))
+  test-inside fits = ap (every f) (around-inside s a (wordsOfBytes bytes) words-long h n fits ∙ sym (words-part a (a + n) bytes))
+
+  pub test-past : 2 * s < a + n
+      → every f (take n (rotate a (wordsOfBytes bytes))) ≡ every f (wordsOfBytes (midOf (2 * a) (length bytes - 2 * a) bytes)) && every f (wordsOfBytes (take (2 * (a + n - 2 * s)) bytes))
+  test-past past =
+      let e : 2 * (2 * s) - 2 * a ≡ length bytes - 2 * a = omega arith in
+      ap (every f) (around-past s a (wordsOfBytes bytes) words-long h n few past) ∙ every-append f (take (2 * s - a) (drop a (wordsOfBytes bytes))) (take (a + n - 2 * s) (wordsOfBytes bytes))
+      ∙ ap₂ {C = Bool} (λ x y. every f x && every f y) (sym (words-part a (2 * s) bytes) ∙ ap (λ (k : ℕ). wordsOfBytes (midOf (2 * a) k bytes)) e) (sym (words-take (a + n - 2 * s) bytes))
 
 -- one word more is written
 pub write-next : (s a : ℕ) (l₀ l part : List ℕ) (i p : ℕ) → length l₀ ≡ 2 * s → length l ≡ 2 * s → a < 2 * s → i < length part → length part ≤ 2 * s → p ≡ slotAfter s a i

@@ -4,3 +4,5 @@ pub mod RingReads
 pub mod RingParts
 pub mod RingCollect
 pub mod RingSettle
+pub mod RingSound
+pub mod RingFound

@@ -5,9 +5,6 @@ use mathlib.Core.Bool.{Bool, cond}
 use mathlib.Core.Path.{sym, ap}
 use borrow.Author.Needs.{needs}
 use borrow.Author.Tests.{le-ltb, lt-ltb}
-use Rattle.ring_desk.proofs.RingParts as probe-RingParts
-use Rattle.ring_desk.proofs.RingCollect as probe-RingCollect
-use Rattle.ring_desk.proofs.RingSettle as probe-RingSettle
 use Rattle.ring_desk.proofs.slot_after.Statement.{statement}
 use Rattle.ring_desk.proofs.slot_after.Tie as tie
 
