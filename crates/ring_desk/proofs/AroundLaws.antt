@@ -6,13 +6,14 @@ use mathlib.Core.List.{List, [], _∷_, _++_, append-assoc}
 use mathlib.Core.Path.{_≡_, refl, sym, ap, ap₂, _∙_}
 use lib.ListN.{length, getD, take, drop, set, length-append, length-drop, length-replicate, replicate}
 use lib.Seq.{drop-append-le, drop-at, drop-cons, getD-take, length-take-le, set-at, take-all, take-append-add, take-append-le, take-at, take-suc, take-take}
-use borrow.Rule.Slice.PartMut.{midOf, putMid}
+use borrow.Rule.Slice.PartMut.{mid-len, midOf, putMid}
 use Rattle.rules.specs.Bytes.{wordsOfBytes}
 use Rattle.rules.specs.Lists.{every}
 use Rattle.words.proofs.Copies.{copy-next}
-use Rattle.words.proofs.Laws.{length-words, words-part, words-take}
+use Rattle.words.proofs.Laws.{length-words, words-part, words-put, words-take}
 use Rattle.marks.specs.Marks.{pick}
 use Rattle.ring_rules.specs.Ring.{rotate, slotAfter}
+use Rattle.ring_desk.specs.Around.{Parted}
 use Rattle.ring_rules.specs.laws.Rotations.{place-rotate, rotate-back, rotate-length, slot-get, slot-set}
 
 -- a test of all elements of a list in two parts
@@ -110,13 +111,26 @@ module _ (a n : ℕ) (l ys : List ℕ) (fits : a + n ≤ length l) where
       sym (rotate-back a m l' same (omega arith)) ∙ ap (rotate (m - a)) rotated
       ∙ ap₂ {C = List ℕ} (λ x y. x ++ y) (drop-at after (take a l) (m - a) long) (take-at after (take a l) (m - a) long)
 
--- ---- a partition by way of a copy: what was read, its partition, and what is left when it is written back
-pub parted-copy : (l l' marks : List ℕ) (a n : ℕ) (part part' : List ℕ) → part ≡ take n (rotate a l) → part' ≡ pick 0 marks part ++ pick 1 marks part → length part' ≡ n
-    → rotate a l' ≡ part' ++ drop (length part') (rotate a l)
-    → rotate a l' ≡ (pick 0 marks (take n (rotate a l)) ++ pick 1 marks (take n (rotate a l))) ++ drop n (rotate a l)
-parted-copy l l' marks a n part part' read parted wide written =
-    written ∙ (λ i. (parted ∙ ap (λ (x : List ℕ). pick 0 marks x ++ pick 1 marks x) read) i ++ drop (wide i) (rotate a l))
+-- ---- a partition of n slots from slot a on: in place, where they are one part of the list
+pub parted-inside : (s a n : ℕ) (bytes part marks : List ℕ) → length bytes ≡ 2 * (2 * s) → a < 2 * s → a + n ≤ 2 * s
+    → length part ≡ length (midOf (2 * a) (2 * (a + n) - 2 * a) bytes)
+    → wordsOfBytes part ≡ pick 0 marks (wordsOfBytes (midOf (2 * a) (2 * (a + n) - 2 * a) bytes)) ++ pick 1 marks (wordsOfBytes (midOf (2 * a) (2 * (a + n) - 2 * a) bytes))
+    → Parted (wordsOfBytes bytes) marks a n (wordsOfBytes (putMid (2 * a) (2 * (a + n) - 2 * a) bytes part))
+parted-inside s a n bytes part marks long h fits same parted =
+    let words = wordsOfBytes bytes in
+    let many : length words ≡ 2 * s = omega (arith, length-words bytes) in
+    let e : a + n - a ≡ n = omega arith in
+    let some : wordsOfBytes (midOf (2 * a) (2 * (a + n) - 2 * a) bytes) ≡ take n (rotate a words) = words-part a (a + n) bytes ∙ sym (around-inside s a words many h n fits) in
+    let picked = parted ∙ ap (λ (x : List ℕ). pick 0 marks x ++ pick 1 marks x) some in
+    ap (rotate a) (words-put a (a + n) bytes part (omega arith) (omega arith) (same ∙ mid-len (2 * a) (2 * (a + n)) bytes (omega arith)))
+    ∙ (λ i. rotate a (putMid a (e i) words (wordsOfBytes part))) ∙ rotate-put a n words (wordsOfBytes part) (omega (arith, many)) ∙ ap (λ (x : List ℕ). x ++ drop n (rotate a words)) picked
 
--- the room for it
-pub room-length : (n : ℕ) → n ≤ 256 → length (take n (replicate {A = ℕ} 256 0)) ≡ n
-room-length n few = length-take-le n (replicate 256 0) (omega (arith, length-replicate {A = ℕ} 256 0))
+-- by way of a copy: what was read, its partition, and what is left when it is written back
+pub parted-copy : (slots slots' marks : List ℕ) (a n : ℕ) (part part' : List ℕ) → part ≡ take n (rotate a slots) → part' ≡ pick 0 marks part ++ pick 1 marks part → length part' ≡ n
+    → rotate a slots' ≡ part' ++ drop (length part') (rotate a slots) → Parted slots marks a n slots'
+parted-copy slots slots' marks a n part part' read parted wide written =
+    written ∙ (λ i. (parted ∙ ap (λ (x : List ℕ). pick 0 marks x ++ pick 1 marks x) read) i ++ drop (wide i) (rotate a slots))
+
+-- the room for the copy
+pub room-length : (n : ℕ) → n ≤ 128 → length (take (2 * n) (replicate {A = ℕ} 256 0)) ≡ 2 * n
+room-length n few = length-take-le (2 * n) (replicate 256 0) (omega (arith, length-replicate {A = ℕ} 256 0))
