@@ -2,7 +2,7 @@
 use Prim.Native.Nat.{ℕ, _+_, _-_, _*_, _^_, _≤_, _<_}
 use native.Mathlib.Omega.{arith}
 use mathlib.Core.List.{List, [], _∷_, _++_, append-assoc}
-use mathlib.Core.Path.{_≡_, refl, sym, ap, ap₂, _∙_}
+use mathlib.Core.Path.{_≡_, sym, ap, ap₂, _∙_}
 use lib.ListN.{length, getD, take, drop, length-append, length-drop, take-append-drop}
 use lib.Seq.{drop-append-le, drop-at, drop-drop, length-take-le, take-add, take-append-le, take-take}
 use borrow.Rule.Slice.PartMut.{midOf, putMid}
@@ -14,8 +14,8 @@ use Rattle.rules.specs.laws.table.WordBounds.{below-append}
 use Rattle.words.proofs.Laws.{words-part}
 use Rattle.desk.proofs.WordDesk.{markWordsIn}
 use Rattle.desk.proofs.DeskLaws.{testedIn}
-use Rattle.ring_rules.specs.Ring.{beginningIn, linear, ringWidthFor, rotate, slotAfter}
-use Rattle.ring_rules.specs.laws.Rotations.{place-rotate, rotate-length}
+use Rattle.ring_rules.specs.Ring.{beginningIn, linear, rotate, slotAfter}
+use Rattle.ring_rules.specs.laws.Rotations.{place-rotate}
 use Rattle.ring_rules.specs.laws.Records.{slots-length}
 use Rattle.ring_desk.proofs.RingReads.{Reads, head-long, head-same, in-parts, reads-as, reads-in-parts, reads-parts, rotated-long, slots-long, slots-rotated, tail-long, tail-same}
 

@@ -6,16 +6,15 @@ use mathlib.Core.Bool.{Bool, true, false, cond}
 use mathlib.Core.List.{List, [], _∷_, _++_}
 use mathlib.Core.Path.{_≡_, refl, sym, ap, ap₂, _∙_}
 use lib.Dec.{ltb}
-use lib.ListN.{length, getD, take, drop, set, length-append, length-set, List·getD-append}
-use lib.Seq.{drop-at, drop-drop, getD-append-add, getD-drop, getD-set-other, getD-take, set-append-left, set-at, take-at}
+use lib.ListN.{length, getD, take, drop, set, length-append, length-set}
+use lib.Seq.{drop-at, drop-drop, getD-drop, getD-set-other, getD-take, set-at, take-at}
 use borrow.Author.Tests.{ltb-true, ltb-false, lt-ltb}
 use Rattle.rules.specs.Table.{listOffset, slotsIn, tailIn, tailWords, usedIn, widthFor}
-use Rattle.rules.specs.laws.lists.ListSlices.{get-mid, set-append-add, set-mid}
+use Rattle.rules.specs.laws.lists.ListSlices.{set-append-add, set-mid}
 use Rattle.ring_rules.specs.Ring.{beginningIn, circular, linear, ringWidthFor, rotate, slotAfter}
 use Rattle.ring_rules.specs.laws.Rotations.{rotate-length, slot-get, slot-next, slot-set}
 use Rattle.ring_rules.specs.laws.Records.{beginning-of, circular-beginning, circular-length, circular-linear, head-length, linear-circular, linear-of, linear-set, parts-of}
 use Rattle.ring_rules.specs.laws.Records.{slots-length, tail-length}
-use Rattle.ring_desk.specs.RingRecord.{RingEncoded}
 
 -- ---- the slot that comes i places after slot b is one of the 2s
 pub slot-below : (s b i : ℕ) → b < 2 * s → i ≤ 2 * s → slotAfter s b i < 2 * s
@@ -171,17 +170,17 @@ reads-next s b r w hb e =
     let slots = slotsIn s r in
     let tail = take tailWords (tailIn s r) in
     let next = slotAfter s b 1 in
-    let left = set slots b 0 in
+    let emptied = set slots b 0 in
     let head-is = head-long s b r w e in
     let tail-is = tail-long s b r w e in
     let slots-is = slots-long s b r w e in
-    let left-is : length left ≡ 2 * s = length-set slots b 0 ∙ slots-is in
-    let stored : set (set r (listOffset + b) 0) (widthFor s) next ≡ head ++ (left ++ (tail ++ (next ∷ [])))
+    let emptied-is : length emptied ≡ 2 * s = length-set slots b 0 ∙ slots-is in
+    let stored : set (set r (listOffset + b) 0) (widthFor s) next ≡ head ++ (emptied ++ (tail ++ (next ∷ [])))
     = ap (λ (x : List ℕ). set (set x (listOffset + b) 0) (widthFor s) next) (in-parts s b r w e)
     ∙ ap (λ (x : List ℕ). set x (widthFor s) next) (set-mid head slots (tail ++ (b ∷ [])) listOffset head-is b 0 (omega arith))
-    ∙ set-beginning s b head left tail head-is left-is tail-is next in
-    let read : head ++ (rotate next left ++ tail) ≡ take listOffset w ++ ((drop 1 (slotsIn s w) ++ (0 ∷ [])) ++ tailIn s w)
+    ∙ set-beginning s b head emptied tail head-is emptied-is tail-is next in
+    let read : head ++ (rotate next emptied ++ tail) ≡ take listOffset w ++ ((drop 1 (slotsIn s w) ++ (0 ∷ [])) ++ tailIn s w)
     = ap (λ (x : List ℕ). head ++ (x ++ tail)) (slot-next s b slots slots-is hb)
     ∙ (λ i. head-same s b r w e i ++ ((drop 1 (slots-rotated s b r w e i) ++ (0 ∷ [])) ++ tail-same s b r w e i)) in
-    reads-as s next (head ++ (left ++ (tail ++ (next ∷ [])))) (set (set r (listOffset + b) 0) (widthFor s) next) (head ++ (rotate next left ++ tail)) (take listOffset w ++ ((drop 1 (slotsIn s w) ++ (0 ∷ [])) ++ tailIn s w))
-    (reads-parts s next head left tail head-is left-is tail-is) stored read
+    reads-as s next (head ++ (emptied ++ (tail ++ (next ∷ [])))) (set (set r (listOffset + b) 0) (widthFor s) next) (head ++ (rotate next emptied ++ tail)) (take listOffset w ++ ((drop 1 (slotsIn s w) ++ (0 ∷ [])) ++ tailIn s w))
+    (reads-parts s next head emptied tail head-is emptied-is tail-is) stored read

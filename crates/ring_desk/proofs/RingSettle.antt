@@ -2,29 +2,29 @@
 use Prim.Native.Nat.{ℕ, suc, _+_, _-_, _*_, _^_, _≤_, _<_}
 use native.Mathlib.Omega.{arith}
 use mathlib.Core.Bool.{true}
-use mathlib.Core.List.{List, [], _∷_, _++_, append-assoc, map}
+use mathlib.Core.List.{List, [], _∷_, _++_, append-assoc}
 use mathlib.Core.Path.{_≡_, refl, sym, ap, ap₂, _∙_}
 use lib.ListN.{length, getD, take, drop, set, replicate, length-append, length-drop, length-map, length-replicate, replicate-append-replicate}
 use borrow.Rule.Slice.PartMut.{putMid}
 use Rattle.rules.specs.Hall.{Desk, unmarked, usedSlots}
 use Rattle.rules.specs.Steps.{handBack, markedOf, settleIf, unmarkedOf}
-use Rattle.rules.specs.Table.{allMarks, decodeDesk, encodeDesk, encodeTail, listOf, listOffset, markWords, marksOf, marksOffset, sessionsOf, slotsFor, slotsIn, tailIn, widthFor, wordsOfBits}
+use Rattle.rules.specs.Table.{allMarks, encodeDesk, encodeTail, listOf, listOffset, markWords, marksOffset, sessionsOf, slotsFor, slotsIn, tailIn, widthFor, wordsOfBits}
 use Rattle.rules.specs.laws.desk.Encoding.{length-sessions}
 use Rattle.rules.specs.laws.desk.Marks.{unmarked-and-marked}
 use Rattle.marks.specs.Marks.{marks, onesIn, pick}
-use Rattle.desk.specs.Record.{Encoded, parted}
+use Rattle.desk.specs.Record.{parted}
 use Rattle.desk.proofs.MarkTie.{markBits}
 use Rattle.desk.proofs.WordDesk.{markWordsIn, wordDesk}
 use Rattle.desk.proofs.DeskLaws.{Counted, counted, first-ready, hand-none, none-ready, part-stores, tested-part, testedIn}
-use Rattle.desk.proofs.DeskTie.{again, desk-counts, first-handed, formed-of, handed-encoded, marked-is, parted-encoded, parted-none, settled-counts, tested-most}
-use Rattle.ring_rules.specs.Ring.{beginningAfter, beginningIn, circular, decodeRing, encodeRing, linear, ringWidthFor, rotate, slotAfter}
+use Rattle.desk.proofs.DeskTie.{again, first-handed, formed-of, handed-encoded, marked-is, parted-encoded, parted-none, settled-counts}
+use Rattle.ring_rules.specs.Ring.{beginningAfter, beginningIn, circular, decodeRing, encodeRing, linear, rotate, slotAfter}
 use Rattle.ring_rules.specs.laws.Rotations.{place-rotate, rotate-length}
 use Rattle.ring_desk.specs.RingRecord.{RingEncoded, handBackRing, withDesk}
 use Rattle.ring_desk.specs.Around.{Parted}
 use Rattle.ring_desk.proofs.AroundLaws.{put-rotated}
-use Rattle.ring_desk.proofs.RingReads.{Reads, first-head, first-slots, first-tail, head-word, reads-circular, reads-end, reads-head, reads-next, reads-start, slot-below, slot-first, slot-word, slots-long, slots-rotated}
+use Rattle.ring_desk.proofs.RingReads.{Reads, first-head, first-slots, first-tail, reads-circular, reads-end, reads-head, reads-next, slot-below, slot-first, slot-word, slots-long, slots-rotated}
 use Rattle.ring_desk.proofs.RingParts.{linear-small, marks-same, put-slots, reads-list, reads-marks, tested-around, tested-length}
-use Rattle.ring_desk.proofs.RingCollect.{ready-count, ring-same, tested-count, tested-fits}
+use Rattle.ring_desk.proofs.RingCollect.{begins-within, ready-count, ring-reads, ring-same, same-word, tested-fits}
 
 -- ---- (c): four counts in the ring's record of a desk
 pub settled-stores : (s b : ℕ) (D : Desk) (a c : ℕ) → length (encodeDesk s (parted D)) ≡ widthFor s → b ≤ 2 * s → length (D .tested) ≤ allMarks
@@ -90,11 +90,8 @@ module _ (s : ℕ) (r : List ℕ) (e : RingEncoded s r) where
   abbrev D : Desk
   D = decodeRing s r
 
-  few : b ≤ 2 * s
-  few = omega (arith, e .begins)
-
   reads : Reads s b r w
-  reads = reads-start s r (e .long)
+  reads = ring-reads s r e
 
   pub parted-length : length (encodeDesk s (parted D)) ≡ widthFor s
   parted-length = again s (parted D) (encodeDesk s (parted D)) (e .reads .bounded) (omega (arith, parted-slots D, e .reads .room)) refl .encoded .long
@@ -121,25 +118,25 @@ module _ (s : ℕ) (r : List ℕ) (e : RingEncoded s r) where
       let tested = testedIn w before n in
       let ys : List ℕ = pick 0 (marks m) tested ++ pick 1 (marks m) tested in
       let formed = formed-of s w (e .reads) in
-      let ready-is = head-word s b r w reads 2 (omega arith) in
-      let tested-is = count ∙ head-word s b r w reads 3 (omega arith) in
-      let said = tested-part s w before n ready-is tested-is in
+      let ready-is = same-word s r e 2 (omega arith) in
+      let tested-is = count ∙ same-word s r e 3 (omega arith) in
+      let tested-words = tested-part s w before n ready-is tested-is in
       let wide : length ys ≡ n =
-      ap₂ {C = ℕ} (λ x l. length (pick 0 (marks x) l ++ pick 1 (marks x) l)) (known .marked) said
+      ap₂ {C = ℕ} (λ x l. length (pick 0 (marks x) l ++ pick 1 (marks x) l)) (known .marked) tested-words
       ∙ length-append (pick 0 (marks (wordDesk s w .words)) (wordDesk s w .tested)) (pick 1 (marks (wordDesk s w .words)) (wordDesk s w .tested))
-      ∙ known .all ∙ ap length (sym said) ∙ tested-length s w (e .reads .long) before n fits in
+      ∙ known .all ∙ ap length (sym tested-words) ∙ tested-length s w (e .reads .long) before n fits in
       let around = tested-around s b r w before n (e .begins) fits (e .reads .long) reads in
-      let twice : rotate before (rotate b slots') ≡ ys ++ drop n (rotate before rotated) =
+      let rotated-twice : rotate before (rotate b slots') ≡ ys ++ drop n (rotate before rotated) =
       place-rotate s b slots' long' (e .begins) before (omega arith) ∙ ap (λ (p : ℕ). rotate p slots') (sym starts) ∙ is
       ∙ (λ i. (pick 0 (marks m) (take n (rotate (starts i) slots)) ++ pick 1 (marks m) (take n (rotate (starts i) slots))) ++ drop n (rotate (starts i) slots))
       ∙ ap {B = List ℕ} (λ x. (pick 0 (marks m) x ++ pick 1 (marks m) x) ++ drop n (rotate (slotAfter s b before) slots)) around
       ∙ ap {B = List ℕ} (λ x. ys ++ drop n x) (sym (place-rotate s b slots long (e .begins) before (omega arith))) in
       let put : rotate b slots' ≡ take before rotated ++ (ys ++ drop n (drop before rotated)) =
-      put-rotated before n rotated ys (omega (arith, rotate-length b slots, long)) (rotate b slots') (rotate-length b slots' ∙ long' ∙ sym (rotate-length b slots ∙ long)) wide twice in
+      put-rotated before n rotated ys (omega (arith, rotate-length b slots, long)) (rotate b slots') (rotate-length b slots' ∙ long' ∙ sym (rotate-length b slots ∙ long)) wide rotated-twice in
       let read : take listOffset w ++ (rotate b slots' ++ tailIn s w) ≡ putMid (listOffset + before) (listOffset + before + n - (listOffset + before)) w ys =
       ap {B = List ℕ} (λ x. take listOffset w ++ (x ++ tailIn s w)) (put ∙ ap {B = List ℕ} (λ x. take before x ++ (ys ++ drop n (drop before x))) (slots-rotated s b r w reads))
       ∙ put-slots s w (e .reads .long) before n fits ys in
-      reads-end s b _ _ few (reads-marks s b _ _ zeros (ap length cleared ∙ length-replicate {A = ℕ} markWords 0) (reads-list s b r w slots' long' reads))
+      reads-end s b _ _ (begins-within s r e) (reads-marks s b _ _ zeros (ap length cleared ∙ length-replicate {A = ℕ} markWords 0) (reads-list s b r w slots' long' reads))
       ∙ ap (circular s b)
       (ap (λ (x : List ℕ). putMid marksOffset markWords x zeros) read
       ∙ part-stores s w formed before n k m ready-is tested-is known ys zeros refl cleared ∙ parted-encoded s w (e .reads))
@@ -147,12 +144,12 @@ module _ (s : ℕ) (r : List ℕ) (e : RingEncoded s r) where
   -- ---- (d)
   pub first-session : 0 < getD r 2 0 → getD r (listOffset + b) 0 ≡ handBack D .session
   first-session some =
-      let ready = head-word s b r w reads 2 (omega arith) in
+      let ready = same-word s r e 2 (omega arith) in
       ap (λ (k : ℕ). getD r (listOffset + k) 0) (sym (slot-first s b (e .begins)))
       ∙ slot-word s b r w reads 0 (e .begins) (omega (arith, e .begins)) ∙ first-ready s w (omega (arith, ready)) ∙ first-handed s w (e .reads)
 
   pub no-session : getD r 2 0 ≡ 0 → 0 ≡ handBack D .session
-  no-session none = none-ready s w (sym (head-word s b r w reads 2 (omega arith)) ∙ none) ∙ first-handed s w (e .reads)
+  no-session none = none-ready s w (sym (same-word s r e 2 (omega arith)) ∙ none) ∙ first-handed s w (e .reads)
 
   pub hand-stores : 0 < getD r 2 0 → (p : ℕ) → p ≡ slotAfter s b 1 → set (set (set r (listOffset + b) 0) (widthFor s) p) 2 (getD r 2 0 - 1) ≡ handBackRing s b D
   hand-stores some p is =
@@ -168,6 +165,6 @@ module _ (s : ℕ) (r : List ℕ) (e : RingEncoded s r) where
   pub hand-nothing : getD r 2 0 ≡ 0 → r ≡ handBackRing s b D
   hand-nothing none =
       let count = ready-count s r e in
-      reads-end s b r w few reads
-      ∙ ap (circular s b) (hand-none s w (formed-of s w (e .reads)) (sym (head-word s b r w reads 2 (omega arith)) ∙ none) ∙ handed-encoded s w (e .reads))
+      reads-end s b r w (begins-within s r e) reads
+      ∙ ap (circular s b) (hand-none s w (formed-of s w (e .reads)) (sym (same-word s r e 2 (omega arith)) ∙ none) ∙ handed-encoded s w (e .reads))
       ∙ ap (λ (k : ℕ). encodeRing s k (handBack D .after)) (beginning-stays s b (D .ready) (sym count ∙ none))

@@ -24,11 +24,12 @@ use words::word;
 ghost use mathlib.Core.Path.{_≡_};
 ghost use mathlib.Core.Bool.{true, _&&_};
 ghost use Prim.Native.Nat.{_+_, _*_, _%_, _≤_, _<_};
-ghost use lib.ListN.{length, take, drop};
+ghost use lib.ListN.{length, getD, take, drop};
 ghost use mathlib.Core.List.{[], _∷_, _++_};
 ghost use Rattle.rules.specs.Bytes.{wordsOfBytes};
 ghost use Rattle.rules.specs.Hall.{maxAllScreens};
 ghost use Rattle.rules.specs.Steps.{begin, collectSeeing, handBack, markedOf, readScreens, scanAt, settle as settleDesk, settleIf};
+ghost use Rattle.rules.specs.Table.{readyOffset};
 ghost use Rattle.words.specs.Words.{allZero, lacks as lacksWord};
 ghost use Rattle.marks.specs.Marks.{findSlot, marks};
 ghost use Rattle.reply.specs.Answer.{answerOf};
@@ -193,6 +194,14 @@ fn find_around(l: &[u8], s: usize, a: usize, n: usize, m: &[u8], x: u16) -> usiz
     j
 }
 
+// The first tested slot: it comes as many places after the beginning as there are ready sessions.
+fn first_tested(r: &[u8], s: usize) -> usize
+    requires { ⌜ (RingEncoded s (wordsOfBytes (now r))) × (length (now r) ≡ 2 * ringWidthFor s) ⌝ }
+    ensures { λ a. ⌜ (a ≡ slotAfter s (beginningIn s (wordsOfBytes (now (r .entry)))) (getD (wordsOfBytes (now (r .entry))) readyOffset 0)) × (a < 2 * s) ⌝ }
+{
+    slot_after(s, beginning(r, s), count(r, READY))
+}
+
 // Collect (b), for one screen: the session x that it shows marks the first unmarked tested slot with it, and k grows by one.
 fn read_screen_ring(r: &mut [u8], s: usize, x: u16)
     requires { ⌜ (RingEncoded s (wordsOfBytes (now r))) × (length (now r) ≡ 2 * ringWidthFor s) × (decodeRing s (wordsOfBytes (now r)) .scanned < 65535) ⌝ }
@@ -200,11 +209,16 @@ fn read_screen_ring(r: &mut [u8], s: usize, x: u16)
 {
     let k = word(r, SCANNED);
     let n = count(r, TESTED);
-    let ready = count(r, READY);
-    let b = beginning(r, s);
-    let a = slot_after(s, b, ready);
+    let a = first_tested(r, s);
     let v = &r[..];
-    let j = find_around(&v[2 * LIST..2 * (LIST + 2 * s)], s, a, n, &v[2 * MARKS..2 * LIST], x);
+    let j = find_around(
+        &v[2 * LIST..2 * (LIST + 2 * s)],
+        s,
+        a,
+        n,
+        &v[2 * MARKS..2 * LIST],
+        x,
+    );
     if j < n {
         mark_slot(&mut r[2 * MARKS..2 * LIST], j);
     }
@@ -298,11 +312,9 @@ fn part_tested_ring(r: &mut [u8], s: usize) -> usize
     if kept == 0 {
         return 0;
     }
-    let n = count(r, TESTED);
-    let ready = count(r, READY);
-    let b = beginning(r, s);
-    let a = slot_after(s, b, ready);
-    partition_around(&mut r[2 * LIST..2 * (LIST + 2 * s)], s, a, n, &m);
+    let tested = count(r, TESTED);
+    let first = first_tested(r, s);
+    partition_around(&mut r[2 * LIST..2 * (LIST + 2 * s)], s, first, tested, &m);
     clear(&mut r[2 * MARKS..2 * LIST]);
     kept
 }

@@ -13,7 +13,7 @@ use Rattle.marks.specs.Marks.{findSlot, marks}
 use Rattle.marks.proofs.BoolLaws.{not-false, not-true}
 use Rattle.marks.proofs.MarkLaws.{is-unmarked, marks-length}
 use Rattle.marks.proofs.SlotLaws.{find-end, find-found, find-lacking, find-marked, find-other}
-use Rattle.ring_rules.specs.Ring.{rotate, slotAfter}
+use Rattle.ring_rules.specs.Ring.{rotate}
 use Rattle.ring_desk.proofs.AroundLaws.{around-length, around-word}
 use Rattle.ring_desk.proofs.find_around.Statement.{statement}
 use Rattle.ring_desk.proofs.find_around.Tie as tie
@@ -80,9 +80,9 @@ returns-2 c =
     let at-loop = in-loop .before in let after-shared-slice-known2 = at-loop .before .before .before in
     let start = after-shared-slice-known2 .before .before in
     let j = at-loop .loop .j in
-    let here = around-word (start .args .s) (start .args .a) (wordsOfBytes (start .args .l .now)) (list-long start) (start .pre .2) (start .args .n) j (after-slot-after .slot-after .result) (start .pre .3) (in-loop .loop-test .taken) (after-slot-after .slot-after .ensures .0) in
+    let session = around-word (start .args .s) (start .args .a) (wordsOfBytes (start .args .l .now)) (list-long start) (start .pre .2) (start .args .n) j (after-slot-after .slot-after .result) (start .pre .3) (in-loop .loop-test .taken) (after-slot-after .slot-after .ensures .0) in
     find-found (start .args .x) (findSlot (start .args .x) (slots start) (marks-of start)) (slots start) (marks-of start) j (omega (arith, slots-long start, in-loop .loop-test .taken)) (omega (arith, marks-many start, in-loop .loop-test .taken)) (at-loop .loop .inv .1)
-    (sym here ∙ sym (c .before .before .before .word .ensures) ∙ c .before .before .if2 .taken)
+    (sym session ∙ sym (c .before .before .before .word .ensures) ∙ c .before .before .if2 .taken)
     (is-unmarked (wordsOfBytes (start .args .m .now)) j (sym (c .before .marked .ensures) ∙ not-true (c .if3 .taken)))
 
 add-j : tie.Need-add-j Inv-loop μ-loop
@@ -101,12 +101,12 @@ loop-again c =
     let below = c .before .before .before .loop-test .taken in
     let in-slots : j < length (slots start) = omega (arith, slots-long start, below) in
     let in-marks : j < length (marks-of start) = omega (arith, marks-many start, below) in
-    let here = around-word (start .args .s) (start .args .a) (wordsOfBytes (start .args .l .now)) (list-long start) (start .pre .2) (start .args .n) j (c .before .before .slot-after .result) (start .pre .3) below (c .before .before .slot-after .ensures .0) in (
+    let session = around-word (start .args .s) (start .args .a) (wordsOfBytes (start .args .l .now)) (list-long start) (start .pre .2) (start .args .n) j (c .before .before .slot-after .result) (start .pre .3) below (c .before .before .slot-after .ensures .0) in (
       omega arith,
       ⊎-elim (λ w.
           let is-marked = eqb-true (getD (marks-of start) j 0) 1 (sym (w .1 .ensures) ∙ not-false (w .2 .left)) in
           find-marked x n (slots start) (marks-of start) j in-slots in-marks (at-loop .loop .inv .1) (λ z. omega arith))
-          (λ w. find-other x n (slots start) (marks-of start) j in-slots in-marks (at-loop .loop .inv .1) (λ z. w .left (c .before .word .ensures ∙ here ∙ z)))
+          (λ w. find-other x n (slots start) (marks-of start) j in-slots in-marks (at-loop .loop .inv .1) (λ z. w .left (c .before .word .ensures ∙ session ∙ z)))
           (c .if2 .came),
     )
 

@@ -1,5 +1,5 @@
 -- `ring_desk::hand_back_ring` meets its contract.
-use Prim.Native.Nat.{ℕ, _+_, _-_, _*_, _<_}
+use Prim.Native.Nat.{ℕ, _+_, _-_, _<_}
 use native.Mathlib.Omega.{arith}
 use mathlib.Core.List.{List}
 use mathlib.Core.Path.{sym, ap, ap₂, _∙_}
@@ -99,8 +99,8 @@ returns-2 c =
     let begins = after-beginning .beginning .ensures .0 in
     let some : 0 < getD words 2 0 = omega (arith, after-word .word .ensures, else1 .if1 .left) in
     let next = after-slot-after .slot-after .ensures .0 ∙ ap (λ (k : ℕ). slotAfter s k 1) begins in
-    let left = after-put-word .put-word .ensures .holds in
-    let moved = after-put-word2 .put-word2 .ensures .holds ∙ ap₂ (λ (x : List ℕ) (k : ℕ). set x k p) left (after-record-words .record-words .ensures) in
+    let emptied = after-put-word .put-word .ensures .holds in
+    let moved = after-put-word2 .put-word2 .ensures .holds ∙ ap₂ (λ (x : List ℕ) (k : ℕ). set x k p) emptied (after-record-words .record-words .ensures) in
     let stored = c .before .before .put-word3 .ensures .holds ∙ ap₂ (λ (x : List ℕ) (k : ℕ). set x 2 (k - 1)) moved (after-word .word .ensures) in (
       after-word2 .word2 .ensures ∙ ap (λ (k : ℕ). getD words (listOffset + k) 0) begins ∙ first-session s words (start .pre .0) some,
       stored ∙ ap (λ (k : ℕ). set (set (set words (listOffset + k) 0) (widthFor s) p) 2 (getD words 2 0 - 1)) begins ∙ hand-stores s words (start .pre .0) some p next,

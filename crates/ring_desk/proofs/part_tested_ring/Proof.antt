@@ -2,17 +2,17 @@
 use Prim.Native.Nat.{ℕ, _+_, _-_, _*_, _≤_}
 use native.Mathlib.Omega.{arith}
 use mathlib.Core.List.{List}
-use mathlib.Core.Path.{_≡_, ap, ap₂, sym, subst, _∙_}
-use lib.ListN.{getD, length, replicate}
+use mathlib.Core.Path.{_≡_, ap, sym, subst, _∙_}
+use lib.ListN.{length, replicate}
 use borrow.Author.Needs.{needs}
 use borrow.Rule.Slice.PartMut.{mid-len, putMid, same-len-mid}
 use Rattle.rules.specs.Bytes.{wordsOfBytes}
-use Rattle.rules.specs.Table.{listOffset, markWords, marksOffset, slotsIn}
+use Rattle.rules.specs.Table.{listOffset, markWords, marksOffset}
 use Rattle.rules.specs.laws.bytes.Bytes.{words-are-16, zero-words}
 use Rattle.marks.specs.Marks.{marks}
 use Rattle.words.proofs.Laws.{length-words, words-part, words-put}
 use Rattle.desk.proofs.DeskLaws.{Counted}
-use Rattle.ring_rules.specs.Ring.{beginningIn, linear, slotAfter}
+use Rattle.ring_rules.specs.Ring.{linear}
 use Rattle.ring_desk.specs.Around.{Parted}
 use Rattle.ring_desk.proofs.RingParts.{lent-words}
 use Rattle.ring_desk.proofs.RingCollect.{tested-fits}
@@ -73,48 +73,34 @@ returns c =
 count-requires : tie.Need-count-requires
 count-requires c κs = search needs
 
-count-requires-2 : tie.Need-count-requires-2
-count-requires-2 c κs = search needs
-
-beginning-requires : tie.Need-beginning-requires
-beginning-requires c κs =
-    let after-count = c .before .before .before in let after-ones = after-count .before .before .before in
-    let after-mark-bytes-arg = after-ones .before .before .before in let start = after-mark-bytes-arg .before .before .before in
-    (start .pre .0 .reads .bounded, start .pre .1)
-
-slot-after-requires : tie.Need-slot-after-requires
-slot-after-requires c κs =
-    let after-count-arg2 = c .before .before .before in let else1 = after-count-arg2 .before .before .before in
-    let after-mark-bytes = else1 .before .before .before in let after-slice-known = after-mark-bytes .before .before .before in
-    let start = after-slice-known .before in
-    (start .pre .0 .reads .bounded, omega (arith, c .beginning .ensures, start .pre .0 .begins), omega (arith, c .before .before .count2 .ensures, tested-fits (start .args .s) (words start) (start .pre .0)))
+first-tested-requires : tie.Need-first-tested-requires
+first-tested-requires c κs =
+    let else1 = c .before .before .before in let after-mark-bytes = else1 .before .before .before in
+    let after-slice-known = after-mark-bytes .before .before .before in let start = after-slice-known .before in
+    (start .pre .0, start .pre .1)
 
 mul-partition-around : tie.Need-mul-partition-around
 mul-partition-around c =
-    let after-count2 = c .before .before .before in let after-count-arg = after-count2 .before .before .before in
-    let after-m = after-count-arg .before .before .before in let after-r = after-m .before .before .before in
-    let start = after-r .before .before in
+    let after-count-arg = c .before .before .before in let after-m = after-count-arg .before .before .before in
+    let after-r = after-m .before .before .before in let start = after-r .before .before in
     omega (arith, start .pre .0 .reads .bounded)
 
 mul-partition-around-2 : tie.Need-mul-partition-around-2
 mul-partition-around-2 c =
-    let after-count2 = c .before .before .before in let after-count-arg = after-count2 .before .before .before in
-    let after-m = after-count-arg .before .before .before in let after-r = after-m .before .before .before in
-    let start = after-r .before .before in
+    let after-count-arg = c .before .before .before in let after-m = after-count-arg .before .before .before in
+    let after-r = after-m .before .before .before in let start = after-r .before .before in
     omega (arith, start .pre .0 .reads .bounded)
 
 add-partition-around : tie.Need-add-partition-around
 add-partition-around c =
-    let after-count2 = c .before .before .before in let after-count-arg = after-count2 .before .before .before in
-    let after-m = after-count-arg .before .before .before in let after-r = after-m .before .before .before in
-    let start = after-r .before .before in
+    let after-count-arg = c .before .before .before in let after-m = after-count-arg .before .before .before in
+    let after-r = after-m .before .before .before in let start = after-r .before .before in
     omega (arith, start .pre .0 .reads .bounded)
 
 mul-partition-around-3 : tie.Need-mul-partition-around-3
 mul-partition-around-3 c =
-    let after-count2 = c .before .before .before in let after-count-arg = after-count2 .before .before .before in
-    let after-m = after-count-arg .before .before .before in let after-r = after-m .before .before .before in
-    let start = after-r .before .before in
+    let after-count-arg = c .before .before .before in let after-m = after-count-arg .before .before .before in
+    let after-r = after-m .before .before .before in let start = after-r .before .before in
     omega (arith, start .pre .0 .reads .bounded)
 
 sub-partition-around : tie.Need-sub-partition-around
@@ -125,9 +111,8 @@ part-partition-around-start c = search needs
 
 part-partition-around-end : tie.Need-part-partition-around-end
 part-partition-around-end c =
-    let after-count2 = c .before .before .before in let after-count-arg = after-count2 .before .before .before in
-    let after-m = after-count-arg .before .before .before in let after-r = after-m .before .before .before in
-    let start = after-r .before .before in
+    let after-count-arg = c .before .before .before in let after-m = after-count-arg .before .before .before in
+    let after-r = after-m .before .before .before in let start = after-r .before .before in
     omega (arith, start .pre .1)
 
 slice-aggregate-partition-around : tie.Need-slice-aggregate-partition-around
@@ -135,14 +120,12 @@ slice-aggregate-partition-around c = search needs
 
 partition-around-requires : tie.Need-partition-around-requires
 partition-around-requires c κs =
-    let after-beginning = c .before .before .before in let after-count-arg2 = after-beginning .before .before .before in
-    let after-count = after-count-arg2 .before in let after-ones = after-count .before .before .before in
-    let after-mark-bytes = after-ones .before .before in let after-slice-known = after-mark-bytes .before .before .before in
-    let start = after-slice-known .before in
-    (
+    let after-first-tested-arg = c .before .before .before in let after-count = after-first-tested-arg .before in
+    let after-ones = after-count .before .before .before in let after-mark-bytes = after-ones .before .before in
+    let after-slice-known = after-mark-bytes .before .before .before in let start = after-slice-known .before in (
       start .pre .0 .reads .bounded,
       mid-len (2 * listOffset) (2 * (listOffset + 2 * start .args .s)) (start .args .r .now) (whole start) ∙ omega arith,
-      c .before .before .slot-after .ensures .1,
+      c .before .before .first-tested .ensures .1,
       omega (arith, after-count .count .ensures, tested-fits (start .args .s) (words start) (start .pre .0)),
       omega (arith, ap length (after-mark-bytes .mark-bytes .ensures), mid-len (2 * marksOffset) (2 * listOffset) (start .args .r .now) (omega (arith, start .pre .1))),
     )
@@ -171,13 +154,12 @@ same-length-2 c = search needs
 returns-2 : tie.Need-returns-2
 returns-2 c =
     let after-clear-arg = c .before .before .before in let after-partition-around = after-clear-arg .before .before .before in
-    let after-slot-after = after-partition-around .before .before .before in let after-beginning = after-slot-after .before in
-    let after-count2 = after-beginning .before .before in let after-count = after-count2 .before .before in
+    let after-first-tested = after-partition-around .before .before .before in let after-count = after-first-tested .before .before in
     let after-ones = after-count .before .before .before in let after-mark-bytes = after-ones .before .before in
     let after-slice-known = after-mark-bytes .before .before .before in let start = after-slice-known .before in
     let s = start .args .s in
     let bytes = start .args .r .now in
-    let a = after-slot-after .slot-after .result in
+    let a = after-first-tested .first-tested .result in
     let n = after-count .count .result in
     let m = wordsOfBytes (after-mark-bytes .mark-bytes .result) in
     let part = after-partition-around .partition-around .last .0 in
@@ -187,16 +169,15 @@ returns-2 c =
     let many : length (wordsOfBytes part) ≡ 2 * s = omega (arith, length-words part, wide) in
     let list = words-put listOffset (listOffset + 2 * s) bytes part (omega arith) (whole start) wide in
     let parted = subst (λ (slots : List ℕ). Parted slots (marks m) a n (wordsOfBytes part)) (lent-words s bytes) (after-partition-around .partition-around .ensures) in
-    let starts = after-slot-after .slot-after .ensures .0 ∙ ap₂ (slotAfter s) (after-beginning .beginning .ensures .0) (after-count2 .count2 .ensures .0) in
-    let there : 2 * listOffset ≤ length after = omega (arith, same, start .pre .1) in
-    let sixteen = mid-len (2 * marksOffset) (2 * listOffset) after there in
+    let fits : 2 * listOffset ≤ length after = omega (arith, same, start .pre .1) in
+    let sixteen = mid-len (2 * marksOffset) (2 * listOffset) after fits in
     let all-marks : 2 * listOffset - 2 * marksOffset ≡ 2 * markWords = omega arith in
     let cleared = ap wordsOfBytes (c .before .before .clear .ensures ∙ ap (λ (k : ℕ). replicate k 0) (sixteen ∙ all-marks)) ∙ zero-words markWords in
-    let zeros = words-put marksOffset listOffset after (c .before .before .clear .last .0) (omega arith) there (c .before .before .clear .kept .0 ∙ sixteen) in (
+    let zeros = words-put marksOffset listOffset after (c .before .before .clear .last .0) (omega arith) fits (c .before .before .clear .kept .0 ∙ sixteen) in (
       marked-count s (words start) (start .pre .0) (after-ones .ones .result) m (known after-ones),
       zeros ∙ ap (λ (l : List ℕ). putMid marksOffset markWords l (wordsOfBytes (c .before .before .clear .last .0))) list
-          ∙ parted-stores s (words start) (start .pre .0) a n (after-ones .ones .result) m (after-count .count .ensures .0) starts (known after-ones) (wordsOfBytes part) (wordsOfBytes (c .before .before .clear .last .0)) many parted cleared,
+          ∙ parted-stores s (words start) (start .pre .0) a n (after-ones .ones .result) m (after-count .count .ensures .0) (after-first-tested .first-tested .ensures .0) (known after-ones) (wordsOfBytes part) (wordsOfBytes (c .before .before .clear .last .0)) many parted cleared,
     )
 
 pub part-tested-ring-spec : {M : Type 1} → statement M
-part-tested-ring-spec = tie.close (tie.spec mul-mark-bytes mul-mark-bytes-2 sub-mark-bytes part-mark-bytes-start part-mark-bytes-end mark-bytes-requires slice-aggregate-ones ones-requires same-length returns count-requires count-requires-2 beginning-requires slot-after-requires mul-partition-around mul-partition-around-2 add-partition-around mul-partition-around-3 sub-partition-around part-partition-around-start part-partition-around-end slice-aggregate-partition-around partition-around-requires mul-clear mul-clear-2 sub-clear part-clear-start part-clear-end clear-requires same-length-2 returns-2)
+part-tested-ring-spec = tie.close (tie.spec mul-mark-bytes mul-mark-bytes-2 sub-mark-bytes part-mark-bytes-start part-mark-bytes-end mark-bytes-requires slice-aggregate-ones ones-requires same-length returns count-requires first-tested-requires mul-partition-around mul-partition-around-2 add-partition-around mul-partition-around-3 sub-partition-around part-partition-around-start part-partition-around-end slice-aggregate-partition-around partition-around-requires mul-clear mul-clear-2 sub-clear part-clear-start part-clear-end clear-requires same-length-2 returns-2)

@@ -1,9 +1,9 @@
 -- `ring_desk::settle_tested_ring` meets its contract.
-use Prim.Native.Nat.{ℕ, _+_, _-_, _*_, _≤_}
+use Prim.Native.Nat.{ℕ, _+_, _-_, _≤_}
 use native.Mathlib.Omega.{arith}
 use mathlib.Core.List.{List, _++_}
 use mathlib.Core.Path.{_≡_, ap, _∙_}
-use lib.ListN.{getD, length, length-append, set}
+use lib.ListN.{length, length-append, set}
 use borrow.Author.Needs.{needs}
 use Rattle.rules.specs.Bytes.{wordsOfBytes}
 use Rattle.rules.specs.Hall.{Desk}
@@ -23,11 +23,11 @@ found o = decodeRing (o .args .s) (wordsOfBytes (o .args .r .now))
 -- its counts, as the code has them
 record Counts (c : tie.After-count3) : Type 0 where
   pub ready : let after-count-arg2 = c .before .before .before in let after-count = after-count-arg2 .before in let start = after-count .before .before .before in
-    after-count .count .result ≡ length (found start .ready)
+      after-count .count .result ≡ length (found start .ready)
   pub tested : let after-count-arg2 = c .before .before .before in let after-slice-known = after-count-arg2 .before .before .before in let start = after-slice-known .before in
-    c .before .before .count2 .result ≡ length (found start .tested)
+      c .before .before .count2 .result ≡ length (found start .tested)
   pub waiting : let after-count-arg2 = c .before .before .before in let after-slice-known = after-count-arg2 .before .before .before in let start = after-slice-known .before in
-    c .count3 .result ≡ length (found start .waiting)
+      c .count3 .result ≡ length (found start .waiting)
 
 counts : (c : tie.After-count3) → Counts c
 counts c =

@@ -2,13 +2,12 @@
 use Prim.Native.Nat.{ℕ, _*_, _-_}
 use native.Mathlib.Omega.{arith}
 use mathlib.Core.Bool.{Bool, _&&_}
-use mathlib.Core.List.{List}
 use mathlib.Core.Path.{sym, ap, _∙_}
-use lib.ListN.{drop, length, take}
+use lib.ListN.{drop, take}
 use borrow.Author.Needs.{needs}
 use Rattle.rules.specs.Bytes.{wordsOfBytes}
 use Rattle.words.proofs.Laws.{length-words}
-use Rattle.words.specs.Words.{allZero, lacks}
+use Rattle.words.specs.Words.{allZero}
 use Rattle.marks.proofs.BoolLaws.{not-false, not-true}
 use Rattle.ring_rules.specs.Ring.{rotate}
 use Rattle.ring_desk.proofs.AroundLaws.{around-rest}

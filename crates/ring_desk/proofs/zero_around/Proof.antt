@@ -1,7 +1,6 @@
 -- `ring_desk::zero_around` meets its contract.
 use Prim.Native.Nat.{ℕ, _+_, _*_, _-_}
 use native.Mathlib.Omega.{arith}
-
 use mathlib.Core.Path.{sym, _∙_}
 use lib.Dec.{eqb}
 use lib.Seq.{length-take-le}
