@@ -31,16 +31,16 @@ ghost use Rattle.board.specs.Opening.{OpeningAnswer};
 ghost use Rattle.board.specs.Results.{Matches, Opened, Performed, Requested, Stepped, movedOn};
 
 // Offsets in a table: P, the desks.
-const DESKS: usize = 0;
+pub const DESKS: usize = 0;
 
 // c, the screens per desk.
-const SCREENS: usize = 1;
+pub const SCREENS: usize = 1;
 
 // L, the positions.
-const POSITIONS: usize = 2;
+pub const POSITIONS: usize = 2;
 
 // The words before the session at each position.
-const HEADER: usize = 3;
+pub const HEADER: usize = 3;
 
 // The board: the limits of its rooms, and the words that a table needs.
 pub struct Board;
@@ -107,7 +107,7 @@ pub fn training_limits() -> Limits
 }
 
 // Whether a number is 1 to `most`.
-fn in_range(n: u16, most: usize) -> bool
+pub fn in_range(n: u16, most: usize) -> bool
     ensures { λ r. ⌜ r ≡ inRange n most ⌝ }
 {
     let x = n as usize;
@@ -128,7 +128,7 @@ fn in_hall(desks: u16, screens: u16, positions: u16) -> bool
 }
 
 // Whether P, c and L are in range, in a room with these limits.
-fn in_limits(limits: Limits, desks: u16, screens: u16, positions: u16) -> bool
+pub fn in_limits(limits: Limits, desks: u16, screens: u16, positions: u16) -> bool
     ensures { λ r. ⌜ r ≡ inLimits (limitsOf limits) (hallOf desks screens positions) ⌝ }
 {
     in_hall(desks, screens, positions) && within(limits, desks, screens, positions)
@@ -145,7 +145,7 @@ fn record_start(l: usize, s: usize, d: usize) -> usize
 
 // The offset of screen i of desk d, both counted from 1, in a hall of l positions and c screens per desk.
 // Precondition: the hall has that screen.
-fn screen_at(l: usize, c: usize, d: u16, i: u16) -> usize
+pub fn screen_at(l: usize, c: usize, d: u16, i: u16) -> usize
     requires { ⌜ (1 ≤ d) × (1 ≤ i) × (screenFor l c d i ≤ maxWords) ⌝ }
     ensures { λ r. ⌜ r ≡ screenFor l c d i ⌝ }
 {
@@ -338,7 +338,7 @@ pub fn open(t: &mut [u8], limits: Limits, desks: u16, screens: u16, positions: u
 
 // Ends an admitted step, given its reply: after an acceptance the desk's next message number, word `next`, is the one after the call's; 0
 // comes after 65,535. Precondition: the table has that word.
-fn move_on(t: &mut [u8], next: usize, message: u16, r: Reply) -> Reply
+pub fn move_on(t: &mut [u8], next: usize, message: u16, r: Reply) -> Reply
     requires { ⌜ 2 * next + 1 < length (now t) ⌝ }
     ensures { λ x. ⌜ Matches (movedOn next message (tableResult r (wordsOfBytes (now (t .entry))))) (now (t .entry)) x (now (t .exit)) ⌝ }
 {
