@@ -13,6 +13,7 @@ ghost use Rattle.rules.specs.Bytes.{openBytes, stepBytes};
 ghost use Rattle.rules.specs.Hall.{hallLimits, hallOf, trainingLimits};
 ghost use Rattle.rules.specs.Runs.{lentOf, runBytes};
 ghost use Rattle.rules.specs.Steps.{Collect, Drop, Retire, Swap, Take, _numbered_, _sends_};
+ghost use Rattle.ring_rules.specs.Ring.{openRingBytes, stepRingBytes};
 ghost use Rattle.limits.specs.Room.{limitsOf};
 ghost use Rattle.host.specs.Results.{bytesResult, runResult};
 
@@ -195,4 +196,60 @@ pub extern "C" fn training_collect(message: u16, desk: u16, table: &mut [u8]) ->
     ensures { λ r. ⌜ bytesResult r (now (table .exit)) ≡ stepBytes trainingLimits (now (table .entry)) (desk sends Collect numbered message) ⌝ }
 {
     call_collect(message, desk, table, Board::TRAINING)
+}
+
+// ---- The calls on a board of the hall whose lists are rings. Document 02, "A list that turns".
+
+#[no_mangle]
+pub extern "C" fn ring_open(desks: u16, screens: u16, positions: u16, table: &mut [u8]) -> u32
+    ensures { λ r. ⌜ bytesResult r (now (table .exit)) ≡ openRingBytes hallLimits (hallOf desks screens positions) (now (table .entry)) ⌝ }
+{
+    answer(ring::open(table, Board::HALL, desks, screens, positions))
+}
+
+#[no_mangle]
+pub extern "C" fn ring_take(
+    message: u16,
+    desk: u16,
+    screen: u16,
+    position: u16,
+    table: &mut [u8],
+) -> u32
+    ensures { λ r. ⌜ bytesResult r (now (table .exit)) ≡ stepRingBytes hallLimits (now (table .entry)) (desk sends Take screen position numbered message) ⌝ }
+{
+    answer(ring::take(table, Board::HALL, message, desk, screen, position))
+}
+
+#[no_mangle]
+pub extern "C" fn ring_drop(message: u16, desk: u16, screen: u16, table: &mut [u8]) -> u32
+    ensures { λ r. ⌜ bytesResult r (now (table .exit)) ≡ stepRingBytes hallLimits (now (table .entry)) (desk sends Drop screen numbered message) ⌝ }
+{
+    answer(ring::drop(table, Board::HALL, message, desk, screen))
+}
+
+#[no_mangle]
+pub extern "C" fn ring_swap(
+    message: u16,
+    desk: u16,
+    position: u16,
+    session: u16,
+    table: &mut [u8],
+) -> u32
+    ensures { λ r. ⌜ bytesResult r (now (table .exit)) ≡ stepRingBytes hallLimits (now (table .entry)) (desk sends Swap position session numbered message) ⌝ }
+{
+    answer(ring::swap(table, Board::HALL, message, desk, position, session))
+}
+
+#[no_mangle]
+pub extern "C" fn ring_retire(message: u16, desk: u16, table: &mut [u8]) -> u32
+    ensures { λ r. ⌜ bytesResult r (now (table .exit)) ≡ stepRingBytes hallLimits (now (table .entry)) (desk sends Retire numbered message) ⌝ }
+{
+    answer(ring::retire(table, Board::HALL, message, desk))
+}
+
+#[no_mangle]
+pub extern "C" fn ring_collect(message: u16, desk: u16, table: &mut [u8]) -> u32
+    ensures { λ r. ⌜ bytesResult r (now (table .exit)) ≡ stepRingBytes hallLimits (now (table .entry)) (desk sends Collect numbered message) ⌝ }
+{
+    answer(ring::collect(table, Board::HALL, message, desk))
 }
