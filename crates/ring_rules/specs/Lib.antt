@@ -2,4 +2,6 @@
 pub mod Ring
 pub mod RingDemands
 pub mod RingTheorems
+pub mod RingCases
+pub mod RingExamples
 pub mod laws
