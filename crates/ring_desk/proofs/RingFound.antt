@@ -4,7 +4,7 @@ use Prim.Native.Nat.{ℕ, _*_, _^_, _≤_, _<_}
 use native.Mathlib.Omega.{arith}
 use mathlib.Core.Bool.{true}
 use mathlib.Core.List.{List}
-use mathlib.Core.Path.{_≡_, refl, sym}
+use mathlib.Core.Path.{_≡_, ap, refl, sym}
 use lib.Dec.{ltb}
 use lib.ListN.{length, getD, take, drop}
 use borrow.Author.Tests.{ltb-true}
@@ -48,3 +48,9 @@ module _ (s : ℕ) (shown r : List ℕ) where
   -- and as the board does, before (a), which leaves k as it is
   pub next-screens-same : nextScreens shown (decodeRing s r) ≡ nextScreens shown (begin (decodeRing s r))
   next-screens-same = λ i. take 2 (drop (sym (begin-scanned (decodeRing s r)) i) shown)
+
+  pub collect-ring-next : collectRingSeeing s (nextScreens shown (decodeRing s r)) r ≡ collectRing s shown r
+  collect-ring-next = ap (λ (sessions : List ℕ). collectRingSeeing s sessions r) next-screens-same
+
+  pub collect-session-next : collectSeeing s (nextScreens shown (decodeRing s r)) (decodeRing s r) .session ≡ collect s shown (decodeRing s r) .session
+  collect-session-next = ap (λ (sessions : List ℕ). collectSeeing s sessions (decodeRing s r) .session) next-screens-same

@@ -182,5 +182,6 @@ reads-next s b r w hb e =
     let read : head ++ (rotate next emptied ++ tail) ≡ take listOffset w ++ ((drop 1 (slotsIn s w) ++ (0 ∷ [])) ++ tailIn s w)
     = ap (λ (x : List ℕ). head ++ (x ++ tail)) (slot-next s b slots slots-is hb)
     ∙ (λ i. head-same s b r w e i ++ ((drop 1 (slots-rotated s b r w e i) ++ (0 ∷ [])) ++ tail-same s b r w e i)) in
-    reads-as s next (head ++ (emptied ++ (tail ++ (next ∷ [])))) (set (set r (listOffset + b) 0) (widthFor s) next) (head ++ (rotate next emptied ++ tail)) (take listOffset w ++ ((drop 1 (slotsIn s w) ++ (0 ∷ [])) ++ tailIn s w))
+    reads-as s next (head ++ (emptied ++ (tail ++ (next ∷ [])))) (set (set r (listOffset + b) 0) (widthFor s) next)
+    (head ++ (rotate next emptied ++ tail)) (take listOffset w ++ ((drop 1 (slotsIn s w) ++ (0 ∷ [])) ++ tailIn s w))
     (reads-parts s next head emptied tail head-is emptied-is tail-is) stored read

@@ -67,7 +67,10 @@ module _ (s : ℕ) (D : Desk) (some : 0 < length (D .ready)) (room : usedSlots D
       ≡ encodeDesk s (handBack D .after)
   unfolding encodeDesk
   handed-words =
-      (λ i. set (first-head s head (slotsFor s D) (encodeTail D) refl many i ++ ((drop 1 (first-slots s head (slotsFor s D) (encodeTail D) refl many i) ++ (0 ∷ [])) ++ first-tail s head (slotsFor s D) (encodeTail D) refl many i)) 2 (length (D .ready) - 1))
+      let head-is = first-head s head (slotsFor s D) (encodeTail D) refl many in
+      let slots-are = first-slots s head (slotsFor s D) (encodeTail D) refl many in
+      let tail-is = first-tail s head (slotsFor s D) (encodeTail D) refl many in
+      (λ i. set (head-is i ++ ((drop 1 (slots-are i) ++ (0 ∷ [])) ++ tail-is i)) 2 (length (D .ready) - 1))
       ∙ (λ i. D .owed ∷ D .scanned ∷ sym (length-drop 1 (D .ready)) i ∷ length (D .tested) ∷ length (D .waiting)
       ∷ (wordsOfBits markWords (markBits (D .tested)) ++ (slots-handed (2 * s) (D .ready) (sessionsOf (D .tested) ++ D .waiting) some rest-many i ++ encodeTail D)))
 

@@ -4,12 +4,10 @@ use native.Mathlib.Omega.{arith}
 use mathlib.Core.Bool.{Bool, true, false, _&&_, and-assoc}
 use mathlib.Core.List.{List}
 use mathlib.Core.Path.{_≡_, refl, sym, ap, _∙_}
-use lib.Dec.{eqb, leb}
+use lib.Dec.{leb}
 use lib.ListN.{length, getD, take, drop}
 use borrow.Author.Tests.{le-leb, le-ltb, lt-leb, lt-ltb}
-use Rattle.rules.specs.Lists.{every}
-use Rattle.rules.specs.Steps.{isNone, isSession}
-use Rattle.rules.specs.Table.{markWords, marksIn, marksOffset, ones, recordSound, scanSound, slotsIn, usedIn}
+use Rattle.rules.specs.Table.{markWords, marksOffset, recordSound, scanSound, slotsIn, usedIn}
 use Rattle.rules.specs.laws.desk.Decoding.{small-drop, small-take}
 use Rattle.marks.specs.Marks.{marks, onesIn}
 use Rattle.words.specs.Words.{allZero, lacks}
@@ -49,9 +47,7 @@ module _ (s : ℕ) (r : List ℕ) (long : length r ≡ ringWidthFor s) (begins :
   pub ring-overfull : (n : ℕ) → n ≡ usedIn r → 2 * s < n → ringRecordSound s r ≡ false
   unfolding recordSound
   ring-overfull n is over =
-      sound-as-read
-      ∙ ap (λ (t : Bool). t && (every isSession (take (usedIn w) (slotsIn s w)) && (every isNone (drop (usedIn w) (slotsIn s w)) && (eqb (ones (drop (getD w 3 0) (marksIn w))) 0 && (scanSound s (getD w 3 0) (getD w 1 0) && leb (ones (marksIn w)) (getD w 1 0))))))
-      (lt-leb (usedIn w) (2 * s) (omega (arith, is, used-same s b r w reads)))
+      sound-as-read ∙ rw (lt-leb (usedIn w) (2 * s) (omega (arith, is, used-same s b r w reads)))
 
   -- all tests, in the order of the code
   pub ring-tests : (n t k : ℕ) → n ≡ usedIn r → n ≤ 2 * s → t ≡ getD r 3 0 → k ≡ getD r 1 0 → ((i : ℕ) → getD r i 0 < 2 ^ 16)

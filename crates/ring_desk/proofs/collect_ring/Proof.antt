@@ -34,30 +34,38 @@ scanned o = scanAt (begun o .tested) (shown o) (begun o)
 abbrev settled : tie.Start → Desk
 settled o = settle (o .args .s) (scanned o)
 
-past-a : (c : tie.After-begin-test-ring) → RingAgain (c .before .before .before .args .s) (begins (c .before .before .before)) (begun (c .before .before .before)) (wordsOfBytes (c .begin-test-ring .last .0))
+past-a : (c : tie.After-begin-test-ring) →
+    let start = c .before .before .before in
+    RingAgain (start .args .s) (begins start) (begun start) (wordsOfBytes (c .begin-test-ring .last .0))
 past-a c =
-    let o = (c .before .before .before) in
-    ring-again (o .args .s) (begins o) (begun o) (wordsOfBytes (c .begin-test-ring .last .0)) (o .pre .0 .reads .bounded) (o .pre .0 .begins) (omega (arith, begin-slots (found o), o .pre .0 .reads .room)) (c .begin-test-ring .ensures)
+    let start = c .before .before .before in
+    ring-again (start .args .s) (begins start) (begun start) (wordsOfBytes (c .begin-test-ring .last .0)) (start .pre .0 .reads .bounded) (start .pre .0 .begins)
+    (omega (arith, begin-slots (found start), start .pre .0 .reads .room)) (c .begin-test-ring .ensures)
 
-past-b : (c : tie.After-scan-ring) → let after-r = c .before .before .before in let after-slice-known = after-r .before .before .before in let start = after-slice-known .before in
+past-b : (c : tie.After-scan-ring) →
+    let after-r = c .before .before .before in let after-slice-known = after-r .before .before .before in
+    let start = after-slice-known .before in
     RingAgain (start .args .s) (begins start) (scanned start) (wordsOfBytes (c .scan-ring .last .0))
 past-b c =
-    let after-r = c .before .before .before in let after-begin-test-ring = after-r .before in let start = after-begin-test-ring .before .before .before in
-    let o = start in
+    let after-r = c .before .before .before in let after-begin-test-ring = after-r .before in
+    let start = after-begin-test-ring .before .before .before in
     let past = past-a after-begin-test-ring in
-    ring-again (o .args .s) (begins o) (scanned o) (wordsOfBytes (c .scan-ring .last .0)) (o .pre .0 .reads .bounded) (o .pre .0 .begins)
-    (omega (arith, begin-slots (found o), scan-slots (begun o .tested) (shown o) (begun o), o .pre .0 .reads .room))
-    (c .scan-ring .ensures ∙ (λ i. encodeRing (o .args .s) (past .begins-same i) (scanAt (past .desk-is i .tested) (shown o) (past .desk-is i))))
+    ring-again (start .args .s) (begins start) (scanned start) (wordsOfBytes (c .scan-ring .last .0)) (start .pre .0 .reads .bounded) (start .pre .0 .begins)
+    (omega (arith, begin-slots (found start), scan-slots (begun start .tested) (shown start) (begun start), start .pre .0 .reads .room))
+    (c .scan-ring .ensures ∙ (λ i. encodeRing (start .args .s) (past .begins-same i) (scanAt (past .desk-is i .tested) (shown start) (past .desk-is i))))
 
-past-c : (c : tie.After-settle-ring) → let after-r2 = c .before .before .before in let after-slice-known2 = after-r2 .before .before .before in let after-begin-test-ring-arg = after-slice-known2 .before .before .before in let start = after-begin-test-ring-arg .before .before in
+past-c : (c : tie.After-settle-ring) →
+    let after-r2 = c .before .before .before in let after-slice-known2 = after-r2 .before .before .before in
+    let after-begin-test-ring-arg = after-slice-known2 .before .before .before in let start = after-begin-test-ring-arg .before .before in
     RingAgain (start .args .s) (begins start) (settled start) (wordsOfBytes (c .settle-ring .last .0))
 past-c c =
-    let after-r2 = c .before .before .before in let after-scan-ring = after-r2 .before in let after-r = after-scan-ring .before .before .before in let after-slice-known = after-r .before .before .before in let start = after-slice-known .before in
-    let o = start in
+    let after-r2 = c .before .before .before in let after-scan-ring = after-r2 .before in
+    let after-r = after-scan-ring .before .before .before in let after-slice-known = after-r .before .before .before in
+    let start = after-slice-known .before in
     let past = past-b after-scan-ring in
-    ring-again (o .args .s) (begins o) (settled o) (wordsOfBytes (c .settle-ring .last .0)) (o .pre .0 .reads .bounded) (o .pre .0 .begins)
-    (omega (arith, begin-slots (found o), scan-slots (begun o .tested) (shown o) (begun o), settle-slots (o .args .s) (scanned o), o .pre .0 .reads .room))
-    (c .settle-ring .ensures ∙ (λ i. encodeRing (o .args .s) (past .begins-same i) (settle (o .args .s) (past .desk-is i))))
+    ring-again (start .args .s) (begins start) (settled start) (wordsOfBytes (c .settle-ring .last .0)) (start .pre .0 .reads .bounded) (start .pre .0 .begins)
+    (omega (arith, begin-slots (found start), scan-slots (begun start .tested) (shown start) (begun start), settle-slots (start .args .s) (scanned start), start .pre .0 .reads .room))
+    (c .settle-ring .ensures ∙ (λ i. encodeRing (start .args .s) (past .begins-same i) (settle (start .args .s) (past .desk-is i))))
 
 begin-test-ring-requires : tie.Need-begin-test-ring-requires
 begin-test-ring-requires c κs = (c .before .before .pre .0, c .before .before .pre .1)
@@ -65,21 +73,22 @@ begin-test-ring-requires c κs = (c .before .before .pre .0, c .before .before .
 scan-ring-requires : tie.Need-scan-ring-requires
 scan-ring-requires c κs =
     let after-begin-test-ring = c .before .before .before in let start = after-begin-test-ring .before .before .before in
-    let past = past-a (c .before .before .before) in
-    (past .encoded, c .before .before .before .begin-test-ring .kept .0 ∙ start .pre .1, omega (arith, ap (λ (D : Desk). D .scanned) (past .desk-is), begin-scanned (found start), start .pre .2), start .pre .3, start .pre .4)
+    let past = past-a after-begin-test-ring in
+    let scanned-same = ap (λ (D : Desk). D .scanned) (past .desk-is) in
+    (past .encoded, after-begin-test-ring .begin-test-ring .kept .0 ∙ start .pre .1, omega (arith, scanned-same, begin-scanned (found start), start .pre .2), start .pre .3, start .pre .4)
 
 settle-ring-requires : tie.Need-settle-ring-requires
 settle-ring-requires c κs =
     let after-scan-ring = c .before .before .before in let after-r = after-scan-ring .before .before .before in
     let after-begin-test-ring = after-r .before in let start = after-begin-test-ring .before .before .before in
-    (past-b (c .before .before .before) .encoded, c .before .before .before .scan-ring .kept .0 ∙ after-begin-test-ring .begin-test-ring .kept .0 ∙ start .pre .1)
+    (past-b after-scan-ring .encoded, after-scan-ring .scan-ring .kept .0 ∙ after-begin-test-ring .begin-test-ring .kept .0 ∙ start .pre .1)
 
 hand-back-ring-requires : tie.Need-hand-back-ring-requires
 hand-back-ring-requires c κs =
     let after-settle-ring = c .before .before .before in let after-r2 = after-settle-ring .before .before .before in
     let after-scan-ring = after-r2 .before in let after-r = after-scan-ring .before .before .before in
     let after-begin-test-ring = after-r .before in let start = after-begin-test-ring .before .before .before in
-    (past-c (c .before .before .before) .encoded, c .before .before .before .settle-ring .kept .0 ∙ after-scan-ring .scan-ring .kept .0 ∙ after-begin-test-ring .begin-test-ring .kept .0 ∙ start .pre .1)
+    (past-c after-settle-ring .encoded, after-settle-ring .settle-ring .kept .0 ∙ after-scan-ring .scan-ring .kept .0 ∙ after-begin-test-ring .begin-test-ring .kept .0 ∙ start .pre .1)
 
 same-length : tie.Need-same-length
 same-length c = search needs

@@ -52,7 +52,8 @@ returns : tie.Need-returns Inv-loop μ-loop
 returns c =
     let after-shared-slice-known = c .before .before .before in let start = after-shared-slice-known .before in
     sym (slots-long start)
-    ∙ find-lacking (start .args .x) (slots start) (marks-of start) (omega (arith, slots-long start, marks-many start)) (sym (c .before .lacks-around .ensures) ∙ c .if1 .taken)
+    ∙ find-lacking (start .args .x) (slots start) (marks-of start) (omega (arith, slots-long start, marks-many start))
+    (sym (c .before .lacks-around .ensures) ∙ c .if1 .taken)
 
 loop-holds : tie.Need-loop-holds Inv-loop μ-loop
 loop-holds c = (omega arith, omega arith)
@@ -72,7 +73,7 @@ marked-requires : tie.Need-marked-requires Inv-loop μ-loop
 marked-requires c κs =
     let in-loop = c .before .before .before in let after-lacks-around = in-loop .before .before .before in
     let start = after-lacks-around .before .before .before in
-    (start .pre .4, omega (arith, start .pre .0, start .pre .3, c .before .before .before .loop-test .taken))
+    (start .pre .4, omega (arith, start .pre .0, start .pre .3, in-loop .loop-test .taken))
 
 returns-2 : tie.Need-returns-2 Inv-loop μ-loop
 returns-2 c =
@@ -80,9 +81,13 @@ returns-2 c =
     let at-loop = in-loop .before in let after-shared-slice-known2 = at-loop .before .before .before in
     let start = after-shared-slice-known2 .before .before in
     let j = at-loop .loop .j in
-    let session = around-word (start .args .s) (start .args .a) (wordsOfBytes (start .args .l .now)) (list-long start) (start .pre .2) (start .args .n) j (after-slot-after .slot-after .result) (start .pre .3) (in-loop .loop-test .taken) (after-slot-after .slot-after .ensures .0) in
-    find-found (start .args .x) (findSlot (start .args .x) (slots start) (marks-of start)) (slots start) (marks-of start) j (omega (arith, slots-long start, in-loop .loop-test .taken)) (omega (arith, marks-many start, in-loop .loop-test .taken)) (at-loop .loop .inv .1)
-    (sym session ∙ sym (c .before .before .before .word .ensures) ∙ c .before .before .if2 .taken)
+    let x = start .args .x in
+    let below = in-loop .loop-test .taken in
+    let session = around-word (start .args .s) (start .args .a) (wordsOfBytes (start .args .l .now)) (list-long start) (start .pre .2) (start .args .n) j (after-slot-after .slot-after .result)
+    (start .pre .3) below (after-slot-after .slot-after .ensures .0) in
+    find-found x (findSlot x (slots start) (marks-of start)) (slots start) (marks-of start) j
+    (omega (arith, slots-long start, below)) (omega (arith, marks-many start, below)) (at-loop .loop .inv .1)
+    (sym session ∙ sym (after-word .word .ensures) ∙ c .before .before .if2 .taken)
     (is-unmarked (wordsOfBytes (start .args .m .now)) j (sym (c .before .marked .ensures) ∙ not-true (c .if3 .taken)))
 
 add-j : tie.Need-add-j Inv-loop μ-loop
@@ -98,10 +103,11 @@ loop-again c =
     let j = at-loop .loop .j in
     let x = start .args .x in
     let n = findSlot x (slots start) (marks-of start) in
-    let below = c .before .before .before .loop-test .taken in
+    let below = in-loop .loop-test .taken in
     let in-slots : j < length (slots start) = omega (arith, slots-long start, below) in
     let in-marks : j < length (marks-of start) = omega (arith, marks-many start, below) in
-    let session = around-word (start .args .s) (start .args .a) (wordsOfBytes (start .args .l .now)) (list-long start) (start .pre .2) (start .args .n) j (c .before .before .slot-after .result) (start .pre .3) below (c .before .before .slot-after .ensures .0) in (
+    let session = around-word (start .args .s) (start .args .a) (wordsOfBytes (start .args .l .now)) (list-long start) (start .pre .2) (start .args .n) j (c .before .before .slot-after .result)
+    (start .pre .3) below (c .before .before .slot-after .ensures .0) in (
       omega arith,
       ⊎-elim (λ w.
           let is-marked = eqb-true (getD (marks-of start) j 0) 1 (sym (w .1 .ensures) ∙ not-false (w .2 .left)) in
@@ -113,7 +119,8 @@ loop-again c =
 returns-3 : tie.Need-returns-3 Inv-loop μ-loop
 returns-3 c =
     let after-lacks-around = c .before .before .before in let start = after-lacks-around .before .before .before in
-    find-end (start .args .x) (findSlot (start .args .x) (slots start) (marks-of start)) (slots start) (marks-of start) (c .before .loop .j) (omega (arith, slots-long start, c .loop-test .left)) (c .before .loop .inv .1)
+    find-end (start .args .x) (findSlot (start .args .x) (slots start) (marks-of start)) (slots start) (marks-of start) (c .before .loop .j)
+    (omega (arith, slots-long start, c .loop-test .left)) (c .before .loop .inv .1)
 
 pub find-around-spec : {M : Type 1} → statement M
 find-around-spec = tie.close (tie.spec Inv-loop μ-loop lacks-around-requires returns loop-holds slot-after-requires word-requires marked-requires returns-2 add-j loop-less loop-again returns-3)

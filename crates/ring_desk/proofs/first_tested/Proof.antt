@@ -14,7 +14,12 @@ count-requires : tie.Need-count-requires
 count-requires c κs = omega (arith, c .before .before .pre .1)
 
 slot-after-requires : tie.Need-slot-after-requires
-slot-after-requires c κs = (c .before .before .before .pre .0 .reads .bounded, omega (arith, c .before .beginning .ensures, c .before .before .before .pre .0 .begins), omega (arith, c .count .ensures, tested-fits (c .before .before .before .args .s) (wordsOfBytes (c .before .before .before .args .r .now)) (c .before .before .before .pre .0)))
+slot-after-requires c κs =
+    let start = c .before .before .before in (
+      start .pre .0 .reads .bounded,
+      omega (arith, c .before .beginning .ensures, start .pre .0 .begins),
+      omega (arith, c .count .ensures, tested-fits (start .args .s) (wordsOfBytes (start .args .r .now)) (start .pre .0)),
+    )
 
 returns : tie.Need-returns
 returns c =

@@ -103,7 +103,8 @@ returns-2 c =
     let moved = after-put-word2 .put-word2 .ensures .holds ∙ ap₂ (λ (x : List ℕ) (k : ℕ). set x k p) emptied (after-record-words .record-words .ensures) in
     let stored = c .before .before .put-word3 .ensures .holds ∙ ap₂ (λ (x : List ℕ) (k : ℕ). set x 2 (k - 1)) moved (after-word .word .ensures) in (
       after-word2 .word2 .ensures ∙ ap (λ (k : ℕ). getD words (listOffset + k) 0) begins ∙ first-session s words (start .pre .0) some,
-      stored ∙ ap (λ (k : ℕ). set (set (set words (listOffset + k) 0) (widthFor s) p) 2 (getD words 2 0 - 1)) begins ∙ hand-stores s words (start .pre .0) some p next,
+      stored ∙ ap (λ (k : ℕ). set (set (set words (listOffset + k) 0) (widthFor s) p) 2 (getD words 2 0 - 1)) begins
+          ∙ hand-stores s words (start .pre .0) some p next,
     )
 
 pub hand-back-ring-spec : {M : Type 1} → statement M

@@ -1,7 +1,7 @@
 -- `ring_desk::lacks_around` meets its contract.
 use Prim.Native.Nat.{ℕ, _+_, _*_, _-_}
 use native.Mathlib.Omega.{arith}
-use mathlib.Core.Bool.{not}
+use mathlib.Core.Bool.{Bool, not}
 use mathlib.Core.Path.{sym, _∙_}
 use lib.Dec.{eqb}
 use lib.Seq.{length-take-le}
@@ -39,7 +39,8 @@ returns : tie.Need-returns
 returns c =
     let after-shared-slice-known = c .before .before .before in let start = after-shared-slice-known .before in
     let given = start .pre in
-    c .lacks .ensures ∙ sym (test-inside (λ (word : ℕ). not (eqb word (start .args .x))) (start .args .s) (start .args .a) (start .args .n) (start .args .l .now) (given .1) (given .2) (given .3) (c .before .before .if1 .taken))
+    let test : ℕ → Bool = λ (word : ℕ). not (eqb word (start .args .x)) in
+    c .lacks .ensures ∙ sym (test-inside test (start .args .s) (start .args .a) (start .args .n) (start .args .l .now) (given .1) (given .2) (given .3) (c .before .before .if1 .taken))
 
 mul-lacks-3 : tie.Need-mul-lacks-3
 mul-lacks-3 c = search needs
@@ -60,8 +61,10 @@ returns-2 : tie.Need-returns-2
 returns-2 c =
     let else1 = c .before .before .before in let start = else1 .before .before in
     let given = start .pre in
-    let past = c .before .before .before .if1 .left in
-    sym (test-past (λ (word : ℕ). not (eqb word (start .args .x))) (start .args .s) (start .args .a) (start .args .n) (start .args .l .now) (given .1) (given .2) (given .3) (omega arith) ∙ rw (sym (c .before .lacks2 .ensures) ∙ not-true (c .if2 .taken)))
+    let test : ℕ → Bool = λ (word : ℕ). not (eqb word (start .args .x)) in
+    let past = else1 .if1 .left in
+    sym (test-past test (start .args .s) (start .args .a) (start .args .n) (start .args .l .now) (given .1) (given .2) (given .3) (omega arith)
+    ∙ rw (sym (c .before .lacks2 .ensures) ∙ not-true (c .if2 .taken)))
 
 mul-lacks-4 : tie.Need-mul-lacks-4
 mul-lacks-4 c = search needs
@@ -85,8 +88,10 @@ returns-3 : tie.Need-returns-3
 returns-3 c =
     let after-lacks2 = c .before .before .before in let else1 = after-lacks2 .before .before in let start = else1 .before .before in
     let given = start .pre in
+    let test : ℕ → Bool = λ (word : ℕ). not (eqb word (start .args .x)) in
     let past = else1 .if1 .left in
-    sym (test-past (λ (word : ℕ). not (eqb word (start .args .x))) (start .args .s) (start .args .a) (start .args .n) (start .args .l .now) (given .1) (given .2) (given .3) (omega arith) ∙ rw (sym (c .before .before .before .lacks2 .ensures) ∙ not-false (c .before .before .if2 .left)) (sym (c .lacks3 .ensures)))
+    sym (test-past test (start .args .s) (start .args .a) (start .args .n) (start .args .l .now) (given .1) (given .2) (given .3) (omega arith)
+    ∙ rw (sym (after-lacks2 .lacks2 .ensures) ∙ not-false (c .before .before .if2 .left)) (sym (c .lacks3 .ensures)))
 
 pub lacks-around-spec : {M : Type 1} → statement M
 lacks-around-spec = tie.close (tie.spec add-e mul-if1 mul-lacks mul-lacks-2 sub-lacks part-lacks-start part-lacks-end lacks-requires returns mul-lacks-3 sub-lacks-2 part-lacks-start-2 part-lacks-end-2 lacks-requires-2 returns-2 mul-lacks-4 sub-lacks-3 mul-lacks-5 slice-aggregate-lacks lacks-requires-3 returns-3)

@@ -25,11 +25,14 @@ abbrev words : tie.Start → List ℕ
 words o = wordsOfBytes (o .args .r .now)
 
 -- the marks and their count
-known : (c : tie.After-ones) → let after-mark-bytes-arg = c .before .before .before in let start = after-mark-bytes-arg .before .before .before in
+known : (c : tie.After-ones) →
+    let after-mark-bytes-arg = c .before .before .before in let start = after-mark-bytes-arg .before .before .before in
     Counted (start .args .s) (linear (start .args .s) (words start)) (c .ones .result) (wordsOfBytes (c .before .before .mark-bytes .result))
 known c =
-    let after-mark-bytes-arg = c .before .before .before in let after-slice-known = after-mark-bytes-arg .before .before in let start = after-slice-known .before in
-    ring-counted (start .args .s) (words start) (start .pre .0) (words-are-16 (start .args .r .now) (λ i. after-slice-known .slice-known .given i .fits)) (c .ones .result) (wordsOfBytes (c .before .before .mark-bytes .result))
+    let after-mark-bytes-arg = c .before .before .before in let after-slice-known = after-mark-bytes-arg .before .before in
+    let start = after-slice-known .before in
+    ring-counted (start .args .s) (words start) (start .pre .0) (words-are-16 (start .args .r .now) (λ i. after-slice-known .slice-known .given i .fits)) (c .ones .result)
+    (wordsOfBytes (c .before .before .mark-bytes .result))
     (ap wordsOfBytes (c .before .before .mark-bytes .ensures) ∙ words-part marksOffset listOffset (start .args .r .now)) (c .ones .ensures)
 
 -- the list is lent whole
@@ -67,7 +70,7 @@ returns : tie.Need-returns
 returns c =
     let after-mark-bytes = c .before .before .before in let after-slice-known = after-mark-bytes .before .before .before in
     let start = after-slice-known .before in
-    let kept = marked-count (start .args .s) (words start) (start .pre .0) (c .before .ones .result) (wordsOfBytes (c .before .before .before .mark-bytes .result)) (known (c .before)) in
+    let kept = marked-count (start .args .s) (words start) (start .pre .0) (c .before .ones .result) (wordsOfBytes (after-mark-bytes .mark-bytes .result)) (known (c .before)) in
     (sym (c .if1 .taken) ∙ kept, parted-same (start .args .s) (words start) (start .pre .0) (sym kept ∙ c .if1 .taken))
 
 count-requires : tie.Need-count-requires
@@ -153,10 +156,11 @@ same-length-2 c = search needs
 
 returns-2 : tie.Need-returns-2
 returns-2 c =
-    let after-clear-arg = c .before .before .before in let after-partition-around = after-clear-arg .before .before .before in
-    let after-first-tested = after-partition-around .before .before .before in let after-count = after-first-tested .before .before in
-    let after-ones = after-count .before .before .before in let after-mark-bytes = after-ones .before .before in
-    let after-slice-known = after-mark-bytes .before .before .before in let start = after-slice-known .before in
+    let after-clear = c .before .before in let after-r2 = after-clear .before .before .before in
+    let after-partition-around = after-r2 .before in let after-first-tested = after-partition-around .before .before .before in
+    let after-count = after-first-tested .before .before in let after-ones = after-count .before .before .before in
+    let after-mark-bytes = after-ones .before .before in let after-slice-known = after-mark-bytes .before .before .before in
+    let start = after-slice-known .before in
     let s = start .args .s in
     let bytes = start .args .r .now in
     let a = after-first-tested .first-tested .result in
@@ -164,19 +168,22 @@ returns-2 c =
     let m = wordsOfBytes (after-mark-bytes .mark-bytes .result) in
     let part = after-partition-around .partition-around .last .0 in
     let after = putMid (2 * listOffset) (2 * (listOffset + 2 * s) - 2 * listOffset) bytes part in
-    let same : length after ≡ length bytes = same-len-mid {X = ℕ} (2 * listOffset) (2 * (listOffset + 2 * s) - 2 * listOffset) bytes part (after-partition-around .partition-around .kept .0) in
+    let same : length after ≡ length bytes =
+    same-len-mid {X = ℕ} (2 * listOffset) (2 * (listOffset + 2 * s) - 2 * listOffset) bytes part (after-partition-around .partition-around .kept .0) in
     let wide = after-partition-around .partition-around .kept .0 ∙ mid-len (2 * listOffset) (2 * (listOffset + 2 * s)) bytes (whole start) in
     let many : length (wordsOfBytes part) ≡ 2 * s = omega (arith, length-words part, wide) in
     let list = words-put listOffset (listOffset + 2 * s) bytes part (omega arith) (whole start) wide in
-    let parted = subst (λ (slots : List ℕ). Parted slots (marks m) a n (wordsOfBytes part)) (lent-words s bytes) (after-partition-around .partition-around .ensures) in
+    let parted =
+    subst (λ (slots : List ℕ). Parted slots (marks m) a n (wordsOfBytes part)) (lent-words s bytes) (after-partition-around .partition-around .ensures) in
     let fits : 2 * listOffset ≤ length after = omega (arith, same, start .pre .1) in
     let sixteen = mid-len (2 * marksOffset) (2 * listOffset) after fits in
     let all-marks : 2 * listOffset - 2 * marksOffset ≡ 2 * markWords = omega arith in
-    let cleared = ap wordsOfBytes (c .before .before .clear .ensures ∙ ap (λ (k : ℕ). replicate k 0) (sixteen ∙ all-marks)) ∙ zero-words markWords in
-    let zeros = words-put marksOffset listOffset after (c .before .before .clear .last .0) (omega arith) fits (c .before .before .clear .kept .0 ∙ sixteen) in (
+    let cleared = ap wordsOfBytes (after-clear .clear .ensures ∙ ap (λ (k : ℕ). replicate k 0) (sixteen ∙ all-marks)) ∙ zero-words markWords in
+    let zeros = words-put marksOffset listOffset after (after-clear .clear .last .0) (omega arith) fits (after-clear .clear .kept .0 ∙ sixteen) in (
       marked-count s (words start) (start .pre .0) (after-ones .ones .result) m (known after-ones),
-      zeros ∙ ap (λ (l : List ℕ). putMid marksOffset markWords l (wordsOfBytes (c .before .before .clear .last .0))) list
-          ∙ parted-stores s (words start) (start .pre .0) a n (after-ones .ones .result) m (after-count .count .ensures .0) (after-first-tested .first-tested .ensures .0) (known after-ones) (wordsOfBytes part) (wordsOfBytes (c .before .before .clear .last .0)) many parted cleared,
+      zeros ∙ ap (λ (l : List ℕ). putMid marksOffset markWords l (wordsOfBytes (after-clear .clear .last .0))) list
+          ∙ parted-stores s (words start) (start .pre .0) a n (after-ones .ones .result) m (after-count .count .ensures .0) (after-first-tested .first-tested .ensures .0) (known after-ones)
+          (wordsOfBytes part) (wordsOfBytes (after-clear .clear .last .0)) many parted cleared,
     )
 
 pub part-tested-ring-spec : {M : Type 1} → statement M

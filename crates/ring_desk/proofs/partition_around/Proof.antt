@@ -51,7 +51,8 @@ returns : tie.Need-returns
 returns c =
     let after-partition-arg = c .before .before .before in let then1 = after-partition-arg .before in
     let start = then1 .before .before .before in
-    parted-inside (start .args .s) (start .args .a) (start .args .n) (start .args .l .now) (c .before .before .partition .last .0) (marks (wordsOfBytes (start .args .m .now))) (start .pre .1) (start .pre .2) (then1 .if1 .taken) (c .before .before .partition .kept .0) (c .before .before .partition .ensures)
+    parted-inside (start .args .s) (start .args .a) (start .args .n) (start .args .l .now) (c .before .before .partition .last .0) (marks (wordsOfBytes (start .args .m .now)))
+    (start .pre .1) (start .pre .2) (then1 .if1 .taken) (c .before .before .partition .kept .0) (c .before .before .partition .ensures)
 
 mul-part : tie.Need-mul-part
 mul-part c = search needs
@@ -79,8 +80,10 @@ returns-2 c =
     let after-partition-in = c .before .before .before in let else1 = after-partition-in .before .before .before in
     let start = else1 .before .before .before in
     let n = start .args .n in
-    let many : length (wordsOfBytes (take (2 * n) (replicate {A = ℕ} 256 0))) ≡ n = omega (arith, length-words (take (2 * n) (replicate {A = ℕ} 256 0)), room start) in
-    subst (λ (k : ℕ). Parted (wordsOfBytes (start .args .l .now)) (marks (wordsOfBytes (start .args .m .now))) (start .args .a) k (wordsOfBytes (c .before .before .before .partition-in .last .0))) many (c .before .before .before .partition-in .ensures)
+    let many : length (wordsOfBytes (take (2 * n) (replicate {A = ℕ} 256 0))) ≡ n =
+    omega (arith, length-words (take (2 * n) (replicate {A = ℕ} 256 0)), room start) in
+    subst (λ (k : ℕ). Parted (wordsOfBytes (start .args .l .now)) (marks (wordsOfBytes (start .args .m .now))) (start .args .a) k (wordsOfBytes (after-partition-in .partition-in .last .0)))
+    many (after-partition-in .partition-in .ensures)
 
 pub partition-around-spec : {M : Type 1} → statement M
 partition-around-spec = tie.close (tie.spec add-e mul-if1 mul-partition mul-partition-2 sub-partition part-partition-start part-partition-end partition-requires same-length returns mul-part array-borrow-prefix-part slice-aggregate-partition-in partition-in-requires same-length-2 returns-2)

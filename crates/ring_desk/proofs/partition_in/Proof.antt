@@ -17,7 +17,7 @@ partition-requires : tie.Need-partition-requires
 partition-requires c κs =
     let after-read-around = c .before .before .before in let after-slice-known2 = after-read-around .before .before .before in
     let start = after-slice-known2 .before .before .before in
-    (omega (arith, c .before .before .before .read-around .kept .0, start .pre .0, start .pre .3), omega (arith, c .before .before .before .read-around .kept .0, start .pre .4), start .pre .5)
+    (omega (arith, after-read-around .read-around .kept .0, start .pre .0, start .pre .3), omega (arith, after-read-around .read-around .kept .0, start .pre .4), start .pre .5)
 
 write-around-requires : tie.Need-write-around-requires
 write-around-requires c κs =
@@ -41,8 +41,10 @@ returns c =
     let before = wordsOfBytes (start .args .part .now) in
     let read = wordsOfBytes (after-read-around .read-around .last .0) in
     let parted = wordsOfBytes (after-partition .partition .last .0) in
-    let wide : length parted ≡ length before = omega (arith, length-words (start .args .part .now), length-words (after-partition .partition .last .0), after-partition .partition .kept .0, after-read-around .read-around .kept .0) in
-    parted-copy (wordsOfBytes (start .args .l .now)) (wordsOfBytes (c .before .before .write-around .last .0)) (marks (wordsOfBytes (start .args .m .now))) (start .args .a) (length before) read parted (after-read-around .read-around .ensures) (after-partition .partition .ensures) wide (c .before .before .write-around .ensures)
+    let wide : length parted ≡ length before =
+    omega (arith, length-words (start .args .part .now), length-words (after-partition .partition .last .0), after-partition .partition .kept .0, after-read-around .read-around .kept .0) in
+    parted-copy (wordsOfBytes (start .args .l .now)) (wordsOfBytes (c .before .before .write-around .last .0)) (marks (wordsOfBytes (start .args .m .now))) (start .args .a) (length before) read parted
+    (after-read-around .read-around .ensures) (after-partition .partition .ensures) wide (c .before .before .write-around .ensures)
 
 pub partition-in-spec : {M : Type 1} → statement M
 partition-in-spec = tie.close (tie.spec read-around-requires partition-requires write-around-requires same-length same-length-2 returns)

@@ -51,7 +51,9 @@ loop-again c =
       omega arith,
       c .before .before .put-word .kept .0 ∙ same,
       ap (take (at-loop .loop .i + 1)) (c .before .before .put-word .ensures .holds ∙ ap (set (wordsOfBytes (at-loop .loop .part)) (at-loop .loop .i)) (after-word .word .ensures))
-          ∙ read-next (start .args .s) (start .args .a) (wordsOfBytes (start .args .l .now)) (omega (arith, start .pre .1)) (start .pre .2) (wordsOfBytes (at-loop .loop .part)) (at-loop .loop .i) (after-slot-after .slot-after .result) (omega (arith, in-loop .loop-test .taken)) (omega (arith, start .pre .3)) (after-slot-after .slot-after .ensures .0) (at-loop .loop .inv .2),
+          ∙ read-next (start .args .s) (start .args .a) (wordsOfBytes (start .args .l .now)) (omega (arith, start .pre .1)) (start .pre .2)
+          (wordsOfBytes (at-loop .loop .part)) (at-loop .loop .i) (after-slot-after .slot-after .result)
+          (omega (arith, in-loop .loop-test .taken)) (omega (arith, start .pre .3)) (after-slot-after .slot-after .ensures .0) (at-loop .loop .inv .2),
     )
 
 same-length : tie.Need-same-length Inv-loop μ-loop
@@ -63,7 +65,8 @@ returns c =
     let many = length-words (c .before .loop .part) in
     let many₀ = length-words (start .args .part .now) in
     let end : c .before .loop .i ≡ length (wordsOfBytes (start .args .part .now)) = omega (arith, c .loop-test .left, c .before .loop .inv .0) in
-    sym (take-all (c .before .loop .i) (wordsOfBytes (c .before .loop .part)) (omega (arith, c .before .loop .inv .1))) ∙ c .before .loop .inv .2 ∙ ap (λ (k : ℕ). take k (rotate (start .args .a) (wordsOfBytes (start .args .l .now)))) end
+    sym (take-all (c .before .loop .i) (wordsOfBytes (c .before .loop .part)) (omega (arith, c .before .loop .inv .1))) ∙ c .before .loop .inv .2
+    ∙ ap (λ (k : ℕ). take k (rotate (start .args .a) (wordsOfBytes (start .args .l .now)))) end
 
 pub read-around-spec : {M : Type 1} → statement M
 read-around-spec = tie.close (tie.spec Inv-loop μ-loop loop-holds slot-after-requires word-requires put-word-requires add-i loop-less loop-again same-length returns)

@@ -23,19 +23,28 @@ abbrev words : tie.Start → List ℕ
 words o = wordsOfBytes (o .args .r .now)
 
 -- the slot that is found
-found : (c : tie.After-find-around) → let after-v = c .before .before .before in let after-first-tested = after-v .before in let after-count = after-first-tested .before .before in let after-word-arg = after-count .before .before .before in let start = after-word-arg .before .before in
+found : (c : tie.After-find-around) →
+    let after-v = c .before .before .before in let after-first-tested = after-v .before in
+    let after-count = after-first-tested .before .before in let after-word-arg = after-count .before .before .before in
+    let start = after-word-arg .before .before in
     c .find-around .result
     ≡ findSlot (start .args .x) (take (after-count .count .result) (rotate (after-first-tested .first-tested .result) (slotsIn (start .args .s) (words start)))) (marks (markWordsIn (words start)))
 found c =
-    let after-v = c .before .before .before in let after-first-tested = after-v .before in let after-count = after-first-tested .before .before in let after-word-arg = after-count .before .before .before in let start = after-word-arg .before .before in
+    let after-v = c .before .before .before in let after-first-tested = after-v .before in
+    let after-count = after-first-tested .before .before in let after-word-arg = after-count .before .before .before in
+    let start = after-word-arg .before .before in
     c .find-around .ensures
-    ∙ ap₂ (λ (l m : List ℕ). findSlot (start .args .x) (take (after-count .count .result) (rotate (after-first-tested .first-tested .result) l)) (marks m)) (lent-words (start .args .s) (start .args .r .now)) (words-part marksOffset listOffset (start .args .r .now))
+    ∙ ap₂ (λ (l m : List ℕ). findSlot (start .args .x) (take (after-count .count .result) (rotate (after-first-tested .first-tested .result) l)) (marks m))
+    (lent-words (start .args .s) (start .args .r .now)) (words-part marksOffset listOffset (start .args .r .now))
 
 -- the record is as long as it was, a mark set or not
-same : (c : tie.Joined1) → let after-find-around-arg = c .before .before .before in let after-first-tested-arg = after-find-around-arg .before .before .before in let after-word = after-first-tested-arg .before .before .before in let start = after-word .before .before .before in
+same : (c : tie.Joined1) →
+    let after-find-around-arg = c .before .before .before in let after-first-tested-arg = after-find-around-arg .before .before .before in
+    let after-word = after-first-tested-arg .before .before .before in let start = after-word .before .before .before in
     length (c .if1 .r) ≡ length (start .args .r .now)
 same c =
-    let after-find-around-arg = c .before .before .before in let after-first-tested-arg = after-find-around-arg .before .before .before in let after-word = after-first-tested-arg .before .before .before in let start = after-word .before .before .before in
+    let after-find-around-arg = c .before .before .before in let after-first-tested-arg = after-find-around-arg .before .before .before in
+    let after-word = after-first-tested-arg .before .before .before in let start = after-word .before .before .before in
     ⊎-elim (λ w. ap length (w .5) ∙ same-len-mid {X = ℕ} (2 * marksOffset) (2 * listOffset - 2 * marksOffset) (start .args .r .now) (w .2 .last .0) (w .2 .kept .0))
     (λ w. ap length (w .1))
     (c .if1 .came)
@@ -115,7 +124,7 @@ find-around-requires c κs =
     let most : 2 * (listOffset + 2 * start .args .s) ≤ length (start .args .r .now) = omega (arith, start .pre .1) in (
       start .pre .0 .reads .bounded,
       mid-len (2 * listOffset) (2 * (listOffset + 2 * start .args .s)) (start .args .r .now) most ∙ omega arith,
-      c .before .before .before .first-tested .ensures .1,
+      after-first-tested .first-tested .ensures .1,
       omega (arith, after-count .count .ensures, tested-fits (start .args .s) (words start) (start .pre .0)),
       mid-len (2 * marksOffset) (2 * listOffset) (start .args .r .now) (omega (arith, start .pre .1)) ∙ omega arith,
     )
@@ -141,8 +150,12 @@ mark-slot-requires c κs =
     let after-count = after-first-tested .before .before in let after-word-arg = after-count .before .before .before in
     let start = after-word-arg .before .before in
     let sixteen = mid-len (2 * marksOffset) (2 * listOffset) (start .args .r .now) (omega (arith, start .pre .1)) in
-    let free = slot-unmarked (start .args .s) (words start) (start .pre .0) (start .args .x) (after-count .count .result) (after-first-tested .first-tested .result) (c .before .before .find-around .result) (after-count .count .ensures .0) (after-first-tested .first-tested .ensures .0) (found (c .before .before)) (c .before .if1 .taken) in
-    (sixteen ∙ omega arith, omega (arith, c .before .if1 .taken, after-count .count .ensures, tested-fits (start .args .s) (words start) (start .pre .0), start .pre .0 .reads .bounded), ap (λ (m : List ℕ). getD (marks m) (c .before .before .find-around .result) 0) (words-part marksOffset listOffset (start .args .r .now)) ∙ free)
+    let free = slot-unmarked (start .args .s) (words start) (start .pre .0) (start .args .x) (after-count .count .result) (after-first-tested .first-tested .result) (c .before .before .find-around .result)
+    (after-count .count .ensures .0) (after-first-tested .first-tested .ensures .0) (found (c .before .before)) (c .before .if1 .taken) in (
+      sixteen ∙ omega arith,
+      omega (arith, c .before .if1 .taken, after-count .count .ensures, tested-fits (start .args .s) (words start) (start .pre .0), start .pre .0 .reads .bounded),
+      ap (λ (m : List ℕ). getD (marks m) (c .before .before .find-around .result) 0) (words-part marksOffset listOffset (start .args .r .now)) ∙ free,
+    )
 
 add-put-word : tie.Need-add-put-word
 add-put-word c =
@@ -179,9 +192,11 @@ returns c =
     let marked = w .2 .ensures .holds ∙ ap (λ (m : List ℕ). markSlot m j) (words-part marksOffset listOffset bytes) in
     let put = words-put marksOffset listOffset bytes (w .2 .last .0) (omega arith) fits (w .2 .kept .0 ∙ mid-len (2 * marksOffset) (2 * listOffset) bytes fits) in
     c .before .before .put-word .ensures .holds ∙ ap₂ (λ (l : List ℕ) (k : ℕ). set l 1 (k + 1)) (ap wordsOfBytes (w .5) ∙ put ∙ ap (putMid marksOffset markWords (words start)) marked) (after-word .word .ensures)
-    ∙ mark-stores s (words start) given (start .args .x) (after-count .count .result) (after-first-tested .first-tested .result) j (after-count .count .ensures .0) (after-first-tested .first-tested .ensures .0) is (w .0 .taken))
+    ∙ mark-stores s (words start) given (start .args .x) (after-count .count .result) (after-first-tested .first-tested .result) j
+    (after-count .count .ensures .0) (after-first-tested .first-tested .ensures .0) is (w .0 .taken))
     (λ w. c .before .before .put-word .ensures .holds ∙ ap₂ (λ (l : List ℕ) (k : ℕ). set l 1 (k + 1)) (ap wordsOfBytes (w .1)) (after-word .word .ensures)
-    ∙ unmarked-stores s (words start) given (start .args .x) (after-count .count .result) (after-first-tested .first-tested .result) j (after-count .count .ensures .0) (after-first-tested .first-tested .ensures .0) is (omega (arith, w .0 .left)))
+    ∙ unmarked-stores s (words start) given (start .args .x) (after-count .count .result) (after-first-tested .first-tested .result) j
+    (after-count .count .ensures .0) (after-first-tested .first-tested .ensures .0) is (omega (arith, w .0 .left)))
     (joined1 .if1 .came)
 
 pub read-screen-ring-spec : {M : Type 1} → statement M

@@ -17,10 +17,15 @@ abbrev found : tie.Start → Desk
 found o = decodeRing (o .args .s) (wordsOfBytes (o .args .r .now))
 
 -- the first screen is read
-first : (c : tie.After-read-screen-ring) → RingAgain (c .before .before .before .args .s) (beginningIn (c .before .before .before .args .s) (wordsOfBytes (c .before .before .before .args .r .now))) (readScreens (c .before .before .before .args .x ∷ []) (found (c .before .before .before))) (wordsOfBytes (c .read-screen-ring .last .0))
+first : (c : tie.After-read-screen-ring) →
+    let start = c .before .before .before in
+    RingAgain (start .args .s) (beginningIn (start .args .s) (wordsOfBytes (start .args .r .now)))
+    (readScreens (start .args .x ∷ []) (found start)) (wordsOfBytes (c .read-screen-ring .last .0))
 first c =
-    ring-again (c .before .before .before .args .s) (beginningIn (c .before .before .before .args .s) (wordsOfBytes (c .before .before .before .args .r .now))) (readScreens (c .before .before .before .args .x ∷ []) (found (c .before .before .before))) (wordsOfBytes (c .read-screen-ring .last .0)) (c .before .before .before .pre .0 .reads .bounded) (c .before .before .before .pre .0 .begins)
-    (omega (arith, read-slots (c .before .before .before .args .x ∷ []) (found (c .before .before .before)), c .before .before .before .pre .0 .reads .room)) (c .read-screen-ring .ensures)
+    let start = c .before .before .before in
+    ring-again (start .args .s) (beginningIn (start .args .s) (wordsOfBytes (start .args .r .now))) (readScreens (start .args .x ∷ []) (found start))
+    (wordsOfBytes (c .read-screen-ring .last .0)) (start .pre .0 .reads .bounded) (start .pre .0 .begins)
+    (omega (arith, read-slots (start .args .x ∷ []) (found start), start .pre .0 .reads .room)) (c .read-screen-ring .ensures)
 
 read-screen-ring-requires : tie.Need-read-screen-ring-requires
 read-screen-ring-requires c κs = (c .before .before .pre .0, c .before .before .pre .1, omega (arith, c .before .before .pre .2))
@@ -54,7 +59,7 @@ returns-2 : tie.Need-returns-2
 returns-2 c =
     let after-read-screen-ring = c .before .before .before in let start = after-read-screen-ring .before .before .before in
     let single : start .args .n ≡ 1 = omega (arith, start .pre, c .if1 .left) in
-    rw single (c .before .before .before .read-screen-ring .ensures)
+    rw single (after-read-screen-ring .read-screen-ring .ensures)
 
 pub read-screens-ring-spec : {M : Type 1} → statement M
 read-screens-ring-spec = tie.close (tie.spec read-screen-ring-requires read-screen-ring-requires-2 same-length returns same-length-2 returns-2)

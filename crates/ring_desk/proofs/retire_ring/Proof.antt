@@ -21,16 +21,21 @@ abbrev found : tie.Start → Desk
 found o = decodeRing (o .args .s) (wordsOfBytes (o .args .r .now))
 
 -- a session is owed
-owes : (c : tie.Else1) → let after-slice-known = c .before .before .before in let start = after-slice-known .before in
+owes : (c : tie.Else1) →
+    let after-slice-known = c .before .before .before in let start = after-slice-known .before in
     eqb (found start .owed) 0 ≡ false
 owes c =
     let after-slice-known = c .before .before .before in let start = after-slice-known .before in
     ne-eqb (found start .owed) 0 (λ z. c .if1 .left (c .before .word .ensures ∙ owed-word (start .args .s) (wordsOfBytes (start .args .r .now)) (start .pre .0) ∙ z))
 
 -- the slots that are used
-used : (c : tie.After-used-slots) → let after-word-arg2 = c .before .before .before in let after-word-arg = after-word-arg2 .before .before .before in let start = after-word-arg .before .before in
+used : (c : tie.After-used-slots) →
+    let after-word-arg2 = c .before .before .before in let after-word-arg = after-word-arg2 .before .before .before in
+    let start = after-word-arg .before .before in
     c .used-slots .result ≡ usedSlots (found start)
-used c = let after-word-arg2 = c .before .before .before in let after-word-arg = after-word-arg2 .before .before .before in let start = after-word-arg .before .before in
+used c =
+    let after-word-arg2 = c .before .before .before in let after-word-arg = after-word-arg2 .before .before .before in
+    let start = after-word-arg .before .before in
     c .used-slots .ensures .0 ∙ used-count (start .args .s) (wordsOfBytes (start .args .r .now)) (start .pre .0)
 
 word-requires : tie.Need-word-requires
@@ -42,7 +47,8 @@ same-length c = search needs
 returns : tie.Need-returns
 returns c =
     let after-slice-known = c .before .before .before in let start = after-slice-known .before in
-    let none : eqb (found start .owed) 0 ≡ _ = eq-eqb (found start .owed) 0 (sym (owed-word (start .args .s) (wordsOfBytes (start .args .r .now)) (start .pre .0)) ∙ sym (c .before .word .ensures) ∙ c .if1 .taken) in
+    let none : eqb (found start .owed) 0 ≡ _ =
+    eq-eqb (found start .owed) 0 (sym (owed-word (start .args .s) (wordsOfBytes (start .args .r .now)) (start .pre .0)) ∙ sym (c .before .word .ensures) ∙ c .if1 .taken) in
     record { number = simp none; session = refl; after = refl }
 
 word-requires-2 : tie.Need-word-requires-2
@@ -61,7 +67,11 @@ returns-2 : tie.Need-returns-2
 returns-2 c =
     let after-word2 = c .before .before .before in let else1 = after-word2 .before .before in
     let after-slice-known = else1 .before .before .before in let start = after-slice-known .before in
-    record { number = simp (owes else1, le-ltb (usedSlots (found start)) (2 * start .args .s) (omega (arith, used (c .before), c .if2 .taken))); session = refl; after = refl }
+    record {
+      number = simp (owes else1, le-ltb (usedSlots (found start)) (2 * start .args .s) (omega (arith, used (c .before), c .if2 .taken)));
+      session = refl;
+      after = refl;
+    }
 
 beginning-requires : tie.Need-beginning-requires
 beginning-requires c κs =
@@ -115,11 +125,13 @@ returns-3 c =
     let p = after-slot-after .slot-after .result in
     let waiting = after-word2 .word2 .result in
     let slot = after-slot-after .slot-after .ensures .0 ∙ ap (λ (b : ℕ). slotAfter s b n) (after-beginning .beginning .ensures .0) in
-    let stored = c .before .before .put-word3 .ensures .holds ∙ ap (λ (x : List _). set x 0 0) (after-put-word2 .put-word2 .ensures .holds ∙ ap (λ (x : List _). set x 4 (waiting + 1)) (after-put-word .put-word .ensures .holds)) in
+    let stored = c .before .before .put-word3 .ensures .holds
+    ∙ ap (λ (x : List _). set x 0 0) (after-put-word2 .put-word2 .ensures .holds ∙ ap (λ (x : List _). set x 4 (waiting + 1)) (after-put-word .put-word .ensures .holds)) in
     record {
       number = simp (owes else1, lt-ltb (usedSlots (found start)) (2 * s) (omega (arith, used after-used-slots, else2 .if2 .left)));
       session = after-word .word .ensures ∙ owed-word s words (start .pre .0);
-      after = stored ∙ (λ i. set (set (set words (listOffset + p) (after-word .word .ensures i)) 4 (after-word2 .word2 .ensures i + 1)) 0 0) ∙ retire-stores s words (start .pre .0) n p (used after-used-slots) (omega (arith, else2 .if2 .left)) slot;
+      after = stored ∙ (λ i. set (set (set words (listOffset + p) (after-word .word .ensures i)) 4 (after-word2 .word2 .ensures i + 1)) 0 0)
+          ∙ retire-stores s words (start .pre .0) n p (used after-used-slots) (omega (arith, else2 .if2 .left)) slot;
     }
 
 pub retire-ring-spec : {M : Type 1} → statement M

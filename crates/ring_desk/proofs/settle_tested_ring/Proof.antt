@@ -22,16 +22,23 @@ found o = decodeRing (o .args .s) (wordsOfBytes (o .args .r .now))
 
 -- its counts, as the code has them
 record Counts (c : tie.After-count3) : Type 0 where
-  pub ready : let after-count-arg2 = c .before .before .before in let after-count = after-count-arg2 .before in let start = after-count .before .before .before in
+  pub ready :
+      let after-count-arg2 = c .before .before .before in let after-count = after-count-arg2 .before in
+      let start = after-count .before .before .before in
       after-count .count .result ≡ length (found start .ready)
-  pub tested : let after-count-arg2 = c .before .before .before in let after-slice-known = after-count-arg2 .before .before .before in let start = after-slice-known .before in
+  pub tested :
+      let after-count-arg2 = c .before .before .before in let after-slice-known = after-count-arg2 .before .before .before in
+      let start = after-slice-known .before in
       c .before .before .count2 .result ≡ length (found start .tested)
-  pub waiting : let after-count-arg2 = c .before .before .before in let after-slice-known = after-count-arg2 .before .before .before in let start = after-slice-known .before in
+  pub waiting :
+      let after-count-arg2 = c .before .before .before in let after-slice-known = after-count-arg2 .before .before .before in
+      let start = after-slice-known .before in
       c .count3 .result ≡ length (found start .waiting)
 
 counts : (c : tie.After-count3) → Counts c
 counts c =
-    let after-count-arg2 = c .before .before .before in let after-count = after-count-arg2 .before in let start = after-count .before .before .before in
+    let after-count-arg2 = c .before .before .before in let after-count = after-count-arg2 .before in
+    let start = after-count .before .before .before in
     let words = wordsOfBytes (start .args .r .now) in
     record {
       ready = after-count .count .ensures .0 ∙ ready-count (start .args .s) words (start .pre .0);
@@ -123,8 +130,10 @@ returns c =
     let known = counts after-count3 in
     let a = after-count .count .result + (after-count2 .count2 .result - after-part-tested-ring .part-tested-ring .result) in
     let w = after-count3 .count3 .result + after-part-tested-ring .part-tested-ring .result in
-    let ready : a ≡ length (D .ready ++ unmarkedOf (D .tested)) = omega (arith, known .ready, known .tested, after-part-tested-ring .part-tested-ring .ensures .0, unmarked-and-marked (D .tested), length-append (D .ready) (unmarkedOf (D .tested))) in
-    let waiting : w ≡ length (markedOf (D .tested) ++ D .waiting) = omega (arith, known .waiting, after-part-tested-ring .part-tested-ring .ensures .0, length-append (markedOf (D .tested)) (D .waiting)) in
+    let ready : a ≡ length (D .ready ++ unmarkedOf (D .tested)) =
+    omega (arith, known .ready, known .tested, after-part-tested-ring .part-tested-ring .ensures .0, unmarked-and-marked (D .tested), length-append (D .ready) (unmarkedOf (D .tested))) in
+    let waiting : w ≡ length (markedOf (D .tested) ++ D .waiting) =
+    omega (arith, known .waiting, after-part-tested-ring .part-tested-ring .ensures .0, length-append (markedOf (D .tested)) (D .waiting)) in
     let most : length (D .tested) ≤ allMarks = omega (arith, start .pre .0 .reads .room, start .pre .0 .reads .bounded) in
     let first = after-put-word .put-word .ensures .holds ∙ ap (λ (x : List ℕ). set x 1 0) (after-part-tested-ring .part-tested-ring .ensures .1) in
     let second = after-put-word2 .put-word2 .ensures .holds ∙ ap (λ (x : List ℕ). set x 2 a) first in

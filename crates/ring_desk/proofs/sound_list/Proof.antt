@@ -19,8 +19,9 @@ lacks-around-requires c κs = search needs
 
 returns : tie.Need-returns
 returns c =
-    let words = wordsOfBytes (c .before .before .before .args .l .now) in
-    sym (ap (λ (passed : Bool). passed && allZero (drop (c .before .before .before .args .n) (rotate (c .before .before .before .args .b) words))) (sym (c .before .lacks-around .ensures) ∙ not-true (c .if1 .taken)))
+    let start = c .before .before .before in
+    let words = wordsOfBytes (start .args .l .now) in
+    sym (ap (λ (passed : Bool). passed && allZero (drop (start .args .n) (rotate (start .args .b) words))) (sym (c .before .lacks-around .ensures) ∙ not-true (c .if1 .taken)))
 
 slot-after-requires : tie.Need-slot-after-requires
 slot-after-requires c κs = search needs
@@ -44,7 +45,8 @@ returns-2 c =
     let words = wordsOfBytes (start .args .l .now) in
     let long = length-words (start .args .l .now) in
     let rest = ap (λ (e : ℕ). take (2 * s - n) (rotate e words)) (c .before .slot-after .ensures .0) ∙ around-rest s b words (omega arith) (given .2) n (given .3) in
-    c .zero-around .ensures ∙ ap allZero rest ∙ sym (ap (λ (passed : Bool). passed && allZero (drop n (rotate b words))) (sym (c .before .before .before .lacks-around .ensures) ∙ not-false (c .before .before .if1 .left)))
+    c .zero-around .ensures ∙ ap allZero rest
+    ∙ sym (ap (λ (passed : Bool). passed && allZero (drop n (rotate b words))) (sym (after-lacks-around .lacks-around .ensures) ∙ not-false (c .before .before .if1 .left)))
 
 pub sound-list-spec : {M : Type 1} → statement M
 sound-list-spec = tie.close (tie.spec lacks-around-requires returns slot-after-requires mul-zero-around sub-zero-around zero-around-requires returns-2)

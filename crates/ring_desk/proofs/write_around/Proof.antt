@@ -54,7 +54,9 @@ loop-again c =
       omega arith,
       c .before .before .put-word .kept .0 ∙ same,
       ap (rotate (start .args .a)) (c .before .before .put-word .ensures .holds ∙ ap (set (wordsOfBytes (at-loop .loop .l)) (after-slot-after .slot-after .result)) (after-word .word .ensures))
-          ∙ write-next (start .args .s) (start .args .a) (wordsOfBytes (start .args .l .now)) (wordsOfBytes (at-loop .loop .l)) (wordsOfBytes (start .args .part .now)) (at-loop .loop .i) (after-slot-after .slot-after .result) (omega (arith, start .pre .1)) (omega (arith, start .pre .1)) (start .pre .2) (omega (arith, in-loop .loop-test .taken)) (omega (arith, start .pre .3)) (after-slot-after .slot-after .ensures .0) (at-loop .loop .inv .2),
+          ∙ write-next (start .args .s) (start .args .a) (wordsOfBytes (start .args .l .now)) (wordsOfBytes (at-loop .loop .l))
+          (wordsOfBytes (start .args .part .now)) (at-loop .loop .i) (after-slot-after .slot-after .result)
+          (omega (arith, start .pre .1)) (omega (arith, start .pre .1)) (start .pre .2) (omega (arith, in-loop .loop-test .taken)) (omega (arith, start .pre .3)) (after-slot-after .slot-after .ensures .0) (at-loop .loop .inv .2),
     )
 
 same-length : tie.Need-same-length Inv-loop μ-loop
