@@ -1,5 +1,5 @@
--- What the code does to a ring's record, store by store, beside the record of the first board that it reads as: the laws of `desk` then
--- say the rest.
+-- What the code does to a ring's record, store by store, beside the record of the first board that it reads as: each part of the code is
+-- then the law of `desk` about that record.
 use Prim.Native.Nat.{ℕ, _+_, _-_, _*_, _≤_, _<_}
 use native.Mathlib.Omega.{arith}
 use mathlib.Core.Bool.{Bool, true, false, cond}

@@ -42,7 +42,8 @@ parted-slots D =
     let all = unmarkedOf (D .tested) ++ markedOf (D .tested) in
     omega (arith, length-map all unmarked, length-append (unmarkedOf (D .tested)) (markedOf (D .tested)), unmarked-and-marked (D .tested))
 
--- ---- (d): the list of a desk without its first session
+-- ---- (d): the list of a desk without its first session. A zero comes behind its last slot, so the slot that the session leaves, which is now
+-- the last one, must hold 0.
 slots-handed : (q : ℕ) (ready rest : List ℕ) → 0 < length ready → length (ready ++ rest) ≤ q
     → drop 1 ((ready ++ rest) ++ replicate (q - length (ready ++ rest)) 0) ++ (0 ∷ []) ≡ (drop 1 ready ++ rest) ++ replicate (q - length (drop 1 ready ++ rest)) 0
 slots-handed q [] rest some room = absurd (omega arith)
@@ -109,6 +110,7 @@ module _ (s : ℕ) (r : List ℕ) (e : RingEncoded s r) where
   pub parted-same : length (markedOf (D .tested)) ≡ 0 → r ≡ withDesk s r (parted D)
   parted-same none = ring-same s r e ∙ ap (λ (desk : Desk). withDesk s r desk) (parted-none D none)
 
+  -- Read from the beginning on, and from there past the ready ones, the list starts with the tested slots: they are what the code partitions.
   pub parted-stores : (a n k : ℕ) (m : List ℕ) → n ≡ getD r 3 0 → a ≡ slotAfter s b (getD r 2 0) → Counted s w k m → (slots' zeros : List ℕ)
       → length slots' ≡ 2 * s → Parted (slotsIn s r) (marks m) a n slots' → zeros ≡ replicate markWords 0
       → putMid marksOffset markWords (putMid listOffset (listOffset + 2 * s - listOffset) r slots') zeros ≡ withDesk s r (parted D)
