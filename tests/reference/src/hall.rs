@@ -1,6 +1,6 @@
 //! The hall: its three numbers, and the location of each part in the table.
 
-use super::{ask, Limits, Refusal};
+use super::{ask, Limits, List, Refusal};
 use std::ops::Range;
 
 /// Words before the first position: the hall's three numbers.
@@ -12,6 +12,7 @@ pub struct Hall {
     /// Of one desk.
     pub screens: u16,
     pub positions: u16,
+    pub list: List,
 }
 
 impl Hall {
@@ -21,7 +22,7 @@ impl Hall {
         ask((1..=Limits::HALL.desks).contains(&desks), Refusal::BadDesks)?;
         ask((1..=Limits::HALL.screens).contains(&screens), Refusal::BadScreens)?;
         ask((1..=Limits::HALL.positions).contains(&positions), Refusal::BadPositions)?;
-        let hall = Hall { desks, screens, positions };
+        let hall = Hall { desks, screens, positions, list: limits.list };
         ask(limits.allow(&hall), Refusal::OverLimits)?;
         Ok(hall)
     }
@@ -60,18 +61,28 @@ impl Hall {
         first..first + self.record_length()
     }
 
-    /// The word of a desk's next message number: document 01, for Job 6, "the last of
-    /// the desk's record".
+    /// The word of a desk's next message number, behind its list. Document 01: "Job 6's
+    /// word is the last of the desk's record; Job 9's comes after it."
     pub fn message(&self, desk: u16) -> usize {
-        self.record(desk).end - 1
+        self.record(desk).start + super::place::LIST + self.places()
+    }
+
+    /// The word that says at which place a desk's list begins; only a ring has it.
+    pub fn beginning(&self, desk: u16) -> Option<usize> {
+        (self.list == List::Ring).then(|| self.message(desk) + 1)
+    }
+
+    /// The places of a list.
+    pub fn places(&self) -> usize {
+        2 * self.all_screens()
     }
 
     fn records(&self) -> usize {
         self.screens_of_hall().end
     }
 
-    /// Up to the list, the list, and the next message number.
+    /// Up to the list, the list, and the words behind it.
     fn record_length(&self) -> usize {
-        super::place::LIST + 2 * self.all_screens() + 1
+        super::place::LIST + self.places() + self.list.words_behind()
     }
 }

@@ -2,11 +2,12 @@
 //!
 //! The board is compared with it, so the two share no code. The table is a
 //! slice of bytes, two to a word, low byte first; an odd last byte is not part
-//! of it. Every call is told the limits of its room, the hall or the training room,
-//! and every step its message number.
+//! of it. Every call is told the limits of its room, the hall or the training room, and
+//! whether the lists are rings, and every step its message number.
 
 mod hall;
 mod limits;
+mod reading;
 mod record;
 mod run;
 pub mod sheet;
@@ -14,7 +15,8 @@ mod sound;
 mod words;
 
 pub use self::hall::Hall;
-pub use self::limits::Limits;
+pub use self::limits::{Limits, List};
+pub use self::reading::first_board;
 pub use self::record::place;
 pub use self::run::run;
 pub use self::sound::is_sound;
@@ -177,8 +179,8 @@ fn step(
 
 /// The number that a desk's next message must carry, also where the table is not
 /// sound; `None` if its hall does not have the desk, or it is too short for it.
-pub fn next_message(table: &[u8], desk: u16) -> Option<u16> {
-    let hall = header(Limits::HALL, table)?;
+pub fn next_message(list: List, table: &[u8], desk: u16) -> Option<u16> {
+    let hall = header(Limits { list, ..Limits::HALL }, table)?;
     let has_desk = (1..=hall.desks).contains(&desk) && hall.message(desk) < words::count(table);
     has_desk.then(|| word(table, hall.message(desk)))
 }
@@ -211,5 +213,5 @@ fn screens_and_record<'a>(hall: &Hall, desk: u16, table: &'a mut [u8]) -> (&'a [
     let screens = words::bytes(hall.screens_of_hall());
     let record = words::bytes(hall.record(desk));
     let (before, from_record) = table.split_at_mut(record.start);
-    (&before[screens], Record::new(&mut from_record[..record.len()]))
+    (&before[screens], Record::new(hall.list, &mut from_record[..record.len()]))
 }

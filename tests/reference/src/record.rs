@@ -1,7 +1,9 @@
 //! A desk's record: what it owes, and its list with the current reading. Behind the
-//! list is the desk's next message number, which only `step` reads and writes.
+//! list is the desk's next message number, which only `step` reads and writes, and of a
+//! ring where it begins.
 
 use super::words::{set_word, word};
+use super::List;
 
 /// The words of a record.
 pub mod place {
@@ -26,9 +28,25 @@ pub fn marks(record: &[u8]) -> u128 {
     u128::from_le_bytes(bytes)
 }
 
-/// The places of the list: the words from there on but the last.
-pub fn list(record: &[u8]) -> &[u8] {
-    &record[2 * place::LIST..record.len() - 2]
+/// How many places the list has: the words from there on but those behind it.
+fn places(list: List, record: &[u8]) -> usize {
+    record.len() / 2 - place::LIST - list.words_behind()
+}
+
+/// At which place the list begins.
+fn beginning(list: List, record: &[u8]) -> usize {
+    match list {
+        List::Straight => 0,
+        List::Ring => usize::from(word(record, record.len() / 2 - 1)),
+    }
+}
+
+/// The places of the list in its order: those from its beginning on, then those before.
+/// `None` if there is no such place.
+pub fn list(list: List, record: &[u8]) -> Option<[&[u8]; 2]> {
+    let (beginning, places) = (beginning(list, record), places(list, record));
+    let all = &record[2 * place::LIST..][..2 * places];
+    (beginning < places).then(|| [&all[2 * beginning..], &all[..2 * beginning]])
 }
 
 fn is_marked(marks: u128, tested_place: usize) -> bool {
@@ -36,12 +54,13 @@ fn is_marked(marks: u128, tested_place: usize) -> bool {
 }
 
 pub struct Record<'a> {
+    list: List,
     bytes: &'a mut [u8],
 }
 
 impl<'a> Record<'a> {
-    pub fn new(bytes: &'a mut [u8]) -> Self {
-        Record { bytes }
+    pub fn new(list: List, bytes: &'a mut [u8]) -> Self {
+        Record { list, bytes }
     }
 
     pub fn owed(&self) -> u16 {
@@ -127,15 +146,31 @@ impl<'a> Record<'a> {
         self.set_marks(0);
     }
 
-    /// The first ready session leaves the list, the rest move up one place.
+    /// The first ready session leaves the list.
     fn hand_back(&mut self) -> u16 {
         let session = self.listed(0);
+        match self.list {
+            List::Straight => self.move_up(),
+            List::Ring => self.turn(),
+        }
+        self.set(place::READY, self.ready() - 1);
+        session
+    }
+
+    /// The rest move up one place.
+    fn move_up(&mut self) {
         let used = self.used();
         let list = &mut self.bytes[2 * place::LIST..];
         list.copy_within(2..2 * used, 0);
         self.set_listed(used - 1, 0);
-        self.set(place::READY, self.ready() - 1);
-        session
+    }
+
+    /// Document 02, Job 9: "only a hand-back changes it, by one place around". The place
+    /// that it leaves is unused, so 0.
+    fn turn(&mut self) {
+        self.set_listed(0, 0);
+        let beginning = self.bytes.len() / 2 - 1;
+        self.set(beginning, self.around(1));
     }
 
     fn scanned(&self) -> usize {
@@ -164,11 +199,23 @@ impl<'a> Record<'a> {
     }
 
     fn listed(&self, at: usize) -> u16 {
-        word(self.bytes, place::LIST + at)
+        word(self.bytes, place::LIST + self.around(at))
     }
 
     fn set_listed(&mut self, at: usize, session: u16) {
-        set_word(self.bytes, place::LIST + at, session);
+        let place = place::LIST + self.around(at);
+        set_word(self.bytes, place, session);
+    }
+
+    /// The place that is so many after the beginning of the list.
+    fn around(&self, by: usize) -> usize {
+        let (place, places) =
+            (beginning(self.list, self.bytes) + by, places(self.list, self.bytes));
+        if place < places {
+            place
+        } else {
+            place - places
+        }
     }
 
     fn set_marks(&mut self, marks: u128) {

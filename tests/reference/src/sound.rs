@@ -16,8 +16,7 @@ pub fn sound_hall(limits: Limits, table: &[u8]) -> Option<Hall> {
     let hall = header(limits, table)?;
     let long_enough = count(table) >= hall.need();
     let sound = long_enough
-        && (1..=hall.desks)
-            .all(|desk| sound_record(&table[bytes(hall.record(desk))], hall.all_screens()));
+        && (1..=hall.desks).all(|desk| sound_record(&hall, &table[bytes(hall.record(desk))]));
     sound.then_some(hall)
 }
 
@@ -29,22 +28,30 @@ pub fn header(limits: Limits, table: &[u8]) -> Option<Hall> {
     Hall::new(limits, word(table, 0), word(table, 1), word(table, 2)).ok()
 }
 
-fn sound_record(record: &[u8], all_screens: usize) -> bool {
+/// Document 02, Job 9: of a ring, "its soundness (5) asks also that the beginning is less
+/// than 2S."
+fn sound_record(hall: &Hall, record: &[u8]) -> bool {
+    let all_screens = hall.all_screens();
     let number = |at| usize::from(word(record, at));
     let tested = number(place::TESTED);
     // The sum is one of numbers, not of 16-bit words: it cannot wrap.
     let used = number(place::READY) + tested + number(place::WAITING);
     used <= 2 * all_screens
-        && sound_list(list(record), used)
+        && list(hall.list, record).is_some_and(|list| sound_list(list, used))
         && sound_marks(marks(record), tested)
         && sound_reading(number(place::SCANNED), tested, all_screens)
         && marks(record).count_ones() as usize <= number(place::SCANNED)
 }
 
-/// Used places are not 0, unused ones are. Neither loop exits early, so the
-/// compiler can vectorise them.
-fn sound_list(list: &[u8], used: usize) -> bool {
-    let (used, unused) = list.split_at(2 * used);
+/// Used places are not 0, unused ones are, in the order of the list.
+fn sound_list([first, rest]: [&[u8]; 2], used: usize) -> bool {
+    let of_first = used.min(count(first));
+    sound_places(first, of_first) && sound_places(rest, used - of_first)
+}
+
+/// Neither loop exits early, so the compiler can vectorise them.
+fn sound_places(places: &[u8], used: usize) -> bool {
+    let (used, unused) = places.split_at(2 * used);
     let none_is_zero = used.chunks_exact(2).fold(true, |none, place| none & (word(place, 0) != 0));
     let all_are_zero = unused.iter().fold(0, |seen, byte| seen | byte) == 0;
     none_is_zero && all_are_zero

@@ -1,6 +1,7 @@
 //! The hall book of document 01, cases A to K and M. (L is in day_sheet.) All but
-//! B, whose hall is too large for it, in the training room too. Document 02, Job 6:
-//! "The need grows by P words, so cases A and B say 21 and 2,403".
+//! B, whose hall is too large for it, in the training room too, and with rings for lists
+//! (ring.rs has their A and B). Document 02, Job 6: "The need grows by P words, so cases A
+//! and B say 21 and 2,403".
 
 mod board;
 
@@ -38,7 +39,7 @@ fn case_b() {
 /// A first swap fills the position, so that each of the three replaces one.
 #[test]
 fn case_c() {
-    for mut board in Board::open_in_both_rooms(1, 1, 1) {
+    for mut board in Board::open_every_kind(1, 1, 1) {
         assert_eq!(board.swap(1, 1, 10), Ok(0));
         for session in [10, 20] {
             assert_eq!(board.swap(1, 1, session + 10), Ok(session));
@@ -52,7 +53,7 @@ fn case_c() {
 
 #[test]
 fn case_d() {
-    for mut board in Board::open_in_both_rooms(1, 1, 1) {
+    for mut board in Board::open_every_kind(1, 1, 1) {
         assert_eq!(board.swap(1, 1, 300), Ok(0));
         assert_eq!(board.take(1, 1, 1), Ok(300));
         assert_eq!(board.swap(1, 1, 7), Ok(300));
@@ -66,7 +67,7 @@ fn case_d() {
 
 #[test]
 fn case_e() {
-    for mut board in Board::open_in_both_rooms(2, 1, 2) {
+    for mut board in Board::open_every_kind(2, 1, 2) {
         board.wait(1, &[5, 5]);
         board.show(2, 1, 5);
         assert_eq!(board.collect(1), Ok(5));
@@ -76,7 +77,7 @@ fn case_e() {
 
 #[test]
 fn case_f() {
-    for mut board in Board::open_in_both_rooms(3, 1, 2) {
+    for mut board in Board::open_every_kind(3, 1, 2) {
         board.wait(1, &[5]);
         board.show(1, 1, 5);
         assert_eq!(board.collect(1), Ok(0));
@@ -87,7 +88,7 @@ fn case_f() {
 
 #[test]
 fn case_g() {
-    for mut board in Board::open_in_both_rooms(3, 1, 2) {
+    for mut board in Board::open_every_kind(3, 1, 2) {
         board.wait(1, &[5]);
         assert_eq!(board.collect(1), Ok(0));
         board.wait(1, &[6]);
@@ -97,7 +98,7 @@ fn case_g() {
 
 #[test]
 fn case_h() {
-    for mut board in Board::open_in_both_rooms(1, 1, 2) {
+    for mut board in Board::open_every_kind(1, 1, 2) {
         board.show(1, 1, 5);
         assert_eq!(board.take(1, 1, 1), Err(Refusal::ScreenFull));
     }
@@ -105,14 +106,14 @@ fn case_h() {
 
 #[test]
 fn case_i() {
-    for mut board in Board::open_in_both_rooms(1, 1, 1) {
+    for mut board in Board::open_every_kind(1, 1, 1) {
         board.changes_nothing(Step::Collect(1), 0);
     }
 }
 
 #[test]
 fn case_j() {
-    for mut board in Board::open_in_both_rooms(1, 1, 1) {
+    for mut board in Board::open_every_kind(1, 1, 1) {
         assert_eq!(board.swap(1, 1, 0), Ok(0));
         assert_eq!(board.retire(1), Err(Refusal::OwesNothing));
     }
@@ -120,7 +121,7 @@ fn case_j() {
 
 #[test]
 fn case_k() {
-    for mut board in Board::open_in_both_rooms(1, 1, 1) {
+    for mut board in Board::open_every_kind(1, 1, 1) {
         assert_eq!(board.swap(1, 1, 5), Ok(0));
         assert_eq!(board.swap(1, 1, 6), Ok(5));
         assert_eq!(board.swap(1, 1, 7), Err(Refusal::Owing));
@@ -129,7 +130,7 @@ fn case_k() {
 
 #[test]
 fn case_m() {
-    for mut board in Board::open_in_both_rooms(3, 1, 2) {
+    for mut board in Board::open_every_kind(3, 1, 2) {
         board.wait(1, &[5]);
         board.show(3, 1, 5);
         assert_eq!(board.collect(1), Ok(0));

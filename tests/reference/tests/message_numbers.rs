@@ -62,7 +62,7 @@ fn an_opening_starts_at_0() {
 fn accepted() -> Vec<(Board, Step)> {
     let mut all = Vec::new();
     for step in [Take(1, 1, 1), Drop(1, 1), Swap(1, 1, 6), Retire(1), Collect(1)] {
-        for mut board in Board::open_in_both_rooms(2, 1, 2) {
+        for mut board in Board::open_every_kind(2, 1, 2) {
             board.wait(1, &[8]);
             assert_eq!(board.swap(1, 1, 5), Ok(0));
             match step {
@@ -122,7 +122,7 @@ fn once_around() {
 /// Wrong: a refused call moves the number on too.
 #[test]
 fn a_refused_call_may_be_sent_again() {
-    for mut board in Board::open_in_both_rooms(2, 1, 1) {
+    for mut board in Board::open_every_kind(2, 1, 1) {
         assert_eq!(board.send(0, Take(1, 1, 1)), Err(Refusal::PositionEmpty));
         assert_eq!(board.send(0, Drop(1, 1)), Err(Refusal::ScreenEmpty));
         assert_eq!(board.send(0, Retire(1)), Err(Refusal::OwesNothing));
@@ -141,7 +141,7 @@ fn a_refused_call_may_be_sent_again() {
 /// Wrong: a repeat of what stands at the position does not move the number on.
 #[test]
 fn a_repeat_moves_it_on() {
-    for mut board in Board::open_in_both_rooms(1, 1, 1) {
+    for mut board in Board::open_every_kind(1, 1, 1) {
         assert_eq!(board.send(0, Swap(1, 1, 0)), Ok(0));
         assert_eq!(board.send(0, Swap(1, 1, 0)), OTHER);
         assert_eq!(board.send(1, Swap(1, 1, 5)), Ok(0));
@@ -155,7 +155,7 @@ fn a_repeat_moves_it_on() {
 /// changes nothing else.
 #[test]
 fn a_collect_of_nothing_moves_it_on() {
-    for mut board in Board::open_in_both_rooms(3, 1, 1) {
+    for mut board in Board::open_every_kind(3, 1, 1) {
         assert_eq!(board.send(0, Collect(2)), Ok(0));
         assert_eq!(board.send(0, Collect(2)), OTHER);
         assert_eq!(board.send(1, Collect(2)), Ok(0));
@@ -170,7 +170,7 @@ fn a_collect_of_nothing_moves_it_on() {
 /// "a repeated collect loses a session for good": no longer.
 #[test]
 fn a_collect_sent_twice_loses_nothing() {
-    for mut board in Board::open_in_both_rooms(1, 1, 1) {
+    for mut board in Board::open_every_kind(1, 1, 1) {
         board.wait(1, &[5, 6]);
         let message = board.next(1).unwrap();
         assert_eq!(board.send(message, Collect(1)), Ok(5));
@@ -183,7 +183,7 @@ fn a_collect_sent_twice_loses_nothing() {
 /// Wrong: 23 is asked before 5 or 6.
 #[test]
 fn soundness_and_the_desk_are_asked_first() {
-    for mut board in Board::open_in_both_rooms(2, 1, 1) {
+    for mut board in Board::open_every_kind(2, 1, 1) {
         (1..=2).for_each(|desk| board.set_next(desk, 300));
         let of_desk =
             |desk| [Take(desk, 1, 1), Drop(desk, 1), Swap(desk, 1, 5), Retire(desk), Collect(desk)];
@@ -236,7 +236,7 @@ fn it_is_asked_before_the_rest() {
 /// Wrong: there is one number for the whole hall, or that of another desk is asked.
 #[test]
 fn each_desk_counts_for_itself() {
-    for mut board in Board::open_in_both_rooms(3, 1, 1) {
+    for mut board in Board::open_every_kind(3, 1, 1) {
         for (desk, next) in [(1, 300), (2, 0), (3, 65_535)] {
             board.set_next(desk, next);
         }

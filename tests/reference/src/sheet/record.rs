@@ -119,7 +119,7 @@ pub fn step(
     [desk, screen, position, session]: Fields,
     table: &mut [u8],
 ) -> Reply {
-    let message = next_message(table, desk).unwrap_or(0);
+    let message = next_message(limits.list, table, desk).unwrap_or(0);
     match code {
         TAKE => take(limits, message, desk, screen, position, table),
         DROP => drop(limits, message, desk, screen, table),

@@ -71,9 +71,9 @@ impl Board {
         Board { limits, hall, table }
     }
 
-    /// Two of them: one in the hall, one in the training room.
-    pub fn open_in_both_rooms(desks: u16, screens: u16, positions: u16) -> [Board; 2] {
-        [Limits::HALL, Limits::TRAINING]
+    /// Three of them: in the hall, in the training room, and with rings for lists.
+    pub fn open_every_kind(desks: u16, screens: u16, positions: u16) -> [Board; 3] {
+        [Limits::HALL, Limits::TRAINING, Limits::RING]
             .map(|limits| Board::open_in(limits, desks, screens, positions))
     }
 
@@ -113,7 +113,7 @@ impl Board {
                 assert!(reference::is_sound(self.limits, &self.table));
                 for desk in 1..=self.hall.desks {
                     let moved_by = u16::from(desk == step.desk());
-                    let old = next_message(&before, desk).unwrap();
+                    let old = next_message(self.hall.list, &before, desk).unwrap();
                     assert_eq!(self.next(desk), Some(old.wrapping_add(moved_by)));
                 }
             }
@@ -139,7 +139,7 @@ impl Board {
 
     /// The desk's next message number.
     pub fn next(&self, desk: u16) -> Option<u16> {
-        next_message(&self.table, desk)
+        next_message(self.hall.list, &self.table, desk)
     }
 
     pub fn set_next(&mut self, desk: u16, message: u16) {
@@ -171,15 +171,27 @@ impl Board {
         assert_eq!(self.take(desk, screen, last), Ok(session));
     }
 
+    /// In its order: from its beginning on, and around the end of a ring.
     pub fn list(&self, desk: u16) -> List {
-        let places = 2 * self.hall.all_screens() as u16;
-        let sessions = (0..places).map(|at| self.record(desk, place::LIST + usize::from(at)));
+        let (places, beginning) = (self.hall.places(), usize::from(self.beginning(desk)));
+        let slots = (0..places).map(|at| place::LIST + (beginning + at) % places);
+        let sessions = slots.map(|slot| self.record(desk, slot));
         List {
             ready: self.record(desk, place::READY),
             tested: self.record(desk, place::TESTED),
             waiting: self.record(desk, place::WAITING),
             sessions: sessions.take_while(|&session| session != 0).collect(),
         }
+    }
+
+    /// The place at which the desk's list begins.
+    pub fn beginning(&self, desk: u16) -> u16 {
+        self.hall.beginning(desk).map_or(0, |at| word(&self.table, at))
+    }
+
+    pub fn set_beginning(&mut self, desk: u16, beginning: u16) {
+        let at = self.hall.beginning(desk).expect("a ring");
+        set_word(&mut self.table, at, beginning);
     }
 
     pub fn record(&self, desk: u16, at: usize) -> u16 {
