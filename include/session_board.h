@@ -2,7 +2,8 @@
  * The session board: six calls on a table that the host lends, for the hall
  * (board_open to board_collect) and for a training room (training_open to
  * training_collect, at the end of this file). In the hall one more call does a
- * whole run of steps (board_run).
+ * whole run of steps (board_run). A second board of the hall hands sessions back
+ * in fewer stores (ring_open to ring_collect, also at the end).
  *
  * The table is bytes, two to a 16-bit word, low byte first; its length is given
  * in bytes. It may be at any address. A call reads the words up to the need of
@@ -94,6 +95,9 @@ extern "C" {
 #define BOARD_MAX_WORDS 2403 /* the need of the largest hall */
 #define BOARD_MAX_BYTES (2 * BOARD_MAX_WORDS)
 
+#define RING_MAX_WORDS 2419 /* the need of the largest hall, on the board with rings */
+#define RING_MAX_BYTES (2 * RING_MAX_WORDS)
+
 #define BOARD_STEP_WORDS 6  /* of a step in a run */
 #define BOARD_REPLY_WORDS 2 /* of its reply */
 
@@ -145,6 +149,12 @@ enum board_code {
 static inline size_t board_need(size_t desks, size_t screens, size_t positions)
 {
     return 3 + positions + desks * screens + desks * (14 + 2 * desks * screens);
+}
+
+/* The same on the board with rings. */
+static inline size_t ring_need(size_t desks, size_t screens, size_t positions)
+{
+    return board_need(desks, screens, positions) + desks;
 }
 
 static inline uint16_t board_number(uint32_t answer)
@@ -270,6 +280,81 @@ uint32_t training_swap(uint16_t message, uint16_t desk, uint16_t position, uint1
 uint32_t training_retire(uint16_t message, uint16_t desk, uint8_t *table, size_t bytes);
 
 uint32_t training_collect(uint16_t message, uint16_t desk, uint8_t *table, size_t bytes);
+
+/*
+ * The board with rings: a second board of the hall, on tables of its own. On the
+ * first board a collect that hands a session back moves the rest of the desk's list
+ * up one place, up to 127 words. Here the list stays where it is, and the place at
+ * which it begins moves on, from the last place around to the first.
+ *
+ * Each call has the parameters of its counterpart (board_open to board_collect),
+ * asks the same questions in the same order and gives the same answers, with the
+ * limits of the hall. board_run has no counterpart. Two things are different: the
+ * words of a table, and those that a retire and a collect write.
+ *
+ * The words of the table: those of the first board, and one more in each record, the
+ * last, behind the message number. This is the beginning, the place of the list,
+ * from 0, that holds its first session. With S screens in the hall a record has 15 +
+ * 2S words. With L positions the message number of desk d is word 3 + L + S + d * (15
+ * + 2S) - 2, counted from 0, and its beginning is the word after it. The need is one
+ * word more for each desk (ring_need). An opening sets every beginning to 0.
+ *
+ * The list has its sessions in the order of the first board, from the beginning on;
+ * after the last of the 2S places comes the first. The marks count in this order too:
+ * the first mark is of the first tested session, wherever it is. A table is sound (5)
+ * if every beginning is less than 2S and the table is sound on the first board once
+ * each list is read from its beginning. So the places that no session uses are 0,
+ * also the one that a session has just left.
+ *
+ * Only a hand-back, that is a collect whose answer has a session, changes the
+ * beginning, by one place. A retire leaves it, and so does a collect that hands
+ * nothing back; an empty list keeps it. After an opening the beginning of a desk is
+ * the number of its hand-backs, modulo 2S.
+ *
+ * A history of calls gets the answers that it would get from the first board, from an
+ * opening on, or from any sound table here and the first board's table that has its
+ * words, but each list read from its beginning, and no beginnings. After every call
+ * the two tables agree in the same way.
+ *
+ * Do not mix the calls of the two boards on a table: no call detects the other board's
+ * tables reliably. Most are unsound (5), but some pass as sound (here a first board's
+ * table of one desk with no session on its list, if it has one word to spare).
+ *
+ * A refused call leaves every byte of the table unchanged, as on the first board.
+ */
+
+/* As board_open: asks 1, 2, 3, 4. The need asked by 4 is ring_need. Writes the hall's
+ * three numbers and zeros up to this need. */
+uint32_t ring_open(uint16_t desks, uint16_t screens, uint16_t positions,
+                   uint8_t *table, size_t bytes);
+
+/* As board_take: asks 5, 6, 23, 7, 8, 9, 10. Writes the screen and the desk's message
+ * number. */
+uint32_t ring_take(uint16_t message, uint16_t desk, uint16_t screen, uint16_t position,
+                   uint8_t *table, size_t bytes);
+
+/* As board_drop: asks 5, 6, 23, 7, 11. Writes the screen and the desk's message
+ * number. */
+uint32_t ring_drop(uint16_t message, uint16_t desk, uint16_t screen,
+                   uint8_t *table, size_t bytes);
+
+/* As board_swap: asks 5, 6, 23, 8, 12. Writes the desk's message number. If this
+ * changes the position, it also writes the position and, unless the old session is 0,
+ * what the desk owes. */
+uint32_t ring_swap(uint16_t message, uint16_t desk, uint16_t position, uint16_t session,
+                   uint8_t *table, size_t bytes);
+
+/* As board_retire: asks 5, 6, 23, 13, 14. Writes what the desk owes, its count of
+ * waiting, the first unused place after its list, around the end if need be, and its
+ * message number. */
+uint32_t ring_retire(uint16_t message, uint16_t desk, uint8_t *table, size_t bytes);
+
+/* As board_collect: asks 5, 6, 23. Writes the desk's number of screens read, counts,
+ * marks and message number. If it hands a session back, it also writes 0 to the place
+ * that the session leaves, and the beginning. If it completes a reading of the screens
+ * in which some session was marked, it also writes the places of the sessions that were
+ * tested, to put the unmarked ones first. */
+uint32_t ring_collect(uint16_t message, uint16_t desk, uint8_t *table, size_t bytes);
 
 #ifdef __cplusplus
 }

@@ -1,5 +1,5 @@
-//! The calls of the archive as safe functions, the same six for each room, and the run
-//! of the hall: a slice always points to as many bytes as its length says. Inlined, so
+//! The calls of the archive as safe functions, the same six for each room and for the
+//! board with rings, and the run of the hall: a slice always points to as many bytes as its length says. Inlined, so
 //! that timing them times the calls alone.
 
 /// Its message number `m`, desk `d`, screen `s` and position `p`; an opening's `p`, `c`
@@ -29,6 +29,13 @@ mod c {
             -> u32;
         pub fn training_retire(m: u16, d: u16, table: *mut u8, bytes: usize) -> u32;
         pub fn training_collect(m: u16, d: u16, table: *mut u8, bytes: usize) -> u32;
+
+        pub fn ring_open(p: u16, c: u16, l: u16, table: *mut u8, bytes: usize) -> u32;
+        pub fn ring_take(m: u16, d: u16, s: u16, p: u16, table: *mut u8, bytes: usize) -> u32;
+        pub fn ring_drop(m: u16, d: u16, s: u16, table: *mut u8, bytes: usize) -> u32;
+        pub fn ring_swap(m: u16, d: u16, p: u16, new: u16, table: *mut u8, bytes: usize) -> u32;
+        pub fn ring_retire(m: u16, d: u16, table: *mut u8, bytes: usize) -> u32;
+        pub fn ring_collect(m: u16, d: u16, table: *mut u8, bytes: usize) -> u32;
     }
 }
 
@@ -37,7 +44,7 @@ type OfTwo = unsafe extern "C" fn(u16, u16, *mut u8, usize) -> u32;
 type OfThree = unsafe extern "C" fn(u16, u16, u16, *mut u8, usize) -> u32;
 type OfFour = unsafe extern "C" fn(u16, u16, u16, u16, *mut u8, usize) -> u32;
 
-/// The six calls of a room.
+/// The six calls of a room, or of the board with rings.
 pub struct Calls {
     open: OfThree,
     take: OfFour,
@@ -63,6 +70,15 @@ pub const TRAINING: Calls = Calls {
     swap: c::training_swap,
     retire: c::training_retire,
     collect: c::training_collect,
+};
+
+pub const RING: Calls = Calls {
+    open: c::ring_open,
+    take: c::ring_take,
+    drop: c::ring_drop,
+    swap: c::ring_swap,
+    retire: c::ring_retire,
+    collect: c::ring_collect,
 };
 
 impl Calls {

@@ -1,17 +1,19 @@
-//! One call of a room's board, made to the archive or to the reference.
+//! One call of a board, made to the archive or to the reference.
 
 use reference::{answer, is_sound, next_message, word, Hall, Limits};
 use std::fmt;
 use std::str::FromStr;
 
-/// Each room has all six functions, under C names of its own.
+/// Each room has all six functions, under C names of its own. So has the second board of
+/// the hall, with rings for lists; it counts as a third room here.
 #[derive(Clone, Copy, Debug, PartialEq, Eq)]
 pub enum Room {
     Hall,
     Training,
+    Ring,
 }
 
-pub const ROOMS: [Room; 2] = [Room::Hall, Room::Training];
+pub const ROOMS: [Room; 3] = [Room::Hall, Room::Training, Room::Ring];
 
 impl Room {
     /// What the C names of its calls begin with.
@@ -19,6 +21,7 @@ impl Room {
         match self {
             Room::Hall => "board",
             Room::Training => "training",
+            Room::Ring => "ring",
         }
     }
 
@@ -26,13 +29,20 @@ impl Room {
         match self {
             Room::Hall => Limits::HALL,
             Room::Training => Limits::TRAINING,
+            Room::Ring => Limits::RING,
         }
     }
 
-    pub fn other(self) -> Room {
+    /// The limits of the hall, with the lists of this room.
+    pub fn largest(self) -> Limits {
+        Limits { list: self.limits().list, ..Limits::HALL }
+    }
+
+    pub fn others(self) -> [Room; 2] {
         match self {
-            Room::Hall => Room::Training,
-            Room::Training => Room::Hall,
+            Room::Hall => [Room::Training, Room::Ring],
+            Room::Training => [Room::Hall, Room::Ring],
+            Room::Ring => [Room::Hall, Room::Training],
         }
     }
 
@@ -40,6 +50,7 @@ impl Room {
         match self {
             Room::Hall => &archive::HALL,
             Room::Training => &archive::TRAINING,
+            Room::Ring => &archive::RING,
         }
     }
 }
@@ -87,12 +98,12 @@ impl Function {
     /// The reply numbers that documents 01 and 02 give this function in a room.
     pub fn replies(self, room: Room) -> &'static [u16] {
         match (self, room) {
-            (Open, Room::Hall) => &[0, 1, 2, 3, 4],
             (Open, Room::Training) => &[0, 1, 2, 3, 22, 4],
+            (Open, _) => &[0, 1, 2, 3, 4],
             (Take, _) => &[0, 5, 6, 23, 7, 8, 9, 10],
             (Drop, _) => &[0, 5, 6, 23, 7, 11],
-            (Swap, Room::Hall) => &[0, 5, 6, 23, 8, 12],
             (Swap, Room::Training) => &[0, 5, 6, 23, 8, 22, 12],
+            (Swap, _) => &[0, 5, 6, 23, 8, 12],
             (Retire, _) => &[0, 5, 6, 23, 13, 14],
             (Collect, _) => &[0, 5, 6, 23],
         }
@@ -122,13 +133,14 @@ impl Call {
     /// opening, and where the table does not have the desk. The table may be unsound.
     pub fn due_message(self, table: &[u8]) -> Option<u16> {
         let [desk, ..] = self.numbers;
-        next_message(table, desk).filter(|_| self.function.is_step())
+        let next = next_message(self.room.limits().list, table, desk);
+        next.filter(|_| self.function.is_step())
     }
 
     /// Is its message number the next one of some desk?
     pub fn has_message_of_a_desk(self, table: &[u8]) -> bool {
-        let mut next = (1..=Limits::HALL.desks).filter_map(|desk| next_message(table, desk));
-        next.any(|next| next == self.message)
+        let next = |desk| next_message(self.room.limits().list, table, desk);
+        (1..=Limits::HALL.desks).filter_map(next).any(|next| next == self.message)
     }
 
     /// Is it a swap to what stands at its position, a session or 0?

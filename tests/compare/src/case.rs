@@ -1,7 +1,9 @@
 //! A case: a table and the calls made on it, one after the other.
 
-use crate::call::Call;
+use crate::beside::Beside;
+use crate::call::{Call, Room};
 use crate::guarded::Guarded;
+use crate::ring::Found;
 use std::fmt;
 use std::str::FromStr;
 
@@ -24,6 +26,10 @@ pub struct Compared {
     pub due_message: Option<u16>,
     /// It was refused with 23, and its number was due from another desk.
     pub of_another_desk: bool,
+    /// In the table of a ring.
+    pub found: Found,
+    /// The first board got it too, beside the ring.
+    pub beside: bool,
     /// That of the reference.
     pub answer: u32,
 }
@@ -34,9 +40,19 @@ impl Compared {
         let repeats = call.repeats(table);
         let found_too_large = call.finds_too_large(table);
         let due_message = call.due_message(table);
+        let found = Found::by(call, table);
         let answer = call.to_reference(table);
         let of_another_desk = answer >> 16 == 23 && call.has_message_of_a_desk(table);
-        Compared { call, repeats, found_too_large, due_message, of_another_desk, answer }
+        Compared {
+            call,
+            repeats,
+            found_too_large,
+            due_message,
+            of_another_desk,
+            found,
+            beside: false,
+            answer,
+        }
     }
 
     pub fn number(&self) -> u16 {
@@ -48,12 +64,14 @@ impl Compared {
     }
 }
 
-/// Where the two boards differ first.
+/// Where the archive differs first from the reference, or its ring from its first board.
 #[derive(Debug)]
 pub struct Difference {
     /// Calls before the one that differs.
     pub call: usize,
-    pub reference: u32,
+    /// The reference, or the first board with what is wrong beside it.
+    pub expected_by: &'static str,
+    pub expected: u32,
     pub archive: u32,
     /// The first byte that differs, counted from the table's start (negative
     /// before it), with the reference's and the archive's.
@@ -62,18 +80,33 @@ pub struct Difference {
 
 impl Case {
     /// Makes every call on both boards until they differ in the answer or in
-    /// any byte of the table or its guards. `seen` gets each call compared.
+    /// any byte of the table or its guards. `seen` gets each call compared. Beside a
+    /// sound ring the archive's first board gets the calls too.
     pub fn run(&self, mut seen: impl FnMut(Compared)) -> Option<Difference> {
         let mut of_reference = Guarded::new(&self.table, self.align);
         let mut of_archive = Guarded::new(&self.table, self.align);
+        let mut beside = None;
         for (index, &call) in self.calls.iter().enumerate() {
-            let compared = Compared::of_call(call, of_reference.table());
+            if beside.is_none() && call.room == Room::Ring {
+                beside = Beside::of_ring(of_archive.table());
+            }
+            let mut compared = Compared::of_call(call, of_reference.table());
             let answer = compared.answer;
             let archive = call.to_archive(of_archive.table());
-            seen(compared);
+            let difference = |expected_by, expected, byte| {
+                Some(Difference { call: index, expected_by, expected, archive, byte })
+            };
             if answer != archive || of_reference.bytes() != of_archive.bytes() {
+                seen(compared);
                 let byte = of_reference.first_difference(&of_archive);
-                return Some(Difference { call: index, reference: answer, archive, byte });
+                return difference("reference", answer, byte);
+            }
+            let fault;
+            (beside, fault) = Beside::after(beside, call, archive, of_archive.table());
+            compared.beside = beside.is_some();
+            seen(compared);
+            if let Some(fault) = fault {
+                return difference(fault.what, fault.first, None);
             }
         }
         None

@@ -3,19 +3,22 @@
 
 use crate::rng::Rng;
 use crate::tables::{any_marks, reading_record, set_marks};
-use reference::{place, set_word, word, Hall};
+use reference::{place, set_word, word, Hall, List};
 
 pub fn damage(rng: &mut Rng, hall: &Hall, table: &mut [u8]) {
     let desk = rng.within(1, usize::from(hall.desks)) as u16;
     let words = hall.record(desk);
     let record = &mut table[2 * words.start..2 * words.end];
+    if hall.list == List::Ring && rng.one_in(4) {
+        return another_beginning(rng, hall, record);
+    }
     match rng.below(14) {
         0 => header_out_of_range(rng, table),
         1 => header_of_another_hall(rng, table),
-        2 => one_too_many(rng, record),
+        2 => one_too_many(rng, hall, record),
         3 => sum_that_wraps(rng, record),
-        4 => zero_among_used(rng, record),
-        5 => session_among_unused(rng, record),
+        4 => zero_among_used(rng, hall, record),
+        5 => session_among_unused(rng, hall, record),
         6 => mark_past_tested(rng, hall, record),
         7 => read_so_far(rng, hall, record),
         8 => too_many_marks(rng, hall, record),
@@ -48,21 +51,39 @@ fn used(record: &[u8]) -> usize {
     COUNTS.iter().map(|&at| usize::from(word(record, at))).sum()
 }
 
-/// Of the list: the last word of the record is the message number.
-fn places(record: &[u8]) -> usize {
-    record.len() / 2 - place::LIST - 1
+/// The word of the list that has this index in the list's order.
+fn listed(hall: &Hall, record: &[u8], index: usize) -> usize {
+    let beginning = match hall.list {
+        List::Straight => 0,
+        List::Ring => usize::from(word(record, record.len() / 2 - 1)),
+    };
+    place::LIST + (beginning + index) % hall.places()
+}
+
+/// A beginning that is no place of the list, or another one than the list has.
+fn another_beginning(rng: &mut Rng, hall: &Hall, record: &mut [u8]) {
+    let (last, places) = (record.len() / 2 - 1, hall.places() as u16);
+    let (beginning, message) = (word(record, last), word(record, last - 1));
+    let (around, any) = ((beginning + 1) % places, rng.below(hall.places()) as u16);
+    let most = [places, places, places + 1, 255, 256, 65_535, beginning + 256, beginning << 8];
+    let other = rng.pick(&[around, any, message]);
+    let value = if rng.one_in(3) { other } else { rng.pick(&most) };
+    set_word(record, last, value);
+    if value == message {
+        set_word(record, last - 1, beginning); // the two words exchanged
+    }
 }
 
 /// Every place is used, and the counts sum to one more than there are places.
-fn one_too_many(rng: &mut Rng, record: &mut [u8]) {
-    let missing = places(record) + 1 - used(record);
+fn one_too_many(rng: &mut Rng, hall: &Hall, record: &mut [u8]) {
+    let missing = hall.places() + 1 - used(record);
     let more = rng.pick(&[missing, missing, missing + 255, missing - 1]);
     let at = match word(record, place::TESTED) {
         0 => rng.pick(&[place::READY, place::WAITING]),
         _ => rng.pick(&COUNTS),
     };
     set_word(record, at, word(record, at) + more as u16);
-    for at in place::LIST..place::LIST + places(record) {
+    for at in place::LIST..place::LIST + hall.places() {
         if word(record, at) == 0 {
             set_word(record, at, 5);
         }
@@ -79,21 +100,21 @@ fn sum_that_wraps(rng: &mut Rng, record: &mut [u8]) {
     set_word(record, down, word(record, down).wrapping_sub(by));
 }
 
-fn zero_among_used(rng: &mut Rng, record: &mut [u8]) {
+fn zero_among_used(rng: &mut Rng, hall: &Hall, record: &mut [u8]) {
     let used = used(record);
     if used > 0 {
         let any = rng.below(used);
-        let at = rng.pick(&[0, used - 1, any]);
-        set_word(record, place::LIST + at, 0);
+        let at = listed(hall, record, rng.pick(&[0, used - 1, any]));
+        set_word(record, at, 0);
     }
 }
 
-fn session_among_unused(rng: &mut Rng, record: &mut [u8]) {
-    let (used, places) = (used(record), places(record));
+fn session_among_unused(rng: &mut Rng, hall: &Hall, record: &mut [u8]) {
+    let (used, places) = (used(record), hall.places());
     if used < places {
         let any = rng.within(used, places - 1);
-        let at = rng.pick(&[used, places - 1, any]);
-        set_word(record, place::LIST + at, rng.pick(&[1, 256, 65_535]));
+        let at = listed(hall, record, rng.pick(&[used, places - 1, any]));
+        set_word(record, at, rng.pick(&[1, 256, 65_535]));
     }
 }
 

@@ -7,7 +7,7 @@
 
 use crate::case::Case;
 use crate::run::{call_of, Run, DESK, MESSAGE};
-use reference::next_message;
+use reference::{next_message, List};
 
 pub fn with_distances(case: &Case) -> Case {
     renumbered(case, to_distance)
@@ -60,7 +60,8 @@ fn renumbered_run(run: &Run, new: Renumber) -> Run {
     let mut renumbered = run.clone();
     let mut table = run.table.clone();
     for step in &mut renumbered.steps {
-        let (sent, kept) = new(step[MESSAGE], next_message(&table, step[DESK]).unwrap_or(0));
+        let due = next_message(List::Straight, &table, step[DESK]).unwrap_or(0);
+        let (sent, kept) = new(step[MESSAGE], due);
         step[MESSAGE] = sent;
         if let Some(call) = call_of(*step) {
             call.to_reference(&mut table);

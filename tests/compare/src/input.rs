@@ -69,13 +69,14 @@ fn explain_case(case: &Case) {
         println!("  {call}: {}", reply(answer));
     }
     if let Some(difference) = difference {
+        let expected = difference.expected_by;
         println!(
-            "  reference {}, archive {}",
-            reply(difference.reference),
+            "  {expected} {}, archive {}",
+            reply(difference.expected),
             reply(difference.archive)
         );
-        if let Some((at, reference, archive)) = difference.byte {
-            println!("  byte {at}: reference {reference:02X}, archive {archive:02X}");
+        if let Some((at, byte, archive)) = difference.byte {
+            println!("  byte {at}: {expected} {byte:02X}, archive {archive:02X}");
         }
     }
 }

@@ -1,10 +1,11 @@
-//! Compares the archive with the reference, and its runs with its single calls: every
-//! answer and every byte.
+//! Compares the archive with the reference, its runs with its single calls, and its rings
+//! with its first board: every answer and every byte.
 //!
 //!     compare [--seed N] [--calls N] [--seconds N]   many cases, some of them runs
 //!     compare --seed N --case N                      one of them again
 //!     compare --replay 'CASE'                        a case as it was printed
 
+mod beside;
 mod call;
 mod case;
 mod crash;
@@ -14,6 +15,7 @@ mod guarded;
 mod input;
 mod make;
 mod make_run;
+mod ring;
 mod rng;
 mod run;
 mod shrink;

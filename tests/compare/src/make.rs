@@ -1,19 +1,19 @@
 //! Cases: openings, histories, and tables that are sound, damaged, truncated, too long
-//! or of the former layout. A case has a room, and most of its calls are of that room;
+//! or of another layout. A case has a room, and most of its calls are of that room;
 //! most calls carry the message number that is due.
 
-use crate::call::{held, Call, Function, Function::*, Room};
+use crate::call::{held, Call, Function, Function::*, Room, ROOMS};
 use crate::case::Case;
 use crate::damage::damage;
 use crate::rng::Rng;
 use crate::tables::{any_bytes, any_hall, any_message, any_words, sound_table, Sessions};
-use reference::{next_message, set_word, Hall, Limits};
+use reference::{next_message, set_word, Hall, Limits, List};
 
 /// The case of this number under this seed.
 pub fn case(seed: u64, number: u64) -> Case {
     let mut rng = Rng::of_case(seed, number);
     let rng = &mut rng;
-    let room = rng.pick(&[Room::Hall, Room::Training]);
+    let room = rng.pick(&ROOMS);
     match rng.below(32) {
         0..=3 => openings(rng, room),
         4..=6 => history(rng, room),
@@ -44,7 +44,7 @@ pub fn case_for_run(rng: &mut Rng) -> Case {
 /// The room of one call of a case.
 fn mostly(rng: &mut Rng, room: Room) -> Room {
     if rng.one_in(16) {
-        room.other()
+        rng.pick(&room.others())
     } else {
         room
     }
@@ -56,7 +56,7 @@ fn any_limits(rng: &mut Rng, room: Room) -> Limits {
     let limits = room.limits();
     let more = |number: u16, most: u16| most.min(number + 1);
     match rng.below(12) {
-        0 => Limits::HALL,
+        0 => room.largest(),
         1 => Limits {
             desks: more(limits.desks, Limits::HALL.desks),
             screens: more(limits.screens, Limits::HALL.screens),
@@ -80,7 +80,8 @@ fn openings(rng: &mut Rng, room: Room) -> Case {
     };
     let calls: Vec<Call> = (0..rng.within(1, 3)).map(|_| opening(rng)).collect();
     let [desks, screens, positions] = calls[0].numbers;
-    let need = Hall::new(Limits::HALL, desks, screens, positions).map_or(21, |hall| hall.need());
+    let hall = Hall::new(room.largest(), desks, screens, positions);
+    let need = hall.map_or(21, |hall| hall.need());
     let length = around(rng, 2 * need);
     let table = any_bytes(rng, length);
     case_of(rng, table, calls)
@@ -107,7 +108,8 @@ fn around(rng: &mut Rng, need: usize) -> usize {
 
 /// A history that fills the lists to their bound: a few desks retire and collect, all
 /// of them take and drop, and there are few sessions. It begins with an opening, or
-/// with the table of one whose message numbers are about to run on from 65,535 to 0.
+/// with the table of one whose message numbers are about to run on from 65,535 to 0 and
+/// whose rings begin anywhere.
 fn history(rng: &mut Rng, room: Room) -> Case {
     let hall = any_hall(rng, room.limits());
     let desks: Vec<u16> = (0..rng.within(1, 3)).map(|_| one_of(rng, hall.desks)).collect();
@@ -127,6 +129,9 @@ fn history(rng: &mut Rng, room: Room) -> Case {
     if rng.one_in(2) {
         for desk in 1..=hall.desks {
             set_word(&mut calls.table, hall.message(desk), 65_535 - rng.below(steps) as u16);
+            if let Some(at) = hall.beginning(desk) {
+                set_word(&mut calls.table, at, rng.below(hall.places()) as u16);
+            }
         }
         table.clone_from(&calls.table);
         calls.made.clear();
@@ -177,13 +182,13 @@ fn from_damaged_table(rng: &mut Rng, room: Room) -> Case {
     steps(rng, calls, 6)
 }
 
-/// Steps on a sound table that is truncated, or followed by garbage; sometimes it is of
-/// the former layout.
+/// Steps on a sound table that is truncated, or followed by garbage; sometimes its
+/// records lack their last words.
 fn from_cut_or_long_table(rng: &mut Rng, room: Room) -> Case {
     let mut calls = on_sound_table(rng, room);
     let table = &mut calls.table;
     if rng.one_in(8) {
-        without_messages(&calls.hall, table);
+        without_last_words(&calls.hall, table);
     }
     if rng.one_in(2) {
         let most = rng.pick(&[1, 2, 3, 40]);
@@ -200,11 +205,12 @@ fn from_cut_or_long_table(rng: &mut Rng, room: Room) -> Case {
     steps(rng, calls, 6)
 }
 
-/// The table of the former layout, in which a record has no message number.
-fn without_messages(hall: &Hall, table: &mut Vec<u8>) {
+/// The table of another layout: without the message numbers, or a ring's without the
+/// beginnings, so almost the first board's.
+fn without_last_words(hall: &Hall, table: &mut Vec<u8>) {
     for desk in (1..=hall.desks).rev() {
-        let at = 2 * hall.message(desk);
-        table.drain(at..at + 2);
+        let past = 2 * hall.record(desk).end;
+        table.drain(past - 2..past);
     }
 }
 
@@ -264,7 +270,7 @@ impl Calls {
     /// link delivers it twice.
     fn push(&mut self, rng: &mut Rng, function: Function, numbers: &[u16]) {
         let room = mostly(rng, self.room);
-        let message = self.message(rng, numbers[0]);
+        let message = self.message(rng, room.limits().list, numbers[0]);
         let call = Call::new(room, function, message, numbers);
         self.send(call);
         if rng.one_in(32) {
@@ -273,10 +279,10 @@ impl Calls {
     }
 
     /// The message number that is due from a desk, with few exceptions.
-    fn message(&self, rng: &mut Rng, desk: u16) -> u16 {
-        let due = next_message(&self.table, desk).unwrap_or_else(|| any_message(rng));
+    fn message(&self, rng: &mut Rng, list: List, desk: u16) -> u16 {
+        let due = next_message(list, &self.table, desk).unwrap_or_else(|| any_message(rng));
         if rng.one_in(24) {
-            self.wrong_message(rng, due)
+            self.wrong_message(rng, list, due)
         } else {
             due
         }
@@ -284,14 +290,14 @@ impl Calls {
 
     /// A number near the one that is due, one that shares a byte with it, that of
     /// another desk, or any.
-    fn wrong_message(&self, rng: &mut Rng, due: u16) -> u16 {
+    fn wrong_message(&self, rng: &mut Rng, list: List, due: u16) -> u16 {
         match rng.below(8) {
             0 => due.wrapping_sub(1),
             1 => due.wrapping_add(1),
             2 => due ^ 1 << rng.below(16),
             3 => due.wrapping_add(256 * rng.within(1, 255) as u16),
             4 => due & 0xFF00 | rng.word() & 0xFF,
-            5 => next_message(&self.table, one_of(rng, self.hall.desks)).unwrap_or(0),
+            5 => next_message(list, &self.table, one_of(rng, self.hall.desks)).unwrap_or(0),
             _ => any_message(rng),
         }
     }
@@ -307,7 +313,7 @@ impl Calls {
     }
 
     fn step(&mut self, rng: &mut Rng, function: Function) {
-        let Hall { desks, screens, positions } = self.hall;
+        let Hall { desks, screens, positions, .. } = self.hall;
         let desk = number(rng, desks);
         match function {
             Open => unreachable!("an opening is no step"),

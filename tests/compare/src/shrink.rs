@@ -5,7 +5,7 @@
 use crate::call::{Call, Function};
 use crate::case::Case;
 use crate::distances::{with_distances, with_numbers};
-use reference::{place, set_word, word, Hall, Limits};
+use reference::{place, set_word, word, Hall, Limits, List};
 
 /// Tries smaller and smaller cases until none of them differs.
 pub fn shrink(case: Case) -> Case {
@@ -104,20 +104,32 @@ fn emptier_records(smallest: &mut Case) {
         let mut other = smallest.clone();
         other.table[record.clone()].fill(0);
         try_other(smallest, other);
+        if hall.list == List::Ring {
+            let mut other = smallest.clone();
+            straighten(&hall, &mut other.table[record.clone()]);
+            try_other(smallest, other);
+        }
         for at in (0..2 * hall.all_screens()).rev() {
             for count in [place::READY, place::TESTED, place::WAITING] {
                 let mut other = smallest.clone();
-                leave_out(&mut other.table[record.clone()], at, count);
+                leave_out(&hall, &mut other.table[record.clone()], at, count);
                 try_other(smallest, other);
             }
         }
     }
 }
 
+/// The record of a ring with its list from the first place on.
+fn straighten(hall: &Hall, record: &mut [u8]) {
+    let last = record.len() / 2 - 1;
+    let beginning = usize::from(word(record, last)) % hall.places();
+    record[2 * place::LIST..][..2 * hall.places()].rotate_left(2 * beginning);
+    set_word(record, last, 0);
+}
+
 /// The record without this list place, and with this count reduced by one.
-fn leave_out(record: &mut [u8], at: usize, count: usize) {
-    let message = record.len() - 2;
-    let list = &mut record[2 * place::LIST..message];
+fn leave_out(hall: &Hall, record: &mut [u8], at: usize, count: usize) {
+    let list = &mut record[2 * place::LIST..][..2 * hall.places()];
     let end = list.len() - 2;
     list.copy_within(2 * at + 2.., 2 * at);
     list[end..].fill(0);
@@ -140,26 +152,29 @@ fn smaller_hall(smallest: &mut Case) {
 }
 
 pub fn halls_within(hall: &Hall) -> Vec<Hall> {
+    let limits = Limits { list: hall.list, ..Limits::HALL };
     let mut halls = Vec::new();
     for desks in 1..=hall.desks {
         for screens in 1..=hall.screens {
             for positions in 1..=hall.positions {
-                halls.extend(Hall::new(Limits::HALL, desks, screens, positions));
+                halls.extend(Hall::new(limits, desks, screens, positions));
             }
         }
     }
     halls
 }
 
-/// The hall of the first opening, or else of the table.
+/// The hall of the first opening, or else of the table, with the lists of the first
+/// call's room.
 fn hall_of(case: &Case) -> Option<Hall> {
+    let limits = case.calls.first()?.room.largest();
     let opening = case.calls.iter().find(|call| call.function == Function::Open);
     let [desks, screens, positions] = match opening {
         Some(call) => call.numbers,
         None if case.table.len() >= 6 => [0, 1, 2].map(|at| word(&case.table, at)),
         None => return None,
     };
-    Hall::new(Limits::HALL, desks, screens, positions).ok()
+    Hall::new(limits, desks, screens, positions).ok()
 }
 
 /// The same case in a smaller hall, as far as possible.
@@ -190,6 +205,7 @@ fn pairs_of_words(from: &Hall, to: &Hall, skipped: u16) -> Vec<(usize, usize)> {
         let (here, there) = (from.record(old).start, to.record(desk).start);
         pairs.extend((0..place::LIST + 2 * to.all_screens()).map(|at| (here + at, there + at)));
         pairs.push((from.message(old), to.message(desk)));
+        pairs.extend(from.beginning(old).zip(to.beginning(desk)));
     }
     pairs
 }

@@ -1,7 +1,7 @@
 //! Tables to start from: any bytes, and sound ones built word by word.
 
 use crate::rng::Rng;
-use reference::{place, set_word, Hall, Limits};
+use reference::{place, set_word, Hall, Limits, List};
 
 /// The few sessions of a case, so that screens and lists often agree.
 pub struct Sessions(Vec<u16>);
@@ -134,8 +134,7 @@ fn sound_record(
     for at in 0..ready + tested + waiting {
         set_word(record, place::LIST + at, sessions.pick_some(rng));
     }
-    let message = record.len() / 2 - 1;
-    set_word(record, message, any_message(rng));
+    set_word(record, place::LIST + hall.places(), any_message(rng));
     if tested > 0 {
         let scanned = 2 * rng.within(1, (hall.all_screens() - 1) / 2);
         set_word(record, place::SCANNED, scanned as u16);
@@ -145,6 +144,17 @@ fn sound_record(
         let marks = any_marks(rng, tested, marked);
         set_marks(record, marks);
     }
+    if hall.list == List::Ring {
+        let beginning = rng.below(hall.places());
+        turn(hall, record, beginning);
+    }
+}
+
+/// The list of a ring that began at its first place begins at another.
+fn turn(hall: &Hall, record: &mut [u8], beginning: usize) {
+    record[2 * place::LIST..][..2 * hall.places()].rotate_right(2 * beginning);
+    let last = record.len() / 2 - 1;
+    set_word(record, last, beginning as u16);
 }
 
 /// This many marks among the first places.

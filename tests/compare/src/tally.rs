@@ -1,7 +1,8 @@
-//! What was compared: the calls of each room and function, and the steps of runs, and
+//! What was compared: the calls of each room and function (the board with rings counts as
+//! a room), and the steps of runs, and
 //! among the swaps the repeats, by reply number and by what else they showed.
 
-use crate::call::{Room, FUNCTIONS, ROOMS};
+use crate::call::{Function, Room, FUNCTIONS, ROOMS};
 use crate::case::Compared;
 use crate::tally_run::RunTally;
 use std::fmt;
@@ -47,7 +48,7 @@ struct Note {
     is_due: fn(Room, usize) -> bool,
 }
 
-const NOTES: [Note; 7] = [
+const NOTES: [Note; 11] = [
     Note { name: "with session", shown_by: |of| of.session() != 0, is_due: |_, _| false },
     // The host put it into the table: no swap of the room does.
     Note {
@@ -84,6 +85,27 @@ const NOTES: [Note; 7] = [
             of.number() == 23 && of.due_message.is_some_and(low_byte_is_due)
         },
         is_due: |_, column| is_step(column),
+    },
+    // The first board got the call too.
+    Note { name: "beside board_", shown_by: |of| of.beside, is_due: |room, _| room == Room::Ring },
+    Note {
+        name: "0 around the end",
+        shown_by: |of| of.number() == 0 && of.found.is_around_the_end,
+        is_due: |room, column| room == Room::Ring && is_step(column),
+    },
+    // It left the list, which then begins at its first place.
+    Note {
+        name: "back from last",
+        shown_by: |of| {
+            let has_handed_back = of.call.function == Function::Collect && of.answer != 0;
+            has_handed_back && of.number() == 0 && of.found.begins_at_the_last
+        },
+        is_due: |room, column| room == Room::Ring && column == Function::Collect as usize,
+    },
+    Note {
+        name: "5 beginning",
+        shown_by: |of| of.number() == 5 && of.found.has_wrong_beginning,
+        is_due: |room, column| room == Room::Ring && is_step(column),
     },
 ];
 

@@ -30,7 +30,7 @@ unsafe fn lent_to_read<'a>(table: *const u8, bytes: usize) -> &'a [u8] {
     }
 }
 
-/// The calls of a room: its limits, then for each call its C name, its function in
+/// The calls of a board: its limits, then for each call its C name, its function in
 /// the reference, and its numbers.
 macro_rules! calls {
     ($limits:expr; $($name:ident = $function:ident($($number:ident),*);)*) => {
@@ -61,6 +61,16 @@ calls! {
     training_swap = swap(message, desk, position, session);
     training_retire = retire(message, desk);
     training_collect = collect(message, desk);
+}
+
+calls! {
+    Limits::RING;
+    ring_open = open(desks, screens, positions);
+    ring_take = take(message, desk, screen, position);
+    ring_drop = drop(message, desk, screen);
+    ring_swap = swap(message, desk, position, session);
+    ring_retire = retire(message, desk);
+    ring_collect = collect(message, desk);
 }
 
 #[no_mangle]

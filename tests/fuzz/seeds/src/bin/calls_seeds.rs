@@ -4,6 +4,9 @@
 //!
 //! One in four is a run.
 
+#[path = "../../../../compare/src/beside.rs"]
+#[allow(dead_code)]
+mod beside;
 #[path = "../../../../compare/src/call.rs"]
 #[allow(dead_code)]
 mod call;
@@ -22,6 +25,9 @@ mod guarded;
 mod make;
 #[path = "../../../../compare/src/make_run.rs"]
 mod make_run;
+#[path = "../../../../compare/src/ring.rs"]
+#[allow(dead_code)]
+mod ring;
 #[path = "../../../../compare/src/rng.rs"]
 mod rng;
 #[path = "../../../../compare/src/run.rs"]
