@@ -7,8 +7,8 @@
 #     KIND       what must catch them     the wrong ones
 #     boards     compare, and vectors     wrong/boards: patches of the reference, which replaces the archive
 #                if wrong about repeats,
-#                the training room,
-#                message numbers or runs
+#                the training room, runs,
+#                message numbers or rings
 #     programs   sheets or converted,     wrong/programs: patches of the reference, which replaces the programs that the
 #                and sheet_vectors        name says (`replaced`)
 #     stores     stores and host_test     wrong/stores.c: right answers, but a store outside the call's footprint
@@ -92,22 +92,31 @@ vectors() {
 unseen_by_vectors="repeat-of-one-byte run-length-of-one-byte run-code-of-one-byte"
 
 # caught_by_vectors NAME: the published calls must catch a board that is wrong about repeats, the training room,
-# message numbers or runs.
+# message numbers, runs or rings.
 caught_by_vectors() {
     grep -q -e '^Case: repeats ' -e '^Case: training_room ' -e '^Case: message_numbers ' -e '^Case: runs ' \
-        "$tests/wrong/boards/$1.patch" && ! is_one_of "$1" "$unseen_by_vectors" || return 0
+        -e '^Case: ring ' "$tests/wrong/boards/$1.patch" && ! is_one_of "$1" "$unseen_by_vectors" || return 0
     if vectors; then fail "$1: not caught by vectors"; fi
 }
 
 # Wrong boards that differ from their own single calls: the answer, the replies, the table.
 differ_from_single_calls="run-answers-its-length run-clears-the-replies run-moves-the-number-of-17"
 
-# caught_singly NAME: such a board is caught where the reference of the comparison is wrong too.
-caught_singly() {
-    is_one_of "$1" "$differ_from_single_calls" || return 0
+# Wrong rings that differ from the first board: the answer, the list, the beginning.
+differ_from_the_first_board="ring-room-one-early ring-settles-from-the-first-place ring-reset-when-empty"
+
+# caught_without_the_reference NAME: such a board is caught where the reference of the comparison is wrong too.
+caught_without_the_reference() {
+    if is_one_of "$1" "$differ_from_single_calls"; then
+        by='single calls '
+    elif is_one_of "$1" "$differ_from_the_first_board"; then
+        by='\(another answer than\|it does not read as\|a beginning is not\)'
+    else
+        return 0
+    fi
     SESSION_BOARD_LIB=$work/wrong/release build "$work/tests/compare" both_wrong
-    if timeout 120 "$work/both_wrong/release/compare" >"$work/out.singly" 2>&1; then fail "$1: not caught singly"; fi
-    grep -q '^  single calls ' "$work/out.singly" || fail "$1: not caught by single calls"
+    if timeout 120 "$work/both_wrong/release/compare" >"$work/out.both" 2>&1; then fail "$1: not caught in both"; fi
+    grep -q "^  $by" "$work/out.both" || fail "$1: not caught by itself, but by the reference"
 }
 
 # The last match of the first pattern, or else of the second: after a crash only
@@ -139,7 +148,7 @@ boards_wrong() {
     grep -q '^Case: ' "$tests/wrong/boards/$1.patch" || fail "$1: the patch names no case"
     case_fails boards "$1"
     caught_by_vectors "$1"
-    caught_singly "$1"
+    caught_without_the_reference "$1"
     echo "$1: caught, $(last_match 's/^smallest case so far: //p' 's/^crash.*/crash/p')"
 }
 
