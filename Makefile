@@ -4,7 +4,8 @@
 #   make test           the gate: all proofs from nothing, the edits that must be refused, the tests outside Rattle
 #   make lib            the archive and its header, in build/
 #   make bench          times the six calls against boards in Rust and in C, runs of steps against a program in Rust
-#                       without the soundness check, and the sheet programs against those in Rust
+#                       without the soundness check, the board with rings against the first board, and the sheet programs
+#                       against those in Rust
 #   make instructions   counts the instructions of the hall's calls at the largest hall; needs valgrind
 #   make proved         lists the theorems
 #   make edits          tries the wrong programs and rules in edits/: each must be refused where it says
@@ -60,6 +61,8 @@ bench: lib $(PROGRAMS)
 	@$(CARGO) bench/Cargo.toml
 	@echo
 	@$(CARGO) bench/Cargo.toml -- runs
+	@echo
+	@$(CARGO) bench/Cargo.toml -- rings
 	@cargo build --quiet --offline --release --manifest-path tests/reference/Cargo.toml
 	@echo
 	@$(CARGO) bench/sheets/Cargo.toml -- target/bin target/outside/release

@@ -37,9 +37,10 @@ def check_page(page, archive, folder):
     run(['groff', '-man', '-Tutf8', '-ww', page])
     sections = dict(re.findall(r'^\.SH (.*)\n((?:(?!\.SH ).*\n)*)', text, re.M))
     synopsis = re.sub(r'^\.B "?(.*?)"?$', r'\1', literal_parts(sections['SYNOPSIS'])[0], flags=re.M)
-    prototype = synopsis[synopsis.index('.PP') + 3:]
-    if squeezed(prototype) not in squeezed(HEADER.read_text()):
-        sys.exit(f'man: {page.name}: the header has no {squeezed(prototype)}')
+    header = squeezed(HEADER.read_text())
+    for prototype in re.findall(r'[^;]+;', synopsis[synopsis.index('.PP') + 3:]):
+        if squeezed(prototype) not in header:
+            sys.exit(f'man: {page.name}: the header has no {squeezed(prototype)}')
     program, printed = literal_parts(sections['EXAMPLE'])
     source, built = folder / 'example.c', folder / 'example'
     source.write_text(program)
@@ -57,7 +58,7 @@ def main():
     with tempfile.TemporaryDirectory() as folder:
         for page in pages:
             check_page(page, sys.argv[1], pathlib.Path(folder))
-    print(f'man: {len(pages)} page, its prototype, its example')
+    print(f'man: {len(pages)} pages, their prototypes, their examples')
 
 
 if __name__ == '__main__':

@@ -88,8 +88,10 @@ vectors() {
 }
 
 # No published call is an accepted swap between sessions that share only their low byte, or a run of 256 steps, or has
-# a code outside 1 to 5 with the low byte of a step's.
+# a code outside 1 to 5 with the low byte of a step's. No published ring begins at 2S or more at another desk than the
+# first, or with a low byte below 2S, and none has a session before its beginning that is not on its list.
 unseen_by_vectors="repeat-of-one-byte run-length-of-one-byte run-code-of-one-byte"
+unseen_by_vectors="$unseen_by_vectors ring-beginning-of-desk-1 ring-beginning-of-one-byte ring-sound-not-around-the-end"
 
 # caught_by_vectors NAME: the published calls must catch a board that is wrong about repeats, the training room,
 # message numbers, runs or rings.
@@ -289,10 +291,11 @@ stores_right() {
     echo "right board: $(tail -n 1 "$work/out")"
 }
 
-# call_of NAME: the wrong call, by the first word of the name, or by the first two of a call of the training room
+# call_of NAME: the wrong call, by the first word of the name, or by the first two of a call of the training room or of
+# the rings
 call_of() {
     case $1 in
-    TRAINING_*) echo "$1" | sed 's/^\([A-Z]*_[A-Z]*\)_.*/\1/' ;;
+    TRAINING_* | RING_*) echo "$1" | sed 's/^\([A-Z]*_[A-Z]*\)_.*/\1/' ;;
     *) echo "BOARD_${1%%_*}" ;;
     esac | tr A-Z a-z
 }
@@ -305,12 +308,12 @@ caught_by_pages() {
     if "$work/host_test" >"$work/out"; then
         [ "$1" = "$unseen_by_pages" ] || fail "$1: not caught by host_test"
     else
-        grep -q "^FAILED in .*: $2 .* a store to byte" "$work/out" || [ "$2" = board_open ] ||
+        grep -q "^FAILED in .*: $2 .* a store to byte" "$work/out" || is_one_of "$2" "board_open ring_open" ||
             fail "$1: caught by host_test, but not as a store"
     fi
 }
 
-# The trace runs on the smallest hall of each room.
+# The trace runs on the smallest hall of each room, and of the rings.
 stores_wrong() {
     call=$(call_of "$1")
     build_driver "$right" "$work/driver" -D"$1" -Wno-unused-function "-Wl,--wrap=$call" "$tests/wrong/stores.c"

@@ -9,17 +9,18 @@ here=$(cd "$(dirname "$0")" && pwd)
 root=$(dirname "$(dirname "$here")")
 out=$root/target/c_board
 mkdir -p "$out"
-# board OBJECT [OPTION...]: the board of a room
+# board SOURCE OBJECT [OPTION...]: the board of a room, or the one with rings
 board() {
-    object=$1
-    shift
+    source=$1 object=$2
+    shift 2
     gcc -std=c11 -Wall -Wextra -Wpedantic -Werror -O2 -msse2 -fno-builtin-memset -I"$root/include" "$@" \
-        -c "$here/board.c" -o "$object"
+        -c "$here/$source" -o "$object"
 }
-board "$out/hall.o"
-board "$out/training.o" '-DCALL(name)=training_##name' -DROOM_DESKS=4 -DROOM_SCREENS=1 -DROOM_SESSIONS=999
+board board.c "$out/hall.o"
+board ring.c "$out/ring.o"
+board board.c "$out/training.o" '-DCALL(name)=training_##name' -DROOM_DESKS=4 -DROOM_SCREENS=1 -DROOM_SESSIONS=999
 rm -f "$out/libsession_board.a"
-ar crs "$out/libsession_board.a" "$out/hall.o" "$out/training.o"
+ar crs "$out/libsession_board.a" "$out/hall.o" "$out/training.o" "$out/ring.o"
 # A folder of its own: cargo builds the comparison anew for each archive.
 SESSION_BOARD_LIB=$out CARGO_TARGET_DIR=$out cargo run --quiet --offline --release \
     --manifest-path "$root/tests/compare/Cargo.toml" -- --calls "${1:-500000}" >"$out/compare.log" ||

@@ -1,4 +1,4 @@
-//! The three boards: the archive, the one in Rust and the one in C.
+//! The boards: the archive's two, the one in Rust and the one in C.
 
 /// A call and its numbers, but for the message number.
 #[derive(Clone, Copy)]
@@ -28,22 +28,29 @@ pub type Board = fn(Call, u16, &mut [u8]) -> u32;
 /// In the order of the printed columns.
 pub const BOARDS: [Board; 3] = [to_archive, to_reference, to_c];
 
-#[inline(never)]
-fn to_archive(call: Call, message: u16, table: &mut [u8]) -> u32 {
+#[inline(always)]
+fn make(calls: &archive::Calls, call: Call, message: u16, table: &mut [u8]) -> u32 {
     match call {
-        Call::Open(desks, screens, positions) => {
-            archive::HALL.open(desks, screens, positions, table)
-        }
-        Call::Take(desk, screen, position) => {
-            archive::HALL.take(message, desk, screen, position, table)
-        }
-        Call::Drop(desk, screen) => archive::HALL.drop(message, desk, screen, table),
+        Call::Open(desks, screens, positions) => calls.open(desks, screens, positions, table),
+        Call::Take(desk, screen, position) => calls.take(message, desk, screen, position, table),
+        Call::Drop(desk, screen) => calls.drop(message, desk, screen, table),
         Call::Swap(desk, position, session) => {
-            archive::HALL.swap(message, desk, position, session, table)
+            calls.swap(message, desk, position, session, table)
         }
-        Call::Retire(desk) => archive::HALL.retire(message, desk, table),
-        Call::Collect(desk) => archive::HALL.collect(message, desk, table),
+        Call::Retire(desk) => calls.retire(message, desk, table),
+        Call::Collect(desk) => calls.collect(message, desk, table),
     }
+}
+
+#[inline(never)]
+pub fn to_archive(call: Call, message: u16, table: &mut [u8]) -> u32 {
+    make(&archive::HALL, call, message, table)
+}
+
+/// The archive's board with rings.
+#[inline(never)]
+pub fn to_ring(call: Call, message: u16, table: &mut [u8]) -> u32 {
+    make(&archive::RING, call, message, table)
 }
 
 /// The board in Rust behind C functions that are not inlined, as the other two are: so that the

@@ -1,7 +1,7 @@
 //! The halls that are timed, and a busy table for each call.
 
 use crate::boards::{to_reference, Call};
-use reference::{next_message, place, set_word, Hall};
+use reference::{next_message, place, set_word, Hall, List};
 
 /// The smallest, the one in use so far, one with many screens, the largest.
 pub const HALLS: [(u16, u16, u16); 4] = [(1, 1, 1), (6, 1, 12), (4, 4, 64), (16, 4, 64)];
@@ -22,7 +22,7 @@ pub struct Task {
 
 /// The message number that is due from a call's desk, or any if there is no such desk.
 fn due_message(call: Call, table: &[u8]) -> u16 {
-    next_message(table, call.desk()).unwrap_or(0)
+    next_message(List::Straight, table, call.desk()).unwrap_or(0)
 }
 
 /// Every call on a hall where every screen but the last desk's last shows a
@@ -89,6 +89,20 @@ pub fn tasks(hall: &Hall, marks: bool) -> Option<Vec<Task>> {
     let full = with_list(place::WAITING, 2 * all, 9);
     add("retire refused, 14: no room", Call::Retire(desk), full, 14);
     Some(tasks)
+}
+
+/// Collects that hand back and do nothing else, with one session on the desk's list, with
+/// as many as there are screens, and with a full list.
+pub fn hand_backs(hall: &Hall) -> Vec<Task> {
+    let all = hall.all_screens();
+    let names = ["1 on the list", "S on the list", "2S on the list"];
+    let lengths = [1, all, 2 * all];
+    let task = |(name, used)| {
+        let mut table = waiting_table(hall);
+        set_list(hall, &mut table, hall.desks, place::READY, used);
+        Task { name, call: Call::Collect(hall.desks), message: 0, table, number: 0 }
+    };
+    names.into_iter().zip(lengths).map(task).collect()
 }
 
 /// The collects that read the hall: two screens each.

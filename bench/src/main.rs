@@ -1,11 +1,13 @@
 //! Times the six calls of the archive, of the board in Rust and of the one in
 //! C: the same questions, over the same bytes, in the same run. Prints
 //! nanoseconds per call; with the argument `runs`, nanoseconds per step in runs
-//! of steps; with `instructions`, the instructions of the archive's calls.
+//! of steps; with `rings`, nanoseconds per call of the archive's first board and of
+//! its board with rings; with `instructions`, the instructions of the archive's calls.
 
 mod boards;
 mod halls;
 mod instructions;
+mod rings;
 mod shift;
 mod timing;
 mod unchecked;
@@ -14,23 +16,27 @@ use boards::BOARDS;
 use halls::{tasks, Task, HALLS};
 use instructions::{make_one_call, print_instructions, ONE_CALL};
 use reference::{Hall, Limits};
+use rings::{print_ring_times, print_rings};
 use shift::print_runs;
 use std::array::from_fn;
 use std::env;
 use std::process::Command;
-use timing::{median, Clock, Times, BATCH_BYTES, PASSES, PLACES, REPETITIONS};
+use timing::{median, Clock, Entries, Times, BATCH_BYTES, PASSES, PLACES, REPETITIONS};
 
 const NAMES: [&str; 3] = ["ours", "Rust", "C"];
 
 /// The median of a call of 4 ns differs by up to 1 ns from process to process, also where they
 /// are laid out alike: so the calls are timed in several.
 const PROCESSES: usize = 5;
-/// The argument that makes a process one of these.
+/// The arguments that make a process one of these.
 const TIMES_ONLY: &str = "times-only";
+const RING_TIMES_ONLY: &str = "ring-times-only";
 /// The argument that asks for instructions.
 const INSTRUCTIONS: &str = "instructions";
 /// The argument that asks for runs of steps.
 const RUNS: &str = "runs";
+/// The argument that asks for the board with rings.
+const RINGS: &str = "rings";
 
 fn main() {
     let largest = || halls().last().expect("some halls");
@@ -40,6 +46,8 @@ fn main() {
             print_places(&mut Clock::new());
         }
         Some(TIMES_ONLY) => print_times(),
+        Some(RING_TIMES_ONLY) => print_ring_times(),
+        Some(RINGS) => print_rings(),
         Some(RUNS) => print_runs(&largest()),
         Some(INSTRUCTIONS) => print_instructions(&largest()),
         Some(ONE_CALL) => make_one_call(&largest()),
@@ -54,17 +62,25 @@ fn print_times() {
         for marks in [false, true] {
             for task in tasks(&hall, marks).unwrap_or_default() {
                 agree(&task);
-                let [ours, rust, c] = clock.time(&task);
-                println!("{ours} {rust} {c}");
+                print_row_of_times(clock.time(&entries(&task)));
             }
         }
     }
 }
 
+/// All boards with the same task.
+fn entries(task: &Task) -> Entries<'_> {
+    BOARDS.map(|board| (board, task))
+}
+
+fn print_row_of_times([first, second, third]: Times) {
+    println!("{first} {second} {third}");
+}
+
 /// The times of every row, as a process of its own sees them.
-fn times_of_a_process() -> Vec<Times> {
+fn times_of_a_process(times_only: &str) -> Vec<Times> {
     let program = env::current_exe().expect("a program has a path");
-    let output = Command::new(program).arg(TIMES_ONLY).output().expect("a program starts again");
+    let output = Command::new(program).arg(times_only).output().expect("a program starts again");
     assert!(output.status.success(), "{}", String::from_utf8_lossy(&output.stderr));
     let printed = String::from_utf8(output.stdout).expect("numbers are printed");
     let row = |line: &str| {
@@ -75,14 +91,15 @@ fn times_of_a_process() -> Vec<Times> {
 }
 
 /// The same, as the median of the processes.
-fn medians_of_processes() -> Vec<Times> {
-    let processes: Vec<_> = (0..PROCESSES).map(|_| times_of_a_process()).collect();
+fn medians_of_processes(times_only: &str) -> Vec<Times> {
+    let processes: Vec<_> = (0..PROCESSES).map(|_| times_of_a_process(times_only)).collect();
     let times = |row: usize, board: usize| processes.iter().map(|rows| rows[row][board]).collect();
     let medians = |row: usize| from_fn(|board| median(times(row, board)));
     (0..processes[0].len()).map(medians).collect()
 }
 
-fn print_calls() {
+/// How the calls are timed.
+fn print_method() {
     println!("nanoseconds per call, median of {PROCESSES} processes, of each the median of {REPETITIONS} batches,");
     println!(
         "the boards in turn; the tables are written anew just before each batch, uncounted, at"
@@ -92,8 +109,12 @@ fn print_calls() {
         BATCH_BYTES / 1024
     );
     println!("and refused calls go over them {PASSES} times");
+}
+
+fn print_calls() {
+    print_method();
     let [ours, rust, c] = NAMES;
-    let mut rows = medians_of_processes().into_iter();
+    let mut rows = medians_of_processes(TIMES_ONLY).into_iter();
     for hall in halls() {
         for marks in [false, true] {
             let Some(tasks) = tasks(&hall, marks) else { continue };
@@ -128,7 +149,7 @@ fn print_places(clock: &mut Clock) {
         println!("{:<38}{}", "call", NAMES.map(|name| format!("{:^23}", name)).concat());
         for task in tasks(&hall, false).expect("every hall has tables without marks") {
             if task.number == 0 || task.number == 6 {
-                let places = clock.time_at_places(&task);
+                let places = clock.time_at_places(&entries(&task));
                 println!("{:<38}{}", task.name, of_boards(&places).concat());
             }
         }
@@ -152,7 +173,7 @@ fn halls() -> impl Iterator<Item = Hall> {
 }
 
 fn title(hall: &Hall, marks: bool) -> String {
-    let Hall { desks, screens, positions } = hall;
+    let Hall { desks, screens, positions, .. } = hall;
     let bytes = 2 * hall.need();
     let with = if marks { "with marks on every desk" } else { "without marks" };
     format!("hall {desks} {screens} {positions}, {with}: {bytes} bytes")

@@ -1,6 +1,7 @@
-//! Times a call on copies of its table, by each of the boards in turn.
+//! Times a call on copies of its table, by each of the boards in turn. Each board has a
+//! task of its own: the same one, or the same call on a table of its own layout.
 
-use crate::boards::{Board, Call, BOARDS};
+use crate::boards::{Board, Call};
 use crate::halls::Task;
 use std::hint::black_box;
 use std::time::Instant;
@@ -19,14 +20,37 @@ pub const REPETITIONS: usize = 1001;
 pub const PLACES: usize = 64;
 const REPETITIONS_OF_A_PLACE: usize = 201;
 
-/// Nanoseconds of one call, for each board.
-pub type Times = [f64; BOARDS.len()];
+/// Three boards are timed in turn.
+pub const TIMED: usize = 3;
 
-/// Where the tables of a batch stand, in bytes from the start of a page.
+/// A board, and what it is timed with.
+pub type Entry<'a> = (Board, &'a Task);
+pub type Entries<'a> = [Entry<'a>; TIMED];
+
+/// Nanoseconds of one call, for each board.
+pub type Times = [f64; TIMED];
+
+/// Where the tables of a batch stand: in bytes from the start of a page, one right behind
+/// the other or each at the same place of a page.
 struct Layout {
     first: usize,
-    stride: usize,
+    whole_pages: bool,
     tables: usize,
+}
+
+impl Layout {
+    fn stride(&self, bytes: usize) -> usize {
+        if self.whole_pages {
+            bytes.next_multiple_of(PAGE)
+        } else {
+            bytes
+        }
+    }
+}
+
+/// The bytes of the longest table.
+fn longest(entries: &Entries) -> usize {
+    entries.iter().map(|(_, task)| task.table.len()).max().unwrap_or(0)
 }
 
 pub struct Clock {
@@ -54,57 +78,60 @@ impl Clock {
 
     /// The median times of a call. The tables of a batch stand one behind the
     /// other, and the next batch begins elsewhere in the page.
-    pub fn time(&mut self, task: &Task) -> Times {
-        let (stride, tables) = (task.table.len(), Clock::tables(task.table.len()));
-        let mut times = BOARDS.map(|_| Vec::with_capacity(REPETITIONS));
+    pub fn time(&mut self, entries: &Entries) -> Times {
+        let tables = Clock::tables(longest(entries));
+        let mut times = entries.map(|_| Vec::with_capacity(REPETITIONS));
         for repetition in 0..REPETITIONS {
             let first = repetition * 521 % PAGE;
-            self.turn(repetition, task, &Layout { first, stride, tables }, &mut times);
+            let layout = Layout { first, whole_pages: false, tables };
+            self.turn(repetition, entries, &layout, &mut times);
         }
         times.map(median)
     }
 
     /// The median times of a call with its table at each of 64 places of a
     /// page: each on a cache line of its own, and each aligned in its own way.
-    pub fn time_at_places(&mut self, task: &Task) -> Vec<Times> {
-        let stride = task.table.len().next_multiple_of(PAGE);
-        let tables = Clock::tables_at_a_place(task.table.len());
-        let mut times: Vec<_> = (0..PLACES).map(|_| BOARDS.map(|_| Vec::new())).collect();
+    pub fn time_at_places(&mut self, entries: &Entries) -> Vec<Times> {
+        let tables = Clock::tables_at_a_place(longest(entries));
+        let mut times: Vec<_> = (0..PLACES).map(|_| entries.map(|_| Vec::new())).collect();
         // The places in turn, so that a disturbance meets all of them alike.
         for repetition in 0..REPETITIONS_OF_A_PLACE {
             for (place, times) in times.iter_mut().enumerate() {
                 let first = place * (PAGE / PLACES + 1) % PAGE;
-                self.turn(repetition, task, &Layout { first, stride, tables }, times);
+                let layout = Layout { first, whole_pages: true, tables };
+                self.turn(repetition, entries, &layout, times);
             }
         }
         times.into_iter().map(|of_place| of_place.map(median)).collect()
     }
 
     /// A batch for each board. Who goes first changes, so that none gains by it.
-    fn turn<const N: usize>(
+    fn turn(
         &mut self,
         repetition: usize,
-        task: &Task,
+        entries: &Entries,
         layout: &Layout,
-        times: &mut [Vec<f64>; N],
+        times: &mut [Vec<f64>; TIMED],
     ) {
-        for turn in 0..BOARDS.len() {
-            let which = (repetition + turn) % BOARDS.len();
-            let batch = self.time_batch(BOARDS[which], task, layout);
+        for turn in 0..entries.len() {
+            let which = (repetition + turn) % entries.len();
+            let (board, task) = entries[which];
+            let batch = self.time_batch(board, task, layout);
             times[which].push((batch - self.empty) / (layout.tables * passes(task)) as f64);
         }
     }
 
     fn time_batch(&mut self, board: Board, task: &Task, layout: &Layout) -> f64 {
         let bytes = task.table.len();
+        let stride = layout.stride(bytes);
         let page = self.memory.as_ptr().align_offset(PAGE);
-        let tables = &mut self.memory[page + layout.first..][..layout.stride * layout.tables];
-        for table in tables.chunks_exact_mut(layout.stride) {
+        let tables = &mut self.memory[page + layout.first..][..stride * layout.tables];
+        for table in tables.chunks_exact_mut(stride) {
             table[..bytes].copy_from_slice(&task.table);
         }
         let begun = Instant::now();
         for _ in 0..passes(task) {
-            for table in tables.chunks_exact_mut(layout.stride) {
+            for table in tables.chunks_exact_mut(stride) {
                 black_box(board(black_box(task.call), task.message, &mut table[..bytes]));
             }
         }

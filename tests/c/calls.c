@@ -5,9 +5,11 @@
 const struct board boards[ROOMS] = {
     [HALL] = {board_open, board_take, board_drop, board_swap, board_retire, board_collect},
     [TRAINING] = {training_open, training_take, training_drop, training_swap, training_retire, training_collect},
+    [RING] = {ring_open, ring_take, ring_drop, ring_swap, ring_retire, ring_collect},
 };
-const struct limits limits_of[ROOMS] = {[HALL] = {16, 4, 64, 65535}, [TRAINING] = {4, 1, 64, 999}};
-const char *const room_names[ROOMS] = {"board", "training"};
+const struct limits limits_of[ROOMS] = {
+    [HALL] = {16, 4, 64, 65535}, [TRAINING] = {4, 1, 64, 999}, [RING] = {16, 4, 64, 65535}};
+const char *const room_names[ROOMS] = {"board", "training", "ring"};
 const char *const function_names[FUNCTIONS] = {"open", "take", "drop", "swap", "retire", "collect"};
 static const int numbers_of[FUNCTIONS] = {3, 3, 2, 3, 1, 1}; /* without the message number */
 

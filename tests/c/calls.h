@@ -4,9 +4,10 @@
 
 #include "session_board.h"
 
-/* Each room has all six functions, under names of its own. The value of a step is
- * its code in a run. */
-enum room { HALL, TRAINING, ROOMS };
+/* Each room has all six functions, under names of its own. So has the second board of
+ * the hall, with rings for lists; it counts as a third room here. The value of a step
+ * is its code in a run. */
+enum room { HALL, TRAINING, RING, ROOMS };
 enum function { OPEN, TAKE, DROP, SWAP, RETIRE, COLLECT, FUNCTIONS };
 
 /* A function of a room, its message number and its other numbers, in the order of

@@ -35,7 +35,7 @@ struct run {
     uint8_t table[MAX_TABLE_BYTES];
     size_t bytes;
     size_t ranges;
-    struct range footprint[4 * SHORT_RUN];
+    struct range footprint[MAX_RANGES * SHORT_RUN];
 };
 
 /* A run without steps, on this table. */

@@ -1,6 +1,6 @@
 /*
- * Fuzzes the calls of both rooms, and runs. An input is a table and the calls made
- * on it, one after the other:
+ * Fuzzes the calls of both rooms and of the board with rings, and runs. An input is a
+ * table and the calls made on it, one after the other:
  *
  *     place        1 byte    where in guarded memory the table is placed
  *     length       2 bytes   of the table, low byte first
@@ -8,11 +8,11 @@
  *     fill         1 byte    the value of the rest of it
  *     the bytes given
  *     calls to the end: 1 byte for the function, those of the training room after
- *     the hall's, then three numbers, of one byte each, or of two if the function's
+ *     the hall's and then those of the rings, then three numbers, of one byte each, or of two if the function's
  *     byte has its top bit set. If it has the next bit set, a number before them says
  *     how far the message number is from the one that is due, else it is that one
  *
- * The function after those of the training room is a run:
+ * The function after those of the rings is a run:
  *
  *     places       1 byte    where its steps and its replies are placed
  *     length       1 byte    how many steps it has
@@ -38,7 +38,7 @@
 #include <stdlib.h>
 #include <string.h>
 
-enum { MAX_BYTES = BOARD_MAX_BYTES + 64 };
+enum { MAX_BYTES = RING_MAX_BYTES + 64 };
 
 /* Of a run: the largest numbers of one byte. */
 enum {
@@ -125,7 +125,7 @@ static struct call next_call(struct first_byte first)
     for (int i = 0; i < 3; i++)
         call.numbers[i] = next_number(first);
     if (call.function != OPEN)
-        call.message = (uint16_t)(due_message(lent.table, lent.bytes, call.numbers[0]) + distance);
+        call.message = (uint16_t)(due_message(call.room, lent.table, lent.bytes, call.numbers[0]) + distance);
     return call;
 }
 
@@ -148,7 +148,7 @@ static struct step next_step(void)
     step.screen = next_number(first);
     step.position = next_number(first);
     step.session = next_number(first);
-    step.message = (uint16_t)(due_message(singly, lent.bytes, step.desk) + distance);
+    step.message = (uint16_t)(due_message(HALL, singly, lent.bytes, step.desk) + distance);
     return step;
 }
 
@@ -191,31 +191,32 @@ static void unpoison_guards(const struct guarded_memory *memory)
 
 /* The need in bytes of a hall, or all bytes of the table if there is no such
  * hall or the table is too short for it; the odd last byte is never needed. */
-static size_t need_within(const uint16_t hall[3], size_t bytes)
+static size_t need_within(enum room room, const uint16_t hall[3], size_t bytes)
 {
     size_t most = bytes - bytes % 2;
     if (hall[0] - 1u >= BOARD_MAX_DESKS || hall[1] - 1u >= BOARD_MAX_SCREENS ||
         hall[2] - 1u >= BOARD_MAX_POSITIONS)
         return most;
-    size_t need = 2 * board_need(hall[0], hall[1], hall[2]);
+    size_t need = 2 * need_of(room, hall[0], hall[1], hall[2]);
     return need < most ? need : most;
 }
 
 /* How many bytes from the start a step or a run may access. */
-static size_t reach_by_header(const uint8_t *table, size_t bytes)
+static size_t reach_by_header(enum room room, const uint8_t *table, size_t bytes)
 {
     uint16_t hall[3];
     if (bytes < sizeof hall)
         return bytes - bytes % 2;
     for (int i = 0; i < 3; i++)
         hall[i] = (uint16_t)(table[2 * i] | table[2 * i + 1] << 8);
-    return need_within(hall, bytes);
+    return need_within(room, hall, bytes);
 }
 
 /* How many bytes from the start a call may access. */
 static size_t reach(const struct call *call, const uint8_t *table, size_t bytes)
 {
-    return call->function == OPEN ? need_within(call->numbers, bytes) : reach_by_header(table, bytes);
+    return call->function == OPEN ? need_within(call->room, call->numbers, bytes)
+                                  : reach_by_header(call->room, table, bytes);
 }
 
 /* ---- what must hold -------------------------------------------------- */
@@ -249,7 +250,8 @@ static void require(bool good, const char *what)
 static void keeps_the_message_numbers(const struct call *call)
 {
     for (uint16_t desk = 1; desk <= read_word(lent.table, 0); desk++) {
-        uint16_t old = due_message(before, lent.bytes, desk), now = due_message(lent.table, lent.bytes, desk);
+        uint16_t old = due_message(call->room, before, lent.bytes, desk);
+        uint16_t now = due_message(call->room, lent.table, lent.bytes, desk);
         if (call->function == OPEN)
             require(now == 0, "an opening sets the message numbers to 0");
         else if (desk == call->numbers[0])
@@ -260,9 +262,25 @@ static void keeps_the_message_numbers(const struct call *call)
     }
 }
 
-static bool only_message_changed(uint16_t desk)
+/* Of an accepted call on a ring. */
+static void keeps_the_beginnings(const struct call *call, uint32_t answer)
 {
-    size_t message = 2 * message_index(before, desk), past = message + 2;
+    for (uint16_t desk = 1; desk <= read_word(lent.table, 0); desk++) {
+        uint16_t now = read_word(lent.table, beginning_index(lent.table, desk));
+        if (call->function == OPEN) {
+            require(now == 0, "an opening sets the beginnings to 0");
+            continue;
+        }
+        size_t old = read_word(before, beginning_index(before, desk));
+        bool hands_back = call->function == COLLECT && desk == call->numbers[0] && board_session(answer) != 0;
+        require(now == (old + hands_back) % (2 * all_screens(before)),
+                "a hand-back moves its desk's beginning by one place around, and nothing else moves one");
+    }
+}
+
+static bool only_message_changed(enum room room, uint16_t desk)
+{
+    size_t message = 2 * message_index(room, before, desk), past = message + 2;
     return memcmp(before, lent.table, message) == 0 &&
            memcmp(before + past, lent.table + past, lent.bytes - past) == 0;
 }
@@ -282,9 +300,11 @@ static void keeps_the_headers_promises(const struct call *call, uint32_t answer)
         require(board_number(boards[call->room].collect(0, 0, passed, lent.bytes)) == BOARD_NO_DESK,
                 "an accepted call leaves a sound table");
         keeps_the_message_numbers(call);
+        if (call->room == RING)
+            keeps_the_beginnings(call, answer);
     }
     if (is_repeat(call, answer))
-        require(only_message_changed(call->numbers[0]), "a repeat leaves every other byte");
+        require(only_message_changed(call->room, call->numbers[0]), "a repeat leaves every other byte");
 }
 
 /* Makes the call again, with all bytes that it may not access on an inaccessible
@@ -326,7 +346,7 @@ static void is_as_single_calls(void)
 
 static void run_keeps_the_headers_promises(uint32_t answer)
 {
-    size_t touched = reach_by_header(before, lent.bytes);
+    size_t touched = reach_by_header(HALL, before, lent.bytes);
     uint16_t number = board_number(answer);
     bool has_room = replies.bytes / REPLY_BYTES >= length, is_accepted = number == BOARD_ACCEPTED;
     /* No hall has a desk 0, so a sound table gives 6. */
@@ -352,7 +372,7 @@ static void run_keeps_the_headers_promises(uint32_t answer)
  * inaccessible pages. */
 static void run_reaches_no_further(uint32_t answer)
 {
-    size_t touched = reach_by_header(before, lent.bytes), of_replies = length * REPLY_BYTES;
+    size_t touched = reach_by_header(HALL, before, lent.bytes), of_replies = length * REPLY_BYTES;
     if (of_replies > replies.bytes)
         of_replies = 0; /* 4 */
     place_table(&reachable, AT_END, touched);

@@ -5,7 +5,7 @@
 #include <stddef.h>
 #include <stdint.h>
 
-/* Rooms 0 and 1: the hall and the training room. Functions 0 to 5: open, take, drop,
+/* Rooms 0 to 2: the hall, the training room and the board with rings. Functions 0 to 5: open, take, drop,
  * swap, retire, collect. The message number and the other numbers that a function does
  * not have are ignored. */
 uint32_t reference_call(uint8_t room, uint8_t function, uint16_t message, const uint16_t numbers[3],

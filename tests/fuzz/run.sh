@@ -1,5 +1,5 @@
 #!/bin/sh
-# Fuzzes the calls of both rooms and runs, then the sheet programs, each for half of the time:
+# Fuzzes the calls of both rooms and of the rings, and runs, then the sheet programs, each for half of the time:
 #
 #     tests/fuzz/run.sh LIBDIR PROGRAMS MINUTES
 #

@@ -12,7 +12,8 @@
  * message number alone.
  *
  * A step carries the message number that is due from its desk, if nothing else is
- * said. All of it is done in the hall and in the training room.
+ * said. All of it is done in the hall, in the training room and on the board with
+ * rings.
  *
  * Each step of the hall is also made as a run of one step. The steps of a run are
  * always on read-only pages.
@@ -105,7 +106,7 @@ static size_t bytes_passed; /* the length passed to the board */
 
 static struct guarded_memory lent_steps, lent_replies; /* for a run */
 
-static uint8_t before[BOARD_MAX_BYTES + SPARE];
+static uint8_t before[RING_MAX_BYTES + SPARE]; /* a ring's table is the longest */
 
 static void lend(int place, size_t bytes)
 {
@@ -433,7 +434,7 @@ static bool is_reply(const struct call *call, uint16_t number)
 
 static uint16_t due(uint16_t desk)
 {
-    return due_message(lent.table, lent.bytes, desk);
+    return due_message(room, lent.table, lent.bytes, desk);
 }
 
 /* Makes a call on the lent table, and checks what holds of every call. */
@@ -496,6 +497,11 @@ static uint32_t collect(uint16_t desk)
     return step(COLLECT, desk, 0, 0);
 }
 
+static inline bool is_accepted(uint32_t answer)
+{
+    return board_number(answer) == BOARD_ACCEPTED;
+}
+
 static void accepts(uint32_t answer, uint16_t session, const char *what)
 {
     check(answer == session, what);
@@ -518,13 +524,19 @@ static void set_word(size_t at, uint16_t value)
 
 static size_t record(uint16_t desk)
 {
-    return record_index(lent.table, desk);
+    return record_index(room, lent.table, desk);
+}
+
+/* The session that has this index in the order of a desk's list. */
+static uint16_t listed(uint16_t desk, size_t index)
+{
+    return word(list_index(room, lent.table, desk, index));
 }
 
 /* Has the last call, a step of this desk, changed its message number alone? */
 static bool only_message_changed(uint16_t desk)
 {
-    size_t message = 2 * message_index(lent.table, desk), past = message + 2;
+    size_t message = 2 * message_index(room, lent.table, desk), past = message + 2;
     return memcmp(before, lent.table, message) == 0 &&
            memcmp(before + past, lent.table + past, lent.bytes - past) == 0;
 }
@@ -538,7 +550,7 @@ static size_t book_out_of_reach; /* passed beyond what is lent: on the inaccessi
 /* A fresh hall, with some bytes past its need that stay guarded. */
 static void hall(uint16_t desks, uint16_t screens, uint16_t positions)
 {
-    size_t need = 2 * board_need(desks, screens, positions);
+    size_t need = 2 * need_of(room, desks, screens, positions);
     lend(book_place, need + book_spare);
     writable = need;
     bytes_passed = need + book_spare + book_out_of_reach;
@@ -567,16 +579,18 @@ static void show(uint16_t desk, uint16_t session)
 
 static void case_a(void)
 {
-    check(board_need(1, 1, 1) == 21, "A: need 21");
-    lend(book_place, 2 * 20);
-    refuses(open_hall(1, 1, 1), BOARD_TABLE_SHORT, "A: 20 words give 4");
+    size_t need = room == RING ? 22 : 21;
+    check(need_of(room, 1, 1, 1) == need, "A: need 21, or 22 with rings");
+    lend(book_place, 2 * (need - 1));
+    refuses(open_hall(1, 1, 1), BOARD_TABLE_SHORT, "A: a word less gives 4");
     hall(1, 1, 1);
 }
 
 static void case_b(void)
 {
-    check(board_need(16, 4, 64) == 2403, "B: need 2403");
+    check(board_need(16, 4, 64) == 2403 && ring_need(16, 4, 64) == 2419, "B: need 2403, or 2419 with rings");
     check(BOARD_MAX_WORDS == 2403 && BOARD_MAX_BYTES == 4806, "B: the header's numbers");
+    check(RING_MAX_WORDS == 2419 && RING_MAX_BYTES == 4838, "B: the header's numbers for rings");
     hall(limits->desks, limits->screens, limits->positions);
     refuses(open_hall(17, 4, 64), BOARD_BAD_DESKS, "B: 17 desks give 1");
 }
@@ -616,7 +630,7 @@ static void case_e(void)
     size_t desk = record(1);
     check(word(desk + 2) == 0 && word(desk + 3) == 0, "E: none ready or tested");
     check(word(desk + 4) == 1, "E: one waits");
-    check(word(desk + 13) == 5 && word(desk + 14) == 0, "E: and that is a 5");
+    check(listed(1, 0) == 5 && listed(1, 1) == 0, "E: and that is a 5");
 }
 
 static void case_f(void)
@@ -757,14 +771,14 @@ static void every_length(int place)
     static const uint8_t header[6] = {1, 0, 1, 0, 1, 0};
     for (size_t bytes = 0; bytes <= 50; bytes++) {
         lend(place, bytes);
-        if (bytes / 2 < 21) {
+        if (bytes / 2 < need_of(room, 1, 1, 1)) {
             refuses(open_hall(1, 1, 1), BOARD_TABLE_SHORT, "too short to open");
             refuses(open_hall(0, 1, 1), BOARD_BAD_DESKS, "1 is asked before 4");
             memset(lent.table, 0, bytes);
             memcpy(lent.table, header, bytes < 6 ? bytes : 6);
             steps_refuse_with_5();
         } else {
-            writable = 42;
+            writable = 2 * need_of(room, 1, 1, 1);
             accepts(open_hall(1, 1, 1), 0, "long enough to open");
             accepts(swap(1, 1, 9), 0, "a swap");
             accepts(take(1, 1, 1), 9, "a take");
@@ -807,8 +821,8 @@ static void fill(enum filling with)
 
 static void unopened(int place, enum filling with)
 {
-    static const size_t lengths[] = {0, 1, 2, 3, 5, 6, 7, 41, 42, 43, 50, 80, 81, 85, 86, 87,
-                                     1000, BOARD_MAX_BYTES - 1, BOARD_MAX_BYTES};
+    static const size_t lengths[] = {0, 1, 2, 3, 5, 6, 7, 41, 42, 43, 44, 45, 50, 80, 81, 85, 86, 87,
+                                     88, 89, 90, 91, 1000, BOARD_MAX_BYTES - 1, BOARD_MAX_BYTES};
     for (size_t i = 0; i < sizeof lengths / sizeof *lengths; i++) {
         lend(place, lengths[i]);
         fill(with);
@@ -816,11 +830,11 @@ static void unopened(int place, enum filling with)
         refuses(open_hall(17, 1, 1), BOARD_BAD_DESKS, "open gives 1");
         refuses(open_hall(1, 5, 1), BOARD_BAD_SCREENS, "open gives 2");
         refuses(open_hall(1, 1, 65), BOARD_BAD_POSITIONS, "open gives 3");
-        bool fits = lengths[i] / 2 >= board_need(2, 1, 2);
+        bool fits = lengths[i] / 2 >= need_of(room, 2, 1, 2);
         uint32_t answer = open_hall(2, 1, 2);
         check(answer == (fits ? 0 : (uint32_t)BOARD_TABLE_SHORT << 16), "open gives 0 or 4");
         if (fits) {
-            size_t need = 2 * board_need(2, 1, 2);
+            size_t need = 2 * need_of(room, 2, 1, 2);
             check(memcmp(before + need, lent.table + need, lent.bytes - need) == 0,
                   "words past the need keep what they held");
             accepts(collect(2), 0, "and the hall is open");
@@ -964,7 +978,7 @@ static void repeats(uint16_t desks, uint16_t screens, uint16_t positions)
 
 static void set_due(uint16_t desk, uint16_t message)
 {
-    set_word(message_index(lent.table, desk), message);
+    set_word(message_index(room, lent.table, desk), message);
 }
 
 /* A step with another number, near the one that is due or with a byte of it. */
@@ -1068,7 +1082,7 @@ static void new_run(void)
 /* A step at this distance from the message number that is due. */
 static uint32_t add_at(uint16_t distance, enum function function, uint16_t desk, uint16_t second, uint16_t third)
 {
-    uint16_t message = (uint16_t)(due_message(run.table, lent.bytes, desk) + distance);
+    uint16_t message = (uint16_t)(due_message(HALL, run.table, lent.bytes, desk) + distance);
     struct step step = step_of(&(struct call){HALL, function, message, {desk, second, third}}, random_word());
     return add_step(&run, &step);
 }
@@ -1081,7 +1095,7 @@ static uint32_t add(enum function function, uint16_t desk, uint16_t second, uint
 /* A step with another code, whose other words would do for any step. */
 static uint32_t add_code(uint16_t code, uint16_t desk)
 {
-    return add_step(&run, &(struct step){code, due_message(run.table, lent.bytes, desk), desk, 1, 1, 1});
+    return add_step(&run, &(struct step){code, due_message(HALL, run.table, lent.bytes, desk), desk, 1, 1, 1});
 }
 
 static uint32_t perform_exact_run(void)
@@ -1277,7 +1291,7 @@ static struct step random_step(size_t index, size_t steps)
 {
     uint16_t desk = random_number(one_in(2) ? word(0) : random_up_to(word(0)));
     uint16_t code = random_up_to(index < steps / 2 && !one_in(50) ? 4 : 5);
-    uint16_t message = due_message(run.table, lent.bytes, desk);
+    uint16_t message = due_message(HALL, run.table, lent.bytes, desk);
     return (struct step){
         .code = one_in(30) ? (uint16_t)(one_in(2) ? random_word() | 8 : code << 8) : code,
         .message = one_in(30) ? (uint16_t)(message + (one_in(2) ? -1 : random_up_to(300))) : message,
@@ -1352,7 +1366,7 @@ static void too_large(uint16_t desks, uint16_t screens, uint16_t positions)
     refuses(open_hall(desks, 5, positions), BOARD_BAD_SCREENS, "2 is asked before 22");
     refuses(open_hall(desks, screens, 65), BOARD_BAD_POSITIONS, "3 is asked before 22");
     steps_refuse_with_5();
-    lend(book_place, 2 * board_need(desks, screens, positions) - 1);
+    lend(book_place, 2 * need_of(room, desks, screens, positions) - 1);
     refuses(open_hall(desks, screens, positions), BOARD_OVER_LIMITS, "22 is asked before 4");
     lend(book_place, 0);
     refuses(open_hall(desks, screens, positions), BOARD_OVER_LIMITS, "22 is asked before 4");
@@ -1385,6 +1399,131 @@ static void over_the_limit(uint16_t session)
     accepts(swap(4, 2, 999), session, "a swap replies it");
 }
 
+/* ---- rings ----------------------------------------------------------- */
+
+static uint16_t beginning(uint16_t desk)
+{
+    return word(beginning_index(lent.table, desk));
+}
+
+static void set_beginning(uint16_t desk, uint16_t value)
+{
+    set_word(beginning_index(lent.table, desk), value);
+}
+
+static uint16_t places(void)
+{
+    return (uint16_t)(2 * all_screens(lent.table));
+}
+
+static void set_screens(uint16_t session)
+{
+    for (size_t i = 0; i < all_screens(lent.table); i++)
+        set_word(screen_index(lent.table, 1, 1) + i, session);
+}
+
+/* A desk's list that begins here is filled by retires, is kept while the screens show
+ * half of it, and is handed back to the last. */
+static void around(uint16_t desks, uint16_t screens, uint16_t desk, uint16_t first)
+{
+    uint16_t all = (uint16_t)(desks * screens);
+    hall(desks, screens, 1);
+    set_beginning(desk, first);
+    accepts(collect(desk), 0, "nothing on the list");
+    for (uint16_t i = 0; i < places(); i++)
+        wait_on_list(desk, (uint16_t)(i < all ? 9 : 1000 + i));
+    check(word(record(desk) + LIST + first) == 9 && listed(desk, places() - 1u) == 1000 + places() - 1,
+          "the list goes around the end");
+    check(beginning(desk) == first, "a retire leaves the beginning");
+    set_screens(9);
+    for (uint16_t reads = 2; reads < all; reads += 2)
+        accepts(collect(desk), 0, "reading the hall");
+    check(beginning(desk) == first, "a reading leaves the beginning");
+    for (uint16_t back = 1; back <= all; back++) {
+        accepts(collect(desk), (uint16_t)(1000 + all + back - 1), "those not shown are back");
+        check(beginning(desk) == (first + back) % places(), "each moves the beginning on");
+        check(word(record(desk) + LIST + (first + back - 1u) % places()) == 0, "each leaves its place empty");
+    }
+    set_screens(0);
+    for (uint16_t back = 0, collects = 0; back < all && collects < 4 * all; collects++)
+        back += board_session(collect(desk)) == 9;
+    check(beginning(desk) == first, "once around");
+    accepts(collect(desk), 0, "nothing is left");
+    check(only_message_changed(desk), "an empty list keeps its beginning");
+}
+
+/* A ring that begins at no place of its list, or at another place. */
+static void wrong_beginnings(uint16_t desks, uint16_t screens, uint16_t desk)
+{
+    hall(desks, screens, 1);
+    uint16_t wrong[] = {places(), (uint16_t)(places() + 1), 256, 0x8000, 65535};
+    for (size_t i = 0; i < sizeof wrong / sizeof *wrong; i++) {
+        set_beginning(desk, wrong[i]);
+        steps_refuse_with_5();
+    }
+    set_beginning(desk, 0);
+    wait_on_list(desk, 5);
+    for (uint16_t other = 1; other < places(); other++) {
+        set_beginning(desk, other);
+        steps_refuse_with_5();
+    }
+    set_beginning(desk, 0);
+    refuses(retire(desk), BOARD_OWES_NOTHING, "sound again");
+}
+
+/* The first board beside the ring, with its message numbers. */
+static uint8_t first_board[BOARD_MAX_BYTES];
+static size_t first_bytes;
+
+/* Are the ring's words those of the first board, its lists read from their beginnings? */
+static bool reads_as_first_board(void)
+{
+    bool same = memcmp(lent.table, first_board, 2 * record_index(HALL, first_board, 1)) == 0;
+    for (uint16_t desk = 1; desk <= word(0); desk++) {
+        const uint8_t *record_of_first = first_board + 2 * record_index(HALL, first_board, desk);
+        same = same && memcmp(lent.table + 2 * record(desk), record_of_first, 2 * LIST) == 0;
+        same = same && due(desk) == due_message(HALL, first_board, first_bytes, desk);
+        for (size_t i = 0; i < places(); i++)
+            same = same && listed(desk, i) == read_word(record_of_first, LIST + i);
+    }
+    return same;
+}
+
+/* A step that is mostly accepted, of a desk that is mostly the last. */
+static struct call random_call(void)
+{
+    enum function function = (enum function)(one_in(3) ? COLLECT : random_up_to(COLLECT));
+    uint16_t desk = one_in(4) ? random_up_to((uint16_t)(word(0) + 1)) : word(0);
+    struct call call = {RING, function, due(desk), {desk, 1, 1}};
+    call.numbers[1] = random_up_to(function == SWAP ? word(2) : word(1));
+    call.numbers[2] = function == SWAP ? random_word() % 5 : random_up_to(word(2));
+    if (one_in(50))
+        call.message++;
+    return call;
+}
+
+/* A history from an opening gets the answers of the first board, and a beginning counts
+ * the hand-backs of its desk. */
+static void beside_the_first_board(uint16_t desks, uint16_t screens, uint16_t positions, int steps)
+{
+    size_t handed_back[BOARD_MAX_DESKS + 1] = {0};
+    hall(desks, screens, positions);
+    first_bytes = 2 * board_need(desks, screens, positions);
+    accepts(board_open(desks, screens, positions, first_board, first_bytes), 0, "the first board opens");
+    for (int i = 0; i < steps; i++) {
+        struct call call = random_call(), of_first = call;
+        of_first.room = HALL;
+        uint32_t answer = perform(call);
+        check(send_call(&of_first, first_board, first_bytes) == answer, "the first board's answer");
+        check(reads_as_first_board(), "the first board's table");
+        if (call.function == COLLECT && is_accepted(answer) && answer != 0)
+            handed_back[call.numbers[0]]++;
+    }
+    for (uint16_t desk = 1; desk <= desks; desk++)
+        check(beginning(desk) == handed_back[desk] % places(), "the beginning counts hand-backs");
+    check(handed_back[desks] > places() || steps < 2000, "once around");
+}
+
 /* ---- the stack ------------------------------------------------------- */
 
 /* What the header says that a call takes at most. */
@@ -1392,15 +1531,10 @@ enum { STACK_SAID = 1024, STACK = 64 * 1024, UNTOUCHED = 0xA5 };
 
 static uint16_t busy_desks, busy_screens, busy_positions;
 
-static inline bool is_accepted(uint32_t answer)
-{
-    return board_number(answer) == BOARD_ACCEPTED;
-}
-
 /* Lists that fill up, and then collects that mark, settle and hand back. */
 static void busy_hall(void)
 {
-    static uint8_t table[BOARD_MAX_BYTES];
+    static uint8_t table[RING_MAX_BYTES];
     const struct board *board = &boards[room];
     size_t bytes = sizeof table;
     uint16_t message = 0;
@@ -1451,7 +1585,7 @@ static void add_busy(enum function function, uint16_t second, uint16_t third)
 {
     if (busy_steps == BUSY_STEPS)
         return;
-    uint16_t message = due_message(busy_run_table, sizeof busy_run_table, 1);
+    uint16_t message = due_message(HALL, busy_run_table, sizeof busy_run_table, 1);
     struct step step = step_of(&(struct call){HALL, function, message, {1, second, third}}, 0);
     send_step(&step, busy_run_table, sizeof busy_run_table);
     write_step(busy_run_steps, busy_steps++, &step);
@@ -1523,7 +1657,7 @@ static void hall_books(void)
     end();
 
     begin("hall book with the words past the need out of reach");
-    book_out_of_reach = BOARD_MAX_BYTES;
+    book_out_of_reach = RING_MAX_BYTES;
     hall_book(AT_END, 0);
     far_corner(AT_END);
     book_out_of_reach = 0;
@@ -1550,7 +1684,7 @@ static void every_answer_on_read_only_pages(void)
     far_corner(ALIGNED_0);
     every_answer(1, 1, 1, 1);
     every_answer(2, 1, 3, 2);
-    if (room == HALL) {
+    if (room != TRAINING) {
         for (uint16_t desk = 1; desk <= 6; desk++)
             every_answer(6, 1, 12, desk);
         every_answer(3, 3, 1, 2);
@@ -1574,7 +1708,7 @@ static void repeats_on_read_only_pages(void)
         repeats(1, 1, 1);
         repeats(2, 1, 3);
     }
-    if (room == HALL) {
+    if (room != TRAINING) {
         repeats(6, 1, 12);
         repeats(3, 3, 1);
     }
@@ -1668,6 +1802,36 @@ static void shifts(void)
     lent_replies = short_replies;
 }
 
+static void rings(void)
+{
+    begin("rings from every beginning, with all pages outside the footprint read-only");
+    read_only = true;
+    for (int place = AT_START; place < PLACES; place++) {
+        book_place = place;
+        around(1, 1, 1, 0);
+        around(1, 1, 1, 1);
+        wrong_beginnings(1, 1, 1);
+    }
+    for (uint16_t first = 0; first < 6; first++)
+        for (uint16_t desk = 1; desk <= 3; desk++)
+            around(3, 1, desk, first);
+    for (uint16_t first = 0; first < 128; first += 9)
+        around(16, 4, (uint16_t)(first % 16 + 1), first);
+    around(16, 4, 16, 127);
+    wrong_beginnings(3, 1, 2);
+    wrong_beginnings(16, 4, 16);
+    beside_the_first_board(2, 1, 2, 500);
+    read_only = false;
+    end();
+
+    begin("rings beside the first board");
+    beside_the_first_board(1, 1, 1, 20000);
+    beside_the_first_board(3, 1, 2, 20000);
+    beside_the_first_board(6, 1, 12, 20000);
+    beside_the_first_board(16, 4, 64, 20000);
+    end();
+}
+
 static void over_the_limits(void)
 {
     static const uint16_t sessions[] = {1000, 1001, 1023, 1024, 65535};
@@ -1692,7 +1856,7 @@ static void stack(void)
 {
     begin("stack");
     stack_use(1, 1, 1);
-    if (room == HALL)
+    if (room != TRAINING)
         stack_use(6, 1, 12);
     stack_use(limits->desks, limits->screens, limits->positions);
     if (room == HALL) {
@@ -1724,7 +1888,7 @@ static void any_table(void)
 int main(void)
 {
     page = (size_t)sysconf(_SC_PAGESIZE);
-    lent = make_guarded_memory(BOARD_MAX_BYTES);
+    lent = make_guarded_memory(RING_MAX_BYTES);
     lent_steps = make_guarded_memory(SHORT_RUN * STEP_BYTES);
     lent_replies = make_guarded_memory(SHORT_RUN * REPLY_BYTES);
     table_strip = make_strip(TABLE_PAGES);
@@ -1742,6 +1906,8 @@ int main(void)
             runs_at_every_place();
             shifts();
         }
+        if (room == RING)
+            rings();
         stack();
         any_table();
     }

@@ -1,12 +1,13 @@
 #!/usr/bin/env python3
-"""Compares every store of the calls of both rooms, and of runs, with the footprint of the call.
+"""Compares every store of the calls of both rooms, of the board with rings, and of runs, with the footprint of the call.
 
 usage: tests/stores/check.py DRIVER [ARGUMENT ..]
 
 DRIVER is driver.c with an archive. It runs under valgrind's lackey, which prints every store with its address and size.
 The driver stores to its marker before and after each call, and prints the footprint of each call, table by table. A
-store that changes nothing counts like any other. The last line is 'stores: N calls, M stores into tables, K stray', and
-the exit status is 0 only if K is 0.
+store that changes nothing counts like any other. A turn, which is a collect of a ring that hands a session back and
+does nothing else, must store to the same number of words, whatever the hall and the length of the list. The last line
+is 'stores: N calls, M stores into tables, K stray, W words a turn', and the exit status is 0 only if K is 0.
 """
 import os
 import subprocess
@@ -56,6 +57,15 @@ class Call:
     def is_complete(self):
         """If the trace does not show a store that an accepted call must make, the trace is broken, or the board."""
         return all(table.is_complete() for table in self.lent)
+
+
+def words_of_turns(calls):
+    """To how many words a turn stores. Several numbers, or none, are an error."""
+    words = {len({byte // 2 for byte in table.stored})
+             for call in calls if call.name.endswith('(turn)') for table in call.lent}
+    if len(words) != 1:
+        sys.exit(f'stores: turns of a ring store to {sorted(words)} words')
+    return words.pop()
 
 
 def traced(command):
@@ -121,7 +131,7 @@ def main():
             sys.exit(f'stores: {call.name} in a hall of {call.hall}: accepted, but the trace does not show all its '
                      'stores')
     strays = sum(map(len, stray.values()))
-    print(f'stores: {len(calls)} calls, {count} stores into tables, {strays} stray')
+    print(f'stores: {len(calls)} calls, {count} stores into tables, {strays} stray, {words_of_turns(calls)} words a turn')
     sys.exit(1 if strays else 0)
 
 

@@ -15,7 +15,8 @@
  * table's words before the call; a range that ends in '!' must be stored to.
  * These are all bytes of an opening, the desk's message number of an accepted step,
  * and the replies of an accepted run. A refusal has no ranges. The code below says
- * of each call whether it is accepted.
+ * of each call whether it is accepted. A collect of a ring that hands a session back and
+ * does nothing else, because all others are ready, is a turn: "ring_collect 0 1 (turn)".
  *
  * Each step of the hall is made as a single call and as a run of one step.
  */
@@ -30,13 +31,13 @@ enum { SPARE = 5, MARGIN = 64, PLACES = 16 };
 static volatile unsigned marker;
 
 /* The table between calls. Each call gets a copy, at another address. */
-static uint8_t kept[BOARD_MAX_BYTES + SPARE];
+static uint8_t kept[RING_MAX_BYTES + SPARE];
 static size_t lent_bytes;
 static enum room room;
 static uint16_t hall_desks, hall_screens, hall_positions;
 static size_t calls;
 
-static _Alignas(64) uint8_t memory[MARGIN + PLACES + BOARD_MAX_BYTES + SPARE + MARGIN];
+static _Alignas(64) uint8_t memory[MARGIN + PLACES + RING_MAX_BYTES + SPARE + MARGIN];
 static _Alignas(64) uint8_t step_memory[MARGIN + PLACES + SHORT_RUN * STEP_BYTES + SPARE + MARGIN];
 static _Alignas(64) uint8_t reply_memory[MARGIN + PLACES + SHORT_RUN * REPLY_BYTES + SPARE + MARGIN];
 
@@ -52,7 +53,7 @@ static void set_word(size_t at, unsigned value)
 
 static size_t record(uint16_t desk)
 {
-    return record_index(kept, desk);
+    return record_index(room, kept, desk);
 }
 
 static void expect(bool good, const char *what)
@@ -85,10 +86,20 @@ static void print_footprint(const struct call *call)
         printf(" %zu-%zu%s", footprint.ranges[i].first, footprint.ranges[i].past, i + 1 == footprint.count ? "!" : "");
 }
 
+static bool is_turn(const struct call *call)
+{
+    if (call->room != RING || call->function != COLLECT)
+        return false;
+    size_t at = record(call->numbers[0]);
+    return word(at + READY) != 0 && word(at + TESTED) == 0 && word(at + WAITING) == 0;
+}
+
 static void print_line(const struct call *call, const uint8_t *table, bool accepted)
 {
     printf("call ");
     print_call(call);
+    if (accepted && is_turn(call))
+        printf(" (turn)");
     printf("|%u %u %u", hall_desks, hall_screens, hall_positions);
     print_lent("table", table, memory, sizeof memory);
     if (accepted)
@@ -123,7 +134,7 @@ static void print_run_footprint(void)
     for (size_t i = 0; i < run.count; i++) {
         if (board_number(run.answers[i]) != BOARD_ACCEPTED)
             continue;
-        size_t message = 2 * message_index(kept, run.steps[i].desk);
+        size_t message = 2 * message_index(HALL, kept, run.steps[i].desk);
         printf(" %zu-%zu!", message, message + 2);
     }
 }
@@ -196,7 +207,7 @@ static uint16_t make(const struct call *call, enum board_reply number)
 /* A call with the message number that is due. */
 static uint16_t call(enum function function, uint16_t a, uint16_t b, uint16_t c, enum board_reply number)
 {
-    return make(&(struct call){room, function, due_message(kept, lent_bytes, a), {a, b, c}}, number);
+    return make(&(struct call){room, function, due_message(room, kept, lent_bytes, a), {a, b, c}}, number);
 }
 
 /* ---- what is called --------------------------------------------------- */
@@ -204,7 +215,7 @@ static uint16_t call(enum function function, uint16_t a, uint16_t b, uint16_t c,
 static void openings(void)
 {
     uint16_t desks = hall_desks, screens = hall_screens, positions = hall_positions;
-    size_t need = 2 * board_need(desks, screens, positions);
+    size_t need = 2 * need_of(room, desks, screens, positions);
     memset(kept, 0xEE, sizeof kept);
     lent_bytes = need + SPARE;
     call(OPEN, 0, screens, positions, BOARD_BAD_DESKS);
@@ -246,7 +257,7 @@ static void unsound(uint16_t desk, size_t at, unsigned value)
 /* All five steps with another number than the one that is due. */
 static void other_message(uint16_t desk, uint16_t distance)
 {
-    uint16_t message = (uint16_t)(due_message(kept, lent_bytes, desk) + distance);
+    uint16_t message = (uint16_t)(due_message(room, kept, lent_bytes, desk) + distance);
     for (int function = TAKE; function <= COLLECT; function++)
         make(&(struct call){room, (enum function)function, message, {desk, 1, 1}}, BOARD_OTHER_MESSAGE);
 }
@@ -270,8 +281,10 @@ static void refusals(uint16_t desk)
     unsound(desk, last + LIST + 2 * all_screens(kept) - 1, word(last + LIST + 2 * all_screens(kept) - 1) == 0);
     unsound(desk, last + SCANNED, word(last + TESTED) == 0 ? 2 : 3);
     unsound(desk, last + MARKS + 7, 0x8000);
+    if (room == RING)
+        unsound(desk, beginning_index(kept, hall_desks), (unsigned)(2 * all_screens(kept)));
     size_t bytes = lent_bytes;
-    lent_bytes = 2 * board_need(hall_desks, hall_screens, hall_positions) - 1;
+    lent_bytes = 2 * need_of(room, hall_desks, hall_screens, hall_positions) - 1;
     all_refused(desk, BOARD_UNSOUND);
     lent_bytes = 5;
     all_refused(desk, BOARD_UNSOUND);
@@ -309,15 +322,18 @@ static void screens_and_positions(uint16_t desk)
 
 /* A desk's list, all waiting, and nothing owed. Every third is the session 9; the
  * others are over the limit of the training room, which asks only swaps for it. The
- * message numbers are about to run on from 65535 to 0. */
+ * message numbers are about to run on from 65535 to 0, and a ring begins at its last
+ * place but one, so that it runs around the end. */
 static void set_list(uint16_t desk, size_t used)
 {
-    size_t at = record(desk);
-    memset(kept + 2 * at, 0, 2 * (LIST + 2 * all_screens(kept)));
-    set_word(message_index(kept, desk), 65535);
+    size_t at = record(desk), places = 2 * all_screens(kept);
+    memset(kept + 2 * at, 0, 2 * (LIST + places));
+    set_word(message_index(room, kept, desk), 65535);
+    if (room == RING)
+        set_word(beginning_index(kept, desk), (unsigned)(places - 2));
     set_word(at + WAITING, (unsigned)used);
-    for (size_t slot = 0; slot < used; slot++)
-        set_word(at + LIST + slot, slot % 3 == 0 ? 9 : 1000 + (unsigned)slot);
+    for (size_t index = 0; index < used; index++)
+        set_word(list_index(room, kept, desk, index), index % 3 == 0 ? 9 : 1000 + (unsigned)index);
 }
 
 /* Every screen shows 9, or none does. */
@@ -366,17 +382,31 @@ static void readings(uint16_t desk, bool steps)
     expect(back == 2 && word(at + READY) == 0, "handed back to the last");
 }
 
+/* Collects of a desk whose list is full, or has two sessions, all ready: each hands one
+ * back, and nothing else is done. */
+static void hand_backs(uint16_t desk)
+{
+    size_t at = record(desk);
+    for (size_t used = 2 * all_screens(kept); used >= 2; used = used > 2 ? 2 : 0) {
+        set_list(desk, used);
+        set_word(at + WAITING, 0);
+        set_word(at + READY, (unsigned)used);
+        for (int collects = 0; collects < 2; collects++)
+            expect(call(COLLECT, desk, 0, 0, BOARD_ACCEPTED) != 0, "handed back");
+    }
+}
+
 /* Adds a step to the run, which must reply this number. */
 static void add(enum function function, uint16_t desk, uint16_t b, uint16_t c, enum board_reply number)
 {
-    uint16_t message = due_message(run.table, lent_bytes, desk);
+    uint16_t message = due_message(HALL, run.table, lent_bytes, desk);
     struct step step = step_of(&(struct call){HALL, function, message, {desk, b, c}}, 0xEEEE);
     expect_number(board_number(add_step(&run, &step)), number);
 }
 
 static void add_code(uint16_t code, uint16_t desk)
 {
-    struct step step = {code, due_message(run.table, lent_bytes, desk), desk, 1, 1, 1};
+    struct step step = {code, due_message(HALL, run.table, lent_bytes, desk), desk, 1, 1, 1};
     expect_number(board_number(add_step(&run, &step)), BOARD_NO_CODE);
 }
 
@@ -456,11 +486,13 @@ static void hall(enum room of, uint16_t desks, uint16_t screens, uint16_t positi
         screens_and_positions(1);
         readings((uint16_t)(desks / 2), false);
     }
+    hand_backs(desks);
     if (room == HALL)
         runs(desks);
 }
 
-/* With the argument 'small', the smallest hall of each room alone. */
+/* With the argument 'small', the smallest hall of each room alone; the board with rings
+ * counts as a room. */
 int main(int count, char **arguments)
 {
     static char buffer[1 << 16];
@@ -468,10 +500,13 @@ int main(int count, char **arguments)
     printf("marker %zu\n", (size_t)&marker);
     hall(HALL, 1, 1, 1);
     hall(TRAINING, 1, 1, 1);
+    hall(RING, 1, 1, 1);
     if (count < 2 || strcmp(arguments[1], "small") != 0) {
         hall(HALL, 6, 1, 12);
         hall(HALL, 16, 4, 64);
         hall(TRAINING, 4, 1, 12);
+        hall(RING, 6, 1, 12);
+        hall(RING, 16, 4, 64);
     }
     printf("done\n");
     return 0;

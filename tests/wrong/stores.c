@@ -5,6 +5,8 @@
  */
 #include "session_board.h"
 
+#include <string.h>
+
 enum { LIST = 13 };
 
 static void rewrite(uint8_t *table, size_t byte)
@@ -17,6 +19,17 @@ static size_t record_byte(const uint8_t *table, uint16_t desk, size_t word)
 {
     size_t all = (size_t)table[0] * table[2];
     return 2 * (3 + table[4] + all + (desk - 1u) * (LIST + 2 * all + 1) + word);
+}
+
+/* In the table of a ring. */
+static size_t ring_byte(const uint8_t *table, uint16_t desk, size_t word)
+{
+    return record_byte(table, desk, word) + 2 * (desk - 1u);
+}
+
+static size_t beginning_byte(const uint8_t *table, uint16_t desk)
+{
+    return ring_byte(table, desk, LIST + 2 * (size_t)table[0] * table[2] + 1);
 }
 
 static size_t message_byte(const uint8_t *table, uint16_t desk)
@@ -177,6 +190,71 @@ uint32_t __wrap_training_swap(uint16_t message, uint16_t desk, uint16_t position
     uint32_t answer = __real_training_swap(message, desk, position, session, table, bytes);
     if (board_number(answer) == BOARD_OVER_LIMITS)
         rewrite(table, 2 * (3 + position - 1u));
+    return answer;
+}
+#elif defined RING_OPEN_WRITES_BEHIND_THE_NEED
+uint32_t __real_ring_open(uint16_t desks, uint16_t screens, uint16_t positions, uint8_t *table, size_t bytes);
+
+uint32_t __wrap_ring_open(uint16_t desks, uint16_t screens, uint16_t positions, uint8_t *table, size_t bytes)
+{
+    uint32_t answer = __real_ring_open(desks, screens, positions, table, bytes);
+    if (board_number(answer) == BOARD_ACCEPTED)
+        table[2 * ring_need(desks, screens, positions)] = 0;
+    return answer;
+}
+#elif defined RING_TAKE_REWRITES_THE_BEGINNING
+uint32_t __real_ring_take(uint16_t message, uint16_t desk, uint16_t screen, uint16_t position,
+                          uint8_t *table, size_t bytes);
+
+uint32_t __wrap_ring_take(uint16_t message, uint16_t desk, uint16_t screen, uint16_t position,
+                          uint8_t *table, size_t bytes)
+{
+    uint32_t answer = __real_ring_take(message, desk, screen, position, table, bytes);
+    if (board_number(answer) == BOARD_ACCEPTED)
+        rewrite(table, beginning_byte(table, desk));
+    return answer;
+}
+#elif defined RING_RETIRE_REWRITES_THE_BEGINNING || defined RING_RETIRE_REWRITES_THE_NEXT_PLACE
+uint32_t __real_ring_retire(uint16_t message, uint16_t desk, uint8_t *table, size_t bytes);
+
+uint32_t __wrap_ring_retire(uint16_t message, uint16_t desk, uint8_t *table, size_t bytes)
+{
+    uint32_t answer = __real_ring_retire(message, desk, table, bytes);
+    if (board_number(answer) == BOARD_ACCEPTED) {
+#if defined RING_RETIRE_REWRITES_THE_BEGINNING
+        rewrite(table, beginning_byte(table, desk));
+#else
+        size_t places = 2 * (size_t)table[0] * table[2], used = 0;
+        for (size_t count = 2; count <= 4; count++)
+            used += table[ring_byte(table, desk, count)];
+        rewrite(table, ring_byte(table, desk, LIST + (table[beginning_byte(table, desk)] + used) % places));
+#endif
+    }
+    return answer;
+}
+#elif defined RING_COLLECT_OF_NOTHING_REWRITES_THE_BEGINNING || defined RING_COLLECT_REWRITES_THE_LIST || \
+    defined RING_COLLECT_REWRITES_THE_NEW_BEGINNING || defined RING_COLLECT_UNSOUND_REWRITES_THE_BEGINNING
+uint32_t __real_ring_collect(uint16_t message, uint16_t desk, uint8_t *table, size_t bytes);
+
+uint32_t __wrap_ring_collect(uint16_t message, uint16_t desk, uint8_t *table, size_t bytes)
+{
+    uint32_t answer = __real_ring_collect(message, desk, table, bytes);
+#if defined RING_COLLECT_OF_NOTHING_REWRITES_THE_BEGINNING
+    if (answer == 0)
+        rewrite(table, beginning_byte(table, desk));
+#elif defined RING_COLLECT_REWRITES_THE_LIST
+    size_t places = 2 * (size_t)table[0] * table[2];
+    for (size_t place = 0; board_number(answer) == BOARD_ACCEPTED && place < places; place++)
+        rewrite(table, ring_byte(table, desk, LIST + place));
+#elif defined RING_COLLECT_REWRITES_THE_NEW_BEGINNING
+    size_t places = 2 * (size_t)table[0] * table[2];
+    if (board_number(answer) == BOARD_ACCEPTED && board_session(answer) != 0)
+        rewrite(table, ring_byte(table, desk, LIST + table[beginning_byte(table, desk)] % places));
+#else
+    static const uint8_t smallest[6] = {1, 0, 1, 0, 1, 0};
+    if (board_number(answer) == BOARD_UNSOUND && bytes >= 2 * ring_need(1, 1, 1) && memcmp(table, smallest, 6) == 0)
+        rewrite(table, beginning_byte(table, 1));
+#endif
     return answer;
 }
 #endif

@@ -5,8 +5,8 @@ use reference::sheet::{printed, Conversion, Format};
 use reference::{answer, Limits};
 use std::slice;
 
-/// A call: rooms 0 and 1 are the hall and the training room; functions 0 to 5 are
-/// open, take, drop, swap, retire and collect, with the message number that all but
+/// A call: rooms 0 to 2 are the hall, the training room and the board with rings;
+/// functions 0 to 5 are open, take, drop, swap, retire and collect, with the message number that all but
 /// open have, and then the other numbers that they have, in the order of the header.
 ///
 /// # Safety
@@ -20,7 +20,7 @@ pub unsafe extern "C" fn reference_call(
     table: *mut u8,
     bytes: usize,
 ) -> u32 {
-    let limits = if room == 0 { Limits::HALL } else { Limits::TRAINING };
+    let limits = [Limits::HALL, Limits::TRAINING, Limits::RING][usize::from(room)];
     let [a, b, c] = *numbers;
     let table = lent(table, bytes);
     answer(match function {
