@@ -125,7 +125,8 @@ impl<'a> Record<'a> {
     }
 
     /// The reading is complete. Unmarked places become ready, marked ones wait
-    /// again: once the unmarked are before the marked, only the counts change.
+    /// again: once the unmarked are before the marked, only the counts change. A place that
+    /// keeps its session is not written.
     fn settle(&mut self) {
         let marks = marks(self.bytes);
         let (ready, tested) = (self.ready(), self.tested());
@@ -135,7 +136,7 @@ impl<'a> Record<'a> {
         }
         let unmarked = (0..tested).filter(|&j| !is_marked(marks, j));
         let marked = (0..tested).filter(|&j| is_marked(marks, j));
-        for (to, from) in unmarked.chain(marked).enumerate() {
+        for (to, from) in unmarked.chain(marked).enumerate().filter(|(to, from)| to != from) {
             self.set_listed(ready + to, before[from]);
         }
         let kept = marks.count_ones() as usize;
