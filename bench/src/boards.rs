@@ -34,9 +34,7 @@ fn make(calls: &archive::Calls, call: Call, message: u16, table: &mut [u8]) -> u
         Call::Open(desks, screens, positions) => calls.open(desks, screens, positions, table),
         Call::Take(desk, screen, position) => calls.take(message, desk, screen, position, table),
         Call::Drop(desk, screen) => calls.drop(message, desk, screen, table),
-        Call::Swap(desk, position, session) => {
-            calls.swap(message, desk, position, session, table)
-        }
+        Call::Swap(desk, position, session) => calls.swap(message, desk, position, session, table),
         Call::Retire(desk) => calls.retire(message, desk, table),
         Call::Collect(desk) => calls.collect(message, desk, table),
     }

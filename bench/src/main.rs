@@ -21,7 +21,7 @@ use shift::print_runs;
 use std::array::from_fn;
 use std::env;
 use std::process::Command;
-use timing::{median, Clock, Entries, Times, BATCH_BYTES, PASSES, PLACES, REPETITIONS};
+use timing::{median, Clock, Entry, BATCH_BYTES, PASSES, PLACES, REPETITIONS};
 
 const NAMES: [&str; 3] = ["ours", "Rust", "C"];
 
@@ -62,23 +62,23 @@ fn print_times() {
         for marks in [false, true] {
             for task in tasks(&hall, marks).unwrap_or_default() {
                 agree(&task);
-                print_row_of_times(clock.time(&entries(&task)));
+                print_row_of_times(&clock.time(&entries(&task)));
             }
         }
     }
 }
 
 /// All boards with the same task.
-fn entries(task: &Task) -> Entries<'_> {
+fn entries(task: &Task) -> [Entry<'_>; BOARDS.len()] {
     BOARDS.map(|board| (board, task))
 }
 
-fn print_row_of_times([first, second, third]: Times) {
-    println!("{first} {second} {third}");
+fn print_row_of_times(times: &[f64]) {
+    println!("{}", times.iter().map(f64::to_string).collect::<Vec<_>>().join(" "));
 }
 
 /// The times of every row, as a process of its own sees them.
-fn times_of_a_process(times_only: &str) -> Vec<Times> {
+fn times_of_a_process<const N: usize>(times_only: &str) -> Vec<[f64; N]> {
     let program = env::current_exe().expect("a program has a path");
     let output = Command::new(program).arg(times_only).output().expect("a program starts again");
     assert!(output.status.success(), "{}", String::from_utf8_lossy(&output.stderr));
@@ -91,8 +91,8 @@ fn times_of_a_process(times_only: &str) -> Vec<Times> {
 }
 
 /// The same, as the median of the processes.
-fn medians_of_processes(times_only: &str) -> Vec<Times> {
-    let processes: Vec<_> = (0..PROCESSES).map(|_| times_of_a_process(times_only)).collect();
+fn medians_of_processes<const N: usize>(times_only: &str) -> Vec<[f64; N]> {
+    let processes: Vec<_> = (0..PROCESSES).map(|_| times_of_a_process::<N>(times_only)).collect();
     let times = |row: usize, board: usize| processes.iter().map(|rows| rows[row][board]).collect();
     let medians = |row: usize| from_fn(|board| median(times(row, board)));
     (0..processes[0].len()).map(medians).collect()
@@ -157,7 +157,7 @@ fn print_places(clock: &mut Clock) {
 }
 
 /// The least, the median and the most of each board.
-fn of_boards(places: &[Times]) -> Vec<String> {
+fn of_boards(places: &[[f64; BOARDS.len()]]) -> Vec<String> {
     let spread = |board: usize| {
         let times: Vec<f64> = places.iter().map(|times| times[board]).collect();
         let least = times.iter().copied().fold(f64::INFINITY, f64::min);

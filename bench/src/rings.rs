@@ -5,7 +5,9 @@
 use crate::boards::{to_archive, to_ring};
 use crate::halls::{hand_backs, tasks, Task};
 use crate::timing::Clock;
-use crate::{halls, medians_of_processes, print_method, print_row_of_times, title, RING_TIMES_ONLY};
+use crate::{
+    halls, medians_of_processes, print_method, print_row_of_times, title, RING_TIMES_ONLY,
+};
 use reference::{first_board, place, Hall, Limits};
 
 /// A part of the printed tables.
@@ -36,32 +38,38 @@ pub fn print_ring_times() {
     let mut clock = Clock::new();
     for Part { hall, tasks, .. } in parts() {
         for task in tasks {
-            let (at_first, around) = (ring_task(&hall, &task, 0), ring_task(&hall, &task, end(&hall)));
+            let (at_first, around) =
+                (ring_task(&hall, &task, 0), ring_task(&hall, &task, end(&hall)));
             agree(&task, &at_first);
             agree(&task, &around);
-            let entries = [(to_archive as _, &task), (to_ring, &at_first), (to_ring, &around)];
-            print_row_of_times(clock.time(&entries));
+            // In pairs, so that each board follows the other: a third one would find the code of
+            // one of them warm.
+            let pairs = [&at_first, &around]
+                .map(|ring| clock.time(&[(to_archive, &task), (to_ring, ring)]));
+            print_row_of_times(pairs.as_flattened());
         }
     }
 }
 
 pub fn print_rings() {
     print_method();
-    println!("ring: the board with rings, every list at its first place; around: every list begins at");
-    println!("its last place");
+    println!(
+        "ring: the board with rings, every list at its first place; around: every list begins at"
+    );
+    println!("its last place; each is timed in turn with the first board");
     let mut rows = medians_of_processes(RING_TIMES_ONLY).into_iter();
     for Part { title, tasks, .. } in parts() {
         println!();
         println!("{title}");
-        let (first, ring, around) = ("first", "ring", "around");
-        println!("{:<38}{first:>8}{ring:>8}{around:>8}{:>12}{:>14}", "call", "ring/first", "around/first");
+        let columns = ["first", "ring", "ratio", "first", "around", "ratio"];
+        println!("{:<38}{}", "call", columns.map(|column| format!("{column:>8}")).concat());
         for task in tasks {
-            let [first, ring, around] = rows.next().expect("a row for each task");
+            let [first, ring, again, around] = rows.next().expect("a row for each task");
             println!(
-                "{:<38}{first:>8.1}{ring:>8.1}{around:>8.1}{:>12.2}{:>14.2}",
+                "{:<38}{first:>8.1}{ring:>8.1}{:>8.2}{again:>8.1}{around:>8.1}{:>8.2}",
                 task.name,
                 ring / first,
-                around / first
+                around / again
             );
         }
     }
@@ -108,6 +116,10 @@ fn agree(task: &Task, ring: &Task) {
     let of_call = to_ring(ring.call, ring.message, &mut of_ring);
     assert_eq!(of_call, answer, "{}: the ring answers else", task.name);
     if task.number == 0 {
-        assert!(first_board(&of_ring) == Some(of_first), "{}: it reads as another table", task.name);
+        assert!(
+            first_board(&of_ring) == Some(of_first),
+            "{}: it reads as another table",
+            task.name
+        );
     }
 }

@@ -20,15 +20,8 @@ pub const REPETITIONS: usize = 1001;
 pub const PLACES: usize = 64;
 const REPETITIONS_OF_A_PLACE: usize = 201;
 
-/// Three boards are timed in turn.
-pub const TIMED: usize = 3;
-
 /// A board, and what it is timed with.
 pub type Entry<'a> = (Board, &'a Task);
-pub type Entries<'a> = [Entry<'a>; TIMED];
-
-/// Nanoseconds of one call, for each board.
-pub type Times = [f64; TIMED];
 
 /// Where the tables of a batch stand: in bytes from the start of a page, one right behind
 /// the other or each at the same place of a page.
@@ -49,7 +42,7 @@ impl Layout {
 }
 
 /// The bytes of the longest table.
-fn longest(entries: &Entries) -> usize {
+fn longest(entries: &[Entry]) -> usize {
     entries.iter().map(|(_, task)| task.table.len()).max().unwrap_or(0)
 }
 
@@ -76,9 +69,9 @@ impl Clock {
         (BATCH_BYTES / bytes.next_multiple_of(PAGE)).clamp(1, 4)
     }
 
-    /// The median times of a call. The tables of a batch stand one behind the
+    /// The median times of a call, in nanoseconds, one for each board. The tables of a batch stand one behind the
     /// other, and the next batch begins elsewhere in the page.
-    pub fn time(&mut self, entries: &Entries) -> Times {
+    pub fn time<const N: usize>(&mut self, entries: &[Entry; N]) -> [f64; N] {
         let tables = Clock::tables(longest(entries));
         let mut times = entries.map(|_| Vec::with_capacity(REPETITIONS));
         for repetition in 0..REPETITIONS {
@@ -91,7 +84,7 @@ impl Clock {
 
     /// The median times of a call with its table at each of 64 places of a
     /// page: each on a cache line of its own, and each aligned in its own way.
-    pub fn time_at_places(&mut self, entries: &Entries) -> Vec<Times> {
+    pub fn time_at_places<const N: usize>(&mut self, entries: &[Entry; N]) -> Vec<[f64; N]> {
         let tables = Clock::tables_at_a_place(longest(entries));
         let mut times: Vec<_> = (0..PLACES).map(|_| entries.map(|_| Vec::new())).collect();
         // The places in turn, so that a disturbance meets all of them alike.
@@ -106,15 +99,15 @@ impl Clock {
     }
 
     /// A batch for each board. Who goes first changes, so that none gains by it.
-    fn turn(
+    fn turn<const N: usize>(
         &mut self,
         repetition: usize,
-        entries: &Entries,
+        entries: &[Entry; N],
         layout: &Layout,
-        times: &mut [Vec<f64>; TIMED],
+        times: &mut [Vec<f64>; N],
     ) {
-        for turn in 0..entries.len() {
-            let which = (repetition + turn) % entries.len();
+        for turn in 0..N {
+            let which = (repetition + turn) % N;
             let (board, task) = entries[which];
             let batch = self.time_batch(board, task, layout);
             times[which].push((batch - self.empty) / (layout.tables * passes(task)) as f64);
