@@ -271,9 +271,10 @@ programs_wrong() {
 
 # ---- stores ---------------------------------------------------------------
 
-# The read-only pages cannot show this one: it is between two words of the
+# The read-only pages cannot show these: they are between two words of the
 # footprint, on their page.
-unseen_by_pages=RETIRE_REWRITES_K
+unseen_by_pages="RETIRE_REWRITES_K RING_RETIRE_REWRITES_THE_NEXT_PLACE RING_COLLECT_REWRITES_THE_LIST"
+unseen_by_pages="$unseen_by_pages RING_COLLECT_REWRITES_THE_NEW_BEGINNING"
 
 stores_all() {
     grep -o 'defined [A-Z_]*' "$tests/wrong/stores.c" | sed 's/defined //' | sort -u
@@ -306,7 +307,7 @@ caught_by_pages() {
         "$tests/host/host_test.c" "$tests"/c/*.c "$right" -o "$work/host_test" 2>"$work/err" ||
         fail "$1: $(cat "$work/err")"
     if "$work/host_test" >"$work/out"; then
-        [ "$1" = "$unseen_by_pages" ] || fail "$1: not caught by host_test"
+        is_one_of "$1" "$unseen_by_pages" || fail "$1: not caught by host_test"
     else
         grep -q "^FAILED in .*: $2 .* a store to byte" "$work/out" || is_one_of "$2" "board_open ring_open" ||
             fail "$1: caught by host_test, but not as a store"
@@ -333,7 +334,7 @@ stores_wrong() {
 # Wrong boards that only the reference can tell.
 fuzz_boards="keeps-every-copy joins-in-mid-reading room-one-early position-before-screen newest-first"
 fuzz_boards="$fuzz_boards training-size-after-length training-sound-as-the-hall"
-fuzz_boards="$fuzz_boards message-before-desk message-after-screen"
+fuzz_boards="$fuzz_boards message-before-desk message-after-screen ring-beginning-of-2s-is-sound ring-marks-of-places"
 # Wrong boards that the header's promises rule out: the reference is patched too.
 fuzz_boards_and_reference="opening-clears-all opening-clears-odd-byte refused-swap-writes repeat-owes"
 fuzz_boards_and_reference="$fuzz_boards_and_reference message-of-one-byte message-left-by-an-opening"
@@ -341,6 +342,7 @@ fuzz_boards_and_reference="$fuzz_boards_and_reference message-moved-by-a-refused
 fuzz_boards_and_reference="$fuzz_boards_and_reference message-of-every-desk-moved message-first-in-the-record"
 fuzz_boards_and_reference="$fuzz_boards_and_reference run-moves-the-number-of-17 run-soundness-asked-first"
 fuzz_boards_and_reference="$fuzz_boards_and_reference run-clears-the-odd-byte run-part-of-a-step-done"
+fuzz_boards_and_reference="$fuzz_boards_and_reference ring-reset-when-empty ring-opening-leaves-the-beginnings"
 fuzz_programs="reads-once two-groups stops-at-refusal counts-exchanged offset-of-the-failing-byte"
 fuzz_programs="$fuzz_programs padded-zero-only shorten-keeps-padded-fields shorten-offset-without-zero-groups"
 fuzz_programs="$fuzz_programs edition-2-desk-of-an-accepted-record edition-2-edition-asked-after-both"

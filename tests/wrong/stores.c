@@ -21,6 +21,11 @@ static size_t record_byte(const uint8_t *table, uint16_t desk, size_t word)
     return 2 * (3 + table[4] + all + (desk - 1u) * (LIST + 2 * all + 1) + word);
 }
 
+static size_t places(const uint8_t *table)
+{
+    return 2 * (size_t)table[0] * table[2];
+}
+
 /* In the table of a ring. */
 static size_t ring_byte(const uint8_t *table, uint16_t desk, size_t word)
 {
@@ -29,12 +34,12 @@ static size_t ring_byte(const uint8_t *table, uint16_t desk, size_t word)
 
 static size_t beginning_byte(const uint8_t *table, uint16_t desk)
 {
-    return ring_byte(table, desk, LIST + 2 * (size_t)table[0] * table[2] + 1);
+    return ring_byte(table, desk, LIST + places(table) + 1);
 }
 
 static size_t message_byte(const uint8_t *table, uint16_t desk)
 {
-    return record_byte(table, desk, LIST + 2 * (size_t)table[0] * table[2]);
+    return record_byte(table, desk, LIST + places(table));
 }
 
 #if defined TAKE_REWRITES_THE_FIRST_WORD || defined TAKE_REWRITES_THE_NEXT_SCREEN
@@ -224,10 +229,10 @@ uint32_t __wrap_ring_retire(uint16_t message, uint16_t desk, uint8_t *table, siz
 #if defined RING_RETIRE_REWRITES_THE_BEGINNING
         rewrite(table, beginning_byte(table, desk));
 #else
-        size_t places = 2 * (size_t)table[0] * table[2], used = 0;
+        size_t used = 0;
         for (size_t count = 2; count <= 4; count++)
             used += table[ring_byte(table, desk, count)];
-        rewrite(table, ring_byte(table, desk, LIST + (table[beginning_byte(table, desk)] + used) % places));
+        rewrite(table, ring_byte(table, desk, LIST + (table[beginning_byte(table, desk)] + used) % places(table)));
 #endif
     }
     return answer;
@@ -243,13 +248,11 @@ uint32_t __wrap_ring_collect(uint16_t message, uint16_t desk, uint8_t *table, si
     if (answer == 0)
         rewrite(table, beginning_byte(table, desk));
 #elif defined RING_COLLECT_REWRITES_THE_LIST
-    size_t places = 2 * (size_t)table[0] * table[2];
-    for (size_t place = 0; board_number(answer) == BOARD_ACCEPTED && place < places; place++)
+    for (size_t place = 0; board_number(answer) == BOARD_ACCEPTED && place < places(table); place++)
         rewrite(table, ring_byte(table, desk, LIST + place));
 #elif defined RING_COLLECT_REWRITES_THE_NEW_BEGINNING
-    size_t places = 2 * (size_t)table[0] * table[2];
     if (board_number(answer) == BOARD_ACCEPTED && board_session(answer) != 0)
-        rewrite(table, ring_byte(table, desk, LIST + table[beginning_byte(table, desk)] % places));
+        rewrite(table, ring_byte(table, desk, LIST + table[beginning_byte(table, desk)]));
 #else
     static const uint8_t smallest[6] = {1, 0, 1, 0, 1, 0};
     if (board_number(answer) == BOARD_UNSOUND && bytes >= 2 * ring_need(1, 1, 1) && memcmp(table, smallest, 6) == 0)
