@@ -318,7 +318,7 @@ uint32_t training_collect(uint16_t message, uint16_t desk, uint8_t *table, size_
  *
  * Do not mix the calls of the two boards on a table: no call detects the other board's
  * tables reliably. Most are unsound (5), but some pass as sound (here a first board's
- * table of one desk with no session on its list, if it has one word to spare).
+ * table of one desk that has one word to spare, if this is 0).
  *
  * A refused call leaves every byte of the table unchanged, as on the first board.
  */
