@@ -88,10 +88,8 @@ vectors() {
 }
 
 # No published call is an accepted swap between sessions that share only their low byte, or a run of 256 steps, or has
-# a code outside 1 to 5 with the low byte of a step's. No published ring begins at 2S or more at another desk than the
-# first, or with a low byte below 2S, and none has a session before its beginning that is not on its list.
+# a code outside 1 to 5 with the low byte of a step's.
 unseen_by_vectors="repeat-of-one-byte run-length-of-one-byte run-code-of-one-byte"
-unseen_by_vectors="$unseen_by_vectors ring-beginning-of-desk-1 ring-beginning-of-one-byte ring-sound-not-around-the-end"
 
 # caught_by_vectors NAME: the published calls must catch a board that is wrong about repeats, the training room,
 # message numbers, runs or rings.
