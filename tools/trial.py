@@ -55,6 +55,12 @@ def first_refusal(run, folder):
     return None, ''
 
 
+def declaration_of(said):
+    """The declaration that a refusal is about."""
+    found = re.search(r'`([^`]+)`', said)
+    return found and found[1]
+
+
 def refusals(run, folder):
     """For each file of the crate with a refusal what the prover says there, in its order."""
     found = {}
@@ -120,6 +126,37 @@ def changed(texts):
     finally:
         for file, text in kept.items():
             file.write_text(text)
+
+
+# A top-level declaration that is no definition: a fact, or a law that facts may use.
+FACT = re.compile(r'^(?:pub )?(?!abbrev|unfoldable|record|data|module|use|infix)([^\s(){}]+) :', re.M)
+
+
+def groups_of(text):
+    """The top-level parts of a file of specs: what is indented belongs to the part before it."""
+    groups = []
+    for block in text.split('\n\n'):
+        if groups and block.startswith(' '):
+            groups[-1] += '\n\n' + block
+        else:
+            groups.append(block)
+    return groups
+
+
+def alone(text, fact):
+    """A file of specs with no other fact than this one, and with what that uses: the definitions, and the laws that are named."""
+    groups = groups_of(text)
+    while True:
+        words = [set(re.split(r'[\s(){},]+', group)) for group in groups]
+        kept = []
+        for at, group in enumerate(groups):
+            found = FACT.search(group)
+            others = (of for other, of in enumerate(words) if other != at)
+            if not found or found[1] == fact or any(found[1] in of for of in others):
+                kept.append(group)
+        if len(kept) == len(groups):
+            return '\n\n'.join(groups)
+        groups = kept
 
 
 # ---- Copies.

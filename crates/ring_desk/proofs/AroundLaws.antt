@@ -14,7 +14,7 @@ use Rattle.words.proofs.Laws.{length-words, words-part, words-put, words-take}
 use Rattle.marks.specs.Marks.{pick}
 use Rattle.ring_rules.specs.Ring.{rotate, slotAfter}
 use Rattle.ring_desk.specs.Around.{Parted}
-use Rattle.ring_rules.specs.laws.Rotations.{place-rotate, rotate-back, rotate-length, slot-get, slot-set}
+use Rattle.ring_rules.specs.laws.Rotations.{slot-rotate, rotate-back, rotate-length, slot-get, slot-set}
 
 -- a test of all elements of a list in two parts
 pub every-append : (f : ℕ → Bool) (xs ys : List ℕ) → every f (xs ++ ys) ≡ every f xs && every f ys
@@ -48,7 +48,7 @@ module _ (s a : ℕ) (l : List ℕ) (long : length l ≡ 2 * s) (h : a < 2 * s) 
   -- the others are those from the slot after them on
   pub around-rest : (n : ℕ) → n ≤ 2 * s → take (2 * s - n) (rotate (slotAfter s a n) l) ≡ drop n (rotate a l)
   around-rest n few =
-      ap (take (2 * s - n)) (sym (place-rotate s a l long h n few))
+      ap (take (2 * s - n)) (sym (slot-rotate s a l long h n few))
       ∙ take-at (drop n (rotate a l)) (take n (rotate a l)) (2 * s - n) (omega (arith, length-drop n (rotate a l), rotate-length a l))
 
   -- one word more is read

@@ -15,7 +15,7 @@ use Rattle.words.proofs.Laws.{words-part}
 use Rattle.desk.proofs.WordDesk.{markWordsIn}
 use Rattle.desk.proofs.DeskLaws.{testedIn}
 use Rattle.ring_rules.specs.Ring.{beginningIn, linear, rotate, slotAfter}
-use Rattle.ring_rules.specs.laws.Rotations.{place-rotate}
+use Rattle.ring_rules.specs.laws.Rotations.{slot-rotate}
 use Rattle.ring_rules.specs.laws.Records.{slots-length}
 use Rattle.ring_desk.proofs.RingReads.{Reads, head-long, head-same, in-parts, reads-as, reads-in-parts, reads-parts, rotated-long, slots-long, slots-rotated, tail-long, tail-same}
 
@@ -116,7 +116,7 @@ pub tested-around : (s b : ℕ) (r w : List ℕ) (a n : ℕ) → b < 2 * s → a
 tested-around s b r w a n hb fits long e =
     let slots = slotsIn s r in
     let many = slots-long s b r w e in
-    ap (take n) (sym (place-rotate s b slots many hb a (omega arith)))
+    ap (take n) (sym (slot-rotate s b slots many hb a (omega arith)))
     ∙ take-append-le n (drop a (rotate b slots)) (take a (rotate b slots)) (omega (arith, rotated-long s b r w e, length-drop a (rotate b slots)))
     ∙ ap (λ (x : List ℕ). take n (drop a x)) (slots-rotated s b r w e)
     ∙ tested-slots s w long a n fits

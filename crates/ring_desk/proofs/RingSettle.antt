@@ -18,7 +18,7 @@ use Rattle.desk.proofs.WordDesk.{markWordsIn, wordDesk}
 use Rattle.desk.proofs.DeskLaws.{Counted, counted, first-ready, hand-none, none-ready, part-stores, tested-part, testedIn}
 use Rattle.desk.proofs.DeskTie.{again, first-handed, formed-of, handed-encoded, marked-is, parted-encoded, parted-none, settled-counts}
 use Rattle.ring_rules.specs.Ring.{beginningAfter, beginningIn, circular, decodeRing, encodeRing, linear, rotate, slotAfter}
-use Rattle.ring_rules.specs.laws.Rotations.{place-rotate, rotate-length}
+use Rattle.ring_rules.specs.laws.Rotations.{slot-rotate, rotate-length}
 use Rattle.ring_desk.specs.RingRecord.{RingEncoded, handBackRing, withDesk}
 use Rattle.ring_desk.specs.Around.{Parted}
 use Rattle.ring_desk.proofs.AroundLaws.{put-rotated}
@@ -132,10 +132,10 @@ module _ (s : ℕ) (r : List ℕ) (e : RingEncoded s r) where
       ∙ known .all ∙ ap length (sym tested-words) ∙ tested-length s w (e .reads .long) before n fits in
       let around = tested-around s b r w before n (e .begins) fits (e .reads .long) reads in
       let rotated-twice : rotate before (rotate b slots') ≡ ys ++ drop n (rotate before rotated) =
-      place-rotate s b slots' long' (e .begins) before (omega arith) ∙ ap (λ (p : ℕ). rotate p slots') (sym starts) ∙ is
+      slot-rotate s b slots' long' (e .begins) before (omega arith) ∙ ap (λ (p : ℕ). rotate p slots') (sym starts) ∙ is
       ∙ (λ i. (pick 0 (marks m) (take n (rotate (starts i) slots)) ++ pick 1 (marks m) (take n (rotate (starts i) slots))) ++ drop n (rotate (starts i) slots))
       ∙ ap {B = List ℕ} (λ x. (pick 0 (marks m) x ++ pick 1 (marks m) x) ++ drop n (rotate (slotAfter s b before) slots)) around
-      ∙ ap {B = List ℕ} (λ x. ys ++ drop n x) (sym (place-rotate s b slots long (e .begins) before (omega arith))) in
+      ∙ ap {B = List ℕ} (λ x. ys ++ drop n x) (sym (slot-rotate s b slots long (e .begins) before (omega arith))) in
       let put : rotate b slots' ≡ take before rotated ++ (ys ++ drop n (drop before rotated)) =
       put-rotated before n rotated ys (omega (arith, rotate-length b slots, long)) (rotate b slots') (rotate-length b slots' ∙ long' ∙ sym (rotate-length b slots ∙ long)) wide rotated-twice in
       let read : take listOffset w ++ (rotate b slots' ++ tailIn s w) ≡ putMid (listOffset + before) (listOffset + before + n - (listOffset + before)) w ys =

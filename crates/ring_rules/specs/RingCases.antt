@@ -192,14 +192,14 @@ abbrev named : List ℕ → Step → List ℕ
 named ring step = below 72 (ringFootprint ring (1 sends step))
 
 -- Retire: the owed word, the count of waiting, the first unused slot around the end. Collect: k, the counts and the marks; with a hand-back the slot that it leaves and the
--- beginning; if a reading ends and has marked a session, the tested slots, here 24, 25 and 20 (one is ready, three are tested). And the message number.
+-- beginning; if a reading ends and has marked a session, the tested slots, here 24, 25 and 20 (one is ready, three are tested). A mark alone, or an end alone, names none. And the message number.
 pub retire-names : named (three 0 0 2 0 0 0 (slots 7 0 0 0 0 6) 0 5) Retire ≡ 7 ∷ 11 ∷ 21 ∷ 26 ∷ []
 unfolding linear decodeDesk
 retire-names = refl
 
 pub collect-names :
     map (λ (ring : List ℕ). named ring Collect)
-    (three 0 0 0 0 0 0 (slots 0 0 0 0 0 0) 0 3 ∷ three 0 0 1 0 0 0 (slots 0 0 0 8 0 0) 0 3 ∷ three 9 2 1 3 0 0 (slots 9 0 0 8 7 6) 0 3 ∷ three 5 2 1 3 0 0 (slots 9 0 0 8 7 6) 0 3 ∷ three 9 0 1 3 0 0 (slots 9 0 0 8 7 6) 0 3 ∷ [])
+    (three 0 0 0 0 0 0 (slots 0 0 0 0 0 0) 0 3 ∷ three 0 0 1 0 0 0 (slots 0 0 0 8 0 0) 0 3 ∷ three 9 2 1 3 0 0 (slots 9 0 0 8 7 6) 0 3 ∷ three 5 2 1 3 0 0 (slots 9 0 0 8 7 6) 0 3 ∷ three 9 0 1 3 0 1 (slots 9 0 0 8 7 6) 0 3 ∷ [])
     ≡ (range 8 12 ++ (26 ∷ []))
     ∷ (range 8 12 ++ (23 ∷ 26 ∷ 27 ∷ []))
     ∷ (range 8 12 ++ (20 ∷ 23 ∷ 24 ∷ 25 ∷ 26 ∷ 27 ∷ []))

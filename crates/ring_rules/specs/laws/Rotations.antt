@@ -93,8 +93,8 @@ module _ (S b : ℕ) (l : List ℕ) (long : length l ≡ 2 * S) (h : b < 2 * S) 
           ap (λ (k : ℕ). rotate k (set l b 0)) z ∙ rotate-all (b + 1) (set l b 0) (omega (arith, length-set l b 0)) ∙ rotate-next b l (omega arith)
 
   -- rotated twice
-  pub place-rotate : (a : ℕ) → a ≤ 2 * S → rotate a (rotate b l) ≡ rotate (slotAfter S b a) l
-  place-rotate a g = by-wrap (ltb (b + a) (2 * S)) refl
+  pub slot-rotate : (a : ℕ) → a ≤ 2 * S → rotate a (rotate b l) ≡ rotate (slotAfter S b a) l
+  slot-rotate a g = by-wrap (ltb (b + a) (2 * S)) refl
     where
       tail : length (drop b l) ≡ 2 * S - b
       tail = omega (arith, length-drop b l)
