@@ -1,7 +1,7 @@
 -- The theorems about the ring applied to what meets their premises: a sound ring whose list goes around the end, and the history of RingCases from an opening on.
 use Prim.Native.Nat.{ℕ, zero, suc, _+_, _%_, _≤_, _<_}
 use native.Mathlib.Omega.{arith}
-use mathlib.Core.Path.{_≡_, refl}
+use mathlib.Core.Path.{_≡_, refl, ap}
 use mathlib.Core.Bool.{true}
 use mathlib.Core.List.{List, [], _∷_, _++_}
 use lib.ListN.{getD, length, replicate, take}
@@ -10,7 +10,7 @@ use Rattle.rules.specs.Demands.{Demand2}
 use Rattle.rules.specs.Hall.{hallLimits, hallOf}
 use Rattle.rules.specs.History.{_by_, effectAt, handBacks, handBacksOf, numberAt, retirements, retirementsOf, retires}
 use Rattle.rules.specs.Messages.{Redelivered}
-use Rattle.rules.specs.Steps.{Call, Collect, Retire, _numbered_, _sends_, end, run}
+use Rattle.rules.specs.Steps.{Call, Collect, Result, Retire, _numbered_, _sends_, end, run}
 use Rattle.rules.specs.Table.{decodeDesk, encodeDesk, openTable, recordSound, stepTable}
 use Rattle.rules.specs.laws.bytes.Bytes.{bytes-are-bytes}
 use Rattle.rules.specs.laws.history.Checks.{each-below}
@@ -19,7 +19,7 @@ use Rattle.ring_rules.specs.Ring.{circular, linear, linearTable, openRin
 use Rattle.ring_rules.specs.RingCases.{calls, history, ringOfOne}
 use Rattle.ring_rules.specs.RingDemands.{ringNames}
 use Rattle.ring_rules.specs.RingTheorems.{beginning-is-hand-backs, beginnings-count-hand-backs, beginnings-count-hand-backs-on-bytes, hand-back-names-few, opened-is-sound}
-use Rattle.ring_rules.specs.RingTheorems.{opened-reads-as, ring-as-first-board, ring-as-first-board-from-opening, ring-as-first-board-on-bytes, ring-demand-1, ring-never-unsound}
+use Rattle.ring_rules.specs.RingTheorems.{opened-reads-as, ring-as-first-board, ring-as-first-board-from-opening, ring-as-first-board-on-bytes, ring-demand-1, ring-need-is-enough, ring-need-is-enough-to-open, ring-never-unsound}
 use Rattle.ring_rules.specs.RingTheorems.{ring-of-hall-meets-demands, same-step, stays-sound}
 
 -- ---- A sound ring: 6 is ready at slot 1, where the list begins, and 7 waits at slot 0. The first board that it reads as has 6, 7.
@@ -92,6 +92,15 @@ collect-keeps =
 pub names-fifteen : length (ringNames ring (1 sends Collect numbered 8)) ≤ 15
 unfolding linear decodeDesk
 names-fifteen = hand-back-names-few ring 8 1 refl
+
+-- Words past the need are not read, even such as no record may hold, and stay.
+pub behind-the-need : stepRing hallLimits (ring ++ (65535 ∷ 65535 ∷ [])) (1 sends Collect numbered 8) .after ≡ ringOfOne 8 0 0 1 0 7 0 9 0 ++ (65535 ∷ 65535 ∷ [])
+unfolding stepRing ringSound linear circular encodeDesk decodeDesk recordSound
+behind-the-need = ap (λ (result : Result (List ℕ)). result .after) (ring-need-is-enough hallLimits ring (65535 ∷ 65535 ∷ []) (omega arith) (1 sends Collect numbered 8))
+
+pub behind-the-need-of-an-opening : openRing hallLimits (hallOf 1 1 1) (replicate 22 9 ++ (65535 ∷ [])) .after ≡ ringOfOne 0 0 0 0 0 0 0 0 0 ++ (65535 ∷ [])
+unfolding openRing
+behind-the-need-of-an-opening = ap (λ (result : Result (List ℕ)). result .after) (ring-need-is-enough-to-open hallLimits (replicate 22 9) (65535 ∷ []) (hallOf 1 1 1) (omega arith))
 
 -- ---- From an opening: the history of RingCases, on 23 words and a byte.
 abbrev table : List ℕ

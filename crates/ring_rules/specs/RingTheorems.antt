@@ -4,7 +4,7 @@ use Prim.Native.Nat.{ℕ, zero, suc, _+_, _*_, _%_, _≤_}
 use native.Mathlib.Omega.{arith}
 use mathlib.Core.Path.{_≡_, refl}
 use mathlib.Core.Bool.{true, false}
-use mathlib.Core.List.{List}
+use mathlib.Core.List.{List, _++_}
 use lib.ListN.{drop, getD, length, take}
 use Rattle.rules.specs.Bytes.{Agrees, Call16, Calls16, IsBytes, Words16, stepBytes, wordsOfBytes}
 use Rattle.rules.specs.Closing.{ClosingRule, HandBackCloses}
@@ -22,6 +22,7 @@ use Rattle.ring_rules.specs.laws.Beginnings.{beginnings-run}
 use Rattle.ring_rules.specs.laws.RingBytes.{beginnings-on-bytes, passes-on-bytes, same-history-on-bytes}
 use Rattle.ring_rules.specs.laws.RingDemand1.{collect-names-few, ring-demand1, ring-opening-demand1}
 use Rattle.ring_rules.specs.laws.RingHistories.{beginnings-from-opening, first-accepts, opening-answers-alike, opens-as, opens-sound, ring-stays-sound, same-from-opening, same-history}
+use Rattle.ring_rules.specs.laws.RingNeedSuffices.{ring-open-append, ring-step-append}
 use Rattle.ring_rules.specs.laws.RingSteps.{ring-known, ring-step}
 use Rattle.ring_rules.specs.laws.RingTables.{record-same}
 use Rattle.ring_rules.specs.laws.RingWords.{ringBoard}
@@ -100,6 +101,17 @@ pub hand-back-names-few : (table : List ℕ) (message d : ℕ)
     let read = scan (ringState table .shown) (begin (decodeRing (allScreens hall) (ringRecordOf hall table d))) in
     marksAtEnd (allScreens hall) read ≡ false → length (ringNames table (d sends Collect numbered message)) ≤ 15
 hand-back-names-few = collect-names-few
+
+-- "Words past the need are neither read nor written": whatever follows a table that is long enough for its hall, a call gives the same answer and
+-- leaves it unchanged.
+module _ (limits : Limits) (table behind : List ℕ) where
+  pub ring-need-is-enough : ringNeed (hallIn table) ≤ length table → (call : Call)
+      → stepRing limits (table ++ behind) call ≡ record { answer = stepRing limits table call .answer; after = stepRing limits table call .after ++ behind }
+  ring-need-is-enough = ring-step-append limits table behind
+
+  pub ring-need-is-enough-to-open : (hall : Hall) → ringNeed hall ≤ length table
+      → openRing limits hall (table ++ behind) ≡ record { answer = openRing limits hall table .answer; after = openRing limits hall table .after ++ behind }
+  ring-need-is-enough-to-open hall = ring-open-append limits hall table behind
 
 -- ---- On bytes, as the host calls.
 

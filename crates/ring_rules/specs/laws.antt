@@ -11,3 +11,4 @@ pub mod RingDemand1
 pub mod RingWords
 pub mod RingBytes
 pub mod RingReads
+pub mod RingNeedSuffices

@@ -286,7 +286,7 @@ module _ (limits : Limits) (t : List ℕ) (k : RingKnown limits t) where
   screen-below d c there h3 h4 = omega (arith, screen-in H d c (there .0) (there .1) h3 h4)
 
   -- what an accepted step writes
-  writes-step : (m d : ℕ) (s : Step) → firstNo (questions limits H st (d sends s numbered m)) ≡ 0 → Writes H t (ringAfterStep t d s) (tableAfterStep T d s)
+  pub writes-step : (m d : ℕ) (s : Step) → firstNo (questions limits H st (d sends s numbered m)) ≡ 0 → Writes H t (ringAfterStep t d s) (tableAfterStep T d s)
   writes-step m d (Take c p) e =
       let a = take-asked limits H st m d c p e in
       let v = getD t (positionWord p) 0 in

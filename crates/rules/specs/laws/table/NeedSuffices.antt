@@ -30,12 +30,12 @@ need-at-most H o =
     let all : H .desks * recordWidth H ≤ maxDesks * widthFor maxAllScreens = mul-le-mul (o .desks .1) wide in
     omega (arith, o .positions)
 
-drop-append-left : (n : ℕ) (x b : List ℕ) → n ≤ length x → drop n (x ++ b) ≡ drop n x ++ b
+pub drop-append-left : (n : ℕ) (x b : List ℕ) → n ≤ length x → drop n (x ++ b) ≡ drop n x ++ b
 drop-append-left zero x b h = refl
 drop-append-left (suc n) [] b h = absurd (omega arith)
 drop-append-left (suc n) (y ∷ x) b h = drop-append-left n x b (omega arith)
 
-chunks-append : (n w : ℕ) (x b : List ℕ) → n * w ≤ length x → chunks n w (x ++ b) ≡ chunks n w x
+pub chunks-append : (n w : ℕ) (x b : List ℕ) → n * w ≤ length x → chunks n w (x ++ b) ≡ chunks n w x
 chunks-append zero w x b h = refl
 chunks-append (suc n) w x b h =
     λ i. take-append-le w x b (omega arith) i
@@ -64,7 +64,7 @@ after-is-in t d Retire = refl
 after-is-in t d Collect = refl
 
 module _ (a b : List ℕ) (three : headerWords ≤ length a) where
-  hall-same : hallIn (a ++ b) ≡ hallIn a
+  pub hall-same : hallIn (a ++ b) ≡ hallIn a
   hall-same = λ i. record {
     desks = List·getD-append a b 0 0 (omega arith) i;
     screens = List·getD-append a b 0 1 (omega arith) i;
@@ -86,7 +86,7 @@ module _ (a b : List ℕ) (three : headerWords ≤ length a) where
         ∙ chunks-append (H .desks) (recordWidth H) (drop (allScreens H) (drop (H .positions) (drop headerWords a))) b
         (omega (arith, far, length-drop (allScreens H) (drop (H .positions) (drop headerWords a))))
 
-    decode-same : decode H (a ++ b) ≡ decode H a
+    pub decode-same : decode H (a ++ b) ≡ decode H a
     decode-same =
         let l1 = length-drop headerWords a in
         let l2 = length-drop (H .positions) (drop headerWords a) in
