@@ -3,5 +3,6 @@ pub mod Ring
 pub mod RingDemands
 pub mod RingTheorems
 pub mod RingCases
+pub mod RingInstances
 pub mod RingExamples
 pub mod laws

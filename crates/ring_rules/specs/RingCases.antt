@@ -37,6 +37,10 @@ pub opened-words : openRing hallLimits (hallOf 1 1 1) (replicate 24 9) .after �
 unfolding openRing
 opened-words = refl
 
+pub opened-header : take 4 (openRing hallLimits (hallOf 1 2 3) (replicate 30 9) .after) ≡ 1 ∷ 2 ∷ 3 ∷ 0 ∷ []
+unfolding openRing
+opened-header = refl
+
 -- ---- One desk with one screen and one position, S = 1: the session at the position, what the screen shows and what is owed; the counts of ready and
 -- of waiting; the two slots; the next message number and the beginning.
 abbrev pub ringOfOne : ℕ → ℕ → ℕ → ℕ → ℕ → ℕ → ℕ → ℕ → ℕ → List ℕ
@@ -192,17 +196,17 @@ abbrev named : List ℕ → Step → List ℕ
 named ring step = below 72 (ringFootprint ring (1 sends step))
 
 -- Retire: the owed word, the count of waiting, the first unused slot around the end. Collect: k, the counts and the marks; with a hand-back the slot that it leaves and the
--- beginning; if a reading ends and has marked a session, the tested slots, here 24, 25 and 20 (one is ready, three are tested). A mark alone, or an end alone, names none. And the message number.
+-- beginning; if a reading ends and has marked a session, the tested slots, here 25, 20 and 21 (24 is ready). A mark alone, or an end alone, names none. And the message number.
 pub retire-names : named (three 0 0 2 0 0 0 (slots 7 0 0 0 0 6) 0 5) Retire ≡ 7 ∷ 11 ∷ 21 ∷ 26 ∷ []
 unfolding linear decodeDesk
 retire-names = refl
 
 pub collect-names :
     map (λ (ring : List ℕ). named ring Collect)
-    (three 0 0 0 0 0 0 (slots 0 0 0 0 0 0) 0 3 ∷ three 0 0 1 0 0 0 (slots 0 0 0 8 0 0) 0 3 ∷ three 9 2 1 3 0 0 (slots 9 0 0 8 7 6) 0 3 ∷ three 5 2 1 3 0 0 (slots 9 0 0 8 7 6) 0 3 ∷ three 9 0 1 3 0 1 (slots 9 0 0 8 7 6) 0 3 ∷ [])
+    (three 0 0 0 0 0 0 (slots 0 0 0 0 0 0) 0 3 ∷ three 0 0 1 0 0 0 (slots 0 0 0 8 0 0) 0 3 ∷ three 9 2 1 3 0 0 (slots 6 9 0 0 8 7) 0 4 ∷ three 5 2 1 3 0 0 (slots 9 0 0 8 7 6) 0 3 ∷ three 9 0 1 3 0 1 (slots 9 0 0 8 7 6) 0 3 ∷ [])
     ≡ (range 8 12 ++ (26 ∷ []))
     ∷ (range 8 12 ++ (23 ∷ 26 ∷ 27 ∷ []))
-    ∷ (range 8 12 ++ (20 ∷ 23 ∷ 24 ∷ 25 ∷ 26 ∷ 27 ∷ []))
+    ∷ (range 8 12 ++ (20 ∷ 21 ∷ 24 ∷ 25 ∷ 26 ∷ 27 ∷ []))
     ∷ (range 8 12 ++ (23 ∷ 26 ∷ 27 ∷ []))
     ∷ (range 8 12 ++ (23 ∷ 26 ∷ 27 ∷ []))
     ∷ []
@@ -213,6 +217,12 @@ pub others-name :
     map (named (three 4 0 0 0 0 0 (slots 0 0 0 0 0 0) 0 3)) (Take 1 1 ∷ Drop 1 ∷ Swap 1 5 ∷ Swap 1 0 ∷ []) ++ (named (ringOfOne 7 0 0 0 0 0 0 0 0) (Swap 1 5) ∷ named (ringOfOne 7 0 0 0 0 0 0 0 0) (Swap 1 7) ∷ [])
     ≡ (4 ∷ 26 ∷ []) ∷ (4 ∷ 26 ∷ []) ∷ (3 ∷ 26 ∷ []) ∷ (26 ∷ []) ∷ (3 ∷ 5 ∷ 20 ∷ []) ∷ (20 ∷ []) ∷ []
 others-name = refl
+
+-- Desk 2 of two, with two screens each and two positions, of which the first holds 5: its record has 23 words and starts at word 32.
+pub desk-2-names :
+    map (λ (step : Step). below 60 (ringFootprint ((2 ∷ 2 ∷ 2 ∷ 5 ∷ []) ++ replicate 51 0) (2 sends step))) (Take 1 2 ∷ Take 2 1 ∷ Drop 1 ∷ Drop 2 ∷ Swap 1 7 ∷ Swap 2 7 ∷ [])
+    ≡ (7 ∷ 53 ∷ []) ∷ (8 ∷ 53 ∷ []) ∷ (7 ∷ 53 ∷ []) ∷ (8 ∷ 53 ∷ []) ∷ (3 ∷ 32 ∷ 53 ∷ []) ∷ (4 ∷ 53 ∷ []) ∷ []
+desk-2-names = refl
 
 pub opening-names : below 60 (ringOpeningFootprint (hallOf 1 1 1)) ≡ range 0 22
 opening-names = refl
