@@ -2,7 +2,7 @@
 use Prim.Native.Nat.{ℕ, zero, suc, _+_, _≤_, _<_}
 use native.Mathlib.Numerals.{add-one}
 use native.Mathlib.Omega.{arith}
-use mathlib.Core.Bool.{Bool, true, false, _&&_, and-assoc, and-false, and-true}
+use mathlib.Core.Bool.{Bool, true, false, cond, _&&_, and-assoc, and-false, and-true}
 use mathlib.Core.List.{List, [], _∷_}
 use mathlib.Core.Path.{_≡_, refl, sym, ap, _∙_}
 use lib.Bits.{and-le-l, and-le-r, bitOr, or-add-and}
@@ -11,6 +11,7 @@ use lib.ListN.{length, getD, drop, drop-of-length-le}
 use lib.Seq.{drop-cons}
 use borrow.Author.Tests.{eq-eqb, eqb-false, eqb-true, ne-eqb}
 use Rattle.rules.specs.Lists.{every}
+use Rattle.words.specs.Words.{zerosIn}
 
 -- what is left at i, when i is below the length: the element and the rest
 pub rest : (l : List ℕ) (i : ℕ) → i < length l → drop i l ≡ getD l i 0 ∷ drop (i + 1) l
@@ -55,3 +56,17 @@ pub zero-next : (b : Bool) (bits w : ℕ) (l : List ℕ) (i : ℕ) → i < lengt
 zero-next b bits w l i h p e =
     p ∙ rw (rest l i h, sym e) (sym (and-assoc (eqb bits 0) (eqb w 0) (every (λ x. eqb x 0) (drop (i + 1) l))))
     ∙ ap (λ (x : Bool). x && every (λ x. eqb x 0) (drop (i + 1) l)) (sym (or-zero bits w))
+
+-- the words counted so far, and those in what is left at i: after a word that is 0, after another, and at the end
+module _ (all found found' : ℕ) (l : List ℕ) (i : ℕ) (h : i < length l) (p : all ≡ found + zerosIn (drop i l)) where
+  counted : (b : Bool) → eqb (getD l i 0) 0 ≡ b → zerosIn (drop i l) ≡ cond b 1 0 + zerosIn (drop (i + 1) l)
+  counted b e = ap zerosIn (rest l i h) ∙ ap (λ (x : Bool). cond x 1 0 + zerosIn (drop (i + 1) l)) e
+
+  pub zeros-found : eqb (getD l i 0) 0 ≡ true → found' ≡ found + 1 → all ≡ found' + zerosIn (drop (i + 1) l)
+  zeros-found e q = omega (arith, p, q, counted true e)
+
+  pub zeros-passed : eqb (getD l i 0) 0 ≡ false → found' ≡ found → all ≡ found' + zerosIn (drop (i + 1) l)
+  zeros-passed e q = omega (arith, p, q, counted false e)
+
+pub zeros-end : (all found : ℕ) (l : List ℕ) (i : ℕ) → length l ≤ i → all ≡ found + zerosIn (drop i l) → found ≡ all
+zeros-end all found l i h p = omega (arith, p, ap zerosIn (ended l i h))

@@ -2,7 +2,7 @@ ghost use mathlib.Core.Path.{_≡_};
 ghost use Prim.Native.Nat.{_+_, _*_, _≤_, _<_};
 ghost use lib.ListN.{length, getD, set, take, replicate};
 ghost use Rattle.rules.specs.Bytes.{wordsOfBytes};
-ghost use Rattle.words.specs.Words.{allZero, lacks as lacksWord, shiftLeft};
+ghost use Rattle.words.specs.Words.{allZero, lacks as lacksWord, shiftLeft, zerosIn};
 ghost use Rattle.words.specs.Written.{Written};
 
 // Word i of a table sent as bytes, low byte first.
@@ -62,6 +62,24 @@ pub fn lacks(l: &[u8], x: u16) -> bool
         i += 1;
     }
     ok
+}
+
+// The number of words of a part that are 0, counted in 16 bits: as wide as the words, so that the vectorised loop has as many at a time as
+// those above. Precondition: the count fits.
+pub fn zeros(l: &[u8]) -> usize
+    requires { ⌜ length (now l) < 2 * 65536 ⌝ }
+    ensures { λ r. ⌜ r ≡ zerosIn (wordsOfBytes (now (l .entry))) ⌝ }
+{
+    let n = l.len() >> 1;
+    let mut found: u16 = 0;
+    let mut i = 0;
+    while i < n {
+        if word(l, i) == 0 {
+            found += 1;
+        }
+        i += 1;
+    }
+    found as usize
 }
 
 // Sets every byte to 0.
