@@ -5,7 +5,7 @@ use mathlib.Core.Bool.{Bool, _&&_, and-assoc}
 use mathlib.Core.List.{List, [], _∷_, _++_, append-assoc}
 use mathlib.Core.Path.{_≡_, refl, sym, ap, ap₂, _∙_}
 use lib.ListN.{length, getD, take, drop, set, length-append, length-drop, length-replicate, replicate}
-use lib.Seq.{drop-append-le, drop-at, drop-cons, getD-take, length-take-le, set-at, take-all, take-append-add, take-append-le, take-at, take-suc, take-take}
+use lib.Seq.{drop-append-add, drop-append-le, drop-at, drop-cons, drop-drop, getD-take, length-take-le, set-at, take-add, take-all, take-append-add, take-append-le, take-at, take-suc, take-take}
 use borrow.Rule.Slice.PartMut.{mid-len, midOf, putMid}
 use Rattle.rules.specs.Bytes.{wordsOfBytes}
 use Rattle.rules.specs.Lists.{every}
@@ -14,7 +14,7 @@ use Rattle.words.proofs.Laws.{length-words, words-part, words-put, words-take}
 use Rattle.marks.specs.Marks.{pick}
 use Rattle.ring_rules.specs.Ring.{rotate, slotAfter}
 use Rattle.ring_desk.specs.Around.{Parted}
-use Rattle.ring_rules.specs.laws.Rotations.{slot-rotate, rotate-back, rotate-length, slot-get, slot-set}
+use Rattle.ring_rules.specs.laws.Rotations.{rotate-back, rotate-length, slot-get, slot-set}
 
 -- a test of all elements of a list in two parts
 pub every-append : (f : ℕ → Bool) (xs ys : List ℕ) → every f (xs ++ ys) ≡ every f xs && every f ys
@@ -45,12 +45,6 @@ module _ (s a : ℕ) (l : List ℕ) (long : length l ≡ 2 * s) (h : a < 2 * s) 
       ap (λ (k : ℕ). take k (rotate a l)) e ∙ take-append-add (drop a l) (take a l) (a + n - 2 * s)
       ∙ ap₂ {C = List ℕ} (λ x y. x ++ y) (sym (take-all (2 * s - a) (drop a l) (omega (arith, behind)))) (take-take (a + n - 2 * s) a l (omega arith))
 
-  -- the others are those from the slot after them on
-  pub around-rest : (n : ℕ) → n ≤ 2 * s → take (2 * s - n) (rotate (slotAfter s a n) l) ≡ drop n (rotate a l)
-  around-rest n few =
-      ap (take (2 * s - n)) (sym (slot-rotate s a l long h n few))
-      ∙ take-at (drop n (rotate a l)) (take n (rotate a l)) (2 * s - n) (omega (arith, length-drop n (rotate a l), rotate-length a l))
-
   -- one word more is read
   pub read-next : (part : List ℕ) (i p : ℕ) → i < length part → length part ≤ 2 * s → p ≡ slotAfter s a i → take i part ≡ take i (rotate a l)
       → take (i + 1) (set part i (getD l p 0)) ≡ take (i + 1) (rotate a l)
@@ -72,6 +66,28 @@ module _ (f : ℕ → Bool) (s a n : ℕ) (bytes : List ℕ) (long : length byte
       let e : 2 * (2 * s) - 2 * a ≡ length bytes - 2 * a = omega arith in
       ap (every f) (around-past s a (wordsOfBytes bytes) words-long h n few past) ∙ every-append f (take (2 * s - a) (drop a (wordsOfBytes bytes))) (take (a + n - 2 * s) (wordsOfBytes bytes))
       ∙ ap₂ {C = Bool} (λ x y. every f x && every f y) (sym (words-part a (2 * s) bytes) ∙ ap (λ (k : ℕ). wordsOfBytes (midOf (2 * a) k bytes)) e) (sym (words-take (a + n - 2 * s) bytes))
+
+  -- the same test of the other slots: of the end and then the front, or of the part between
+  pub rest-inside : a + n ≤ 2 * s
+      → every f (drop n (rotate a (wordsOfBytes bytes))) ≡ every f (wordsOfBytes (midOf (2 * (a + n)) (length bytes - 2 * (a + n)) bytes)) && every f (wordsOfBytes (take (2 * a) bytes))
+  rest-inside fits =
+      let words = wordsOfBytes bytes in
+      let e : 2 * (2 * s) - 2 * (a + n) ≡ length bytes - 2 * (a + n) = omega arith in
+      let end : drop n (drop a words) ≡ wordsOfBytes (midOf (2 * (a + n)) (length bytes - 2 * (a + n)) bytes) =
+      drop-drop n a words ∙ sym (take-all (2 * s - (a + n)) (drop (a + n) words) (omega (arith, length-drop (a + n) words, words-long)))
+      ∙ sym (words-part (a + n) (2 * s) bytes) ∙ ap (λ (k : ℕ). wordsOfBytes (midOf (2 * (a + n)) k bytes)) e in
+      ap (every f) (drop-append-le n (drop a words) (take a words) (omega (arith, length-drop a words, words-long)))
+      ∙ every-append f (drop n (drop a words)) (take a words) ∙ ap₂ {C = Bool} (λ x y. every f x && every f y) end (sym (words-take a bytes))
+
+  pub rest-past : 2 * s < a + n → every f (drop n (rotate a (wordsOfBytes bytes))) ≡ every f (wordsOfBytes (midOf (2 * (a + n - 2 * s)) (2 * a - 2 * (a + n - 2 * s)) bytes))
+  rest-past past =
+      let words = wordsOfBytes bytes in
+      let j = a + n - 2 * s in
+      let all : n ≡ length (drop a words) + j = omega (arith, length-drop a words, words-long) in
+      let front : a ≡ j + (a - j) = omega arith in
+      ap (every f) (ap (λ (k : ℕ). drop k (rotate a words)) all ∙ drop-append-add (drop a words) (take a words) j ∙ ap (λ (k : ℕ). drop j (take k words)) front
+      ∙ ap (drop j) (take-add j (a - j) words) ∙ drop-at (take j words) (take (a - j) (drop j words)) j (length-take-le j words (omega (arith, words-long)))
+      ∙ sym (words-part j a bytes))
 
 -- one word more is written
 pub write-next : (s a : ℕ) (l₀ l part : List ℕ) (i p : ℕ) → length l₀ ≡ 2 * s → length l ≡ 2 * s → a < 2 * s → i < length part → length part ≤ 2 * s → p ≡ slotAfter s a i

@@ -9,6 +9,7 @@ use desk::mark_bytes;
 use desk::record_words;
 use desk::sound_scan;
 use desk::used_slots;
+use marks::find_slot;
 use marks::mark_slot;
 use marks::marked;
 use marks::marks_sound;
@@ -21,6 +22,7 @@ use words::count;
 use words::lacks;
 use words::put_word;
 use words::word;
+use words::zeros;
 ghost use mathlib.Core.Path.{_≡_};
 ghost use mathlib.Core.Bool.{true, _&&_};
 ghost use Prim.Native.Nat.{_*_, _%_, _≤_, _<_};
@@ -83,31 +85,34 @@ fn lacks_around(l: &[u8], s: usize, a: usize, n: usize, x: u16) -> bool
     lacks(&l[..2 * (e - 2 * s)], x)
 }
 
-// Whether n slots of the list l, from slot a on and around, are all 0.
-fn zero_around(l: &[u8], s: usize, a: usize, n: usize) -> bool
-    requires { ⌜ (s ≤ maxAllScreens) × (length (now l) ≡ 2 * (2 * s)) × (a < 2 * s) × (n ≤ 2 * s) ⌝ }
-    ensures { λ r. ⌜ r ≡ allZero (take n (rotate a (wordsOfBytes (now (l .entry))))) ⌝ }
+// Whether the n used slots of the list l, from slot b on and around, are not 0, and the others are. As many slots must be 0 as are not used,
+// and either the used slots or the others are one part of the list: that part is tested, and then the count speaks for the rest.
+fn sound_around(l: &[u8], s: usize, b: usize, n: usize) -> bool
+    requires { ⌜ (s ≤ maxAllScreens) × (length (now l) ≡ 2 * (2 * s)) × (b < 2 * s) × (n ≤ 2 * s) ⌝ }
+    ensures { λ r. ⌜ r ≡ lacksWord 0 (take n (rotate b (wordsOfBytes (now (l .entry))))) && allZero (drop n (rotate b (wordsOfBytes (now (l .entry))))) ⌝ }
 {
-    let e = a + n;
-    if e <= 2 * s {
-        return all_zero(&l[2 * a..2 * e]);
-    }
-    if !all_zero(&l[2 * a..]) {
+    if zeros(l) != 2 * s - n {
         return false;
     }
-    all_zero(&l[..2 * (e - 2 * s)])
+    let e = b + n;
+    if e <= 2 * s {
+        return lacks(&l[2 * b..2 * e], 0);
+    }
+    all_zero(&l[2 * (e - 2 * s)..2 * b])
 }
 
-// Whether the n used slots of the list l, from slot b on and around, are not 0, and the others are.
+// The same. Every step asks this of every desk; a list that begins at slot 0 is tested as on the first board, each slot once.
 fn sound_list(l: &[u8], s: usize, b: usize, n: usize) -> bool
     requires { ⌜ (s ≤ maxAllScreens) × (length (now l) ≡ 2 * (2 * s)) × (b < 2 * s) × (n ≤ 2 * s) ⌝ }
     ensures { λ r. ⌜ r ≡ lacksWord 0 (take n (rotate b (wordsOfBytes (now (l .entry))))) && allZero (drop n (rotate b (wordsOfBytes (now (l .entry))))) ⌝ }
 {
-    if !lacks_around(l, s, b, n, 0) {
+    if b != 0 {
+        return sound_around(l, s, b, n);
+    }
+    if !lacks(&l[..2 * n], 0) {
         return false;
     }
-    let e = slot_after(s, b, n);
-    zero_around(l, s, e, 2 * s - n)
+    all_zero(&l[2 * n..])
 }
 
 // Whether a ring's record is sound, in a hall of s screens.
@@ -173,11 +178,14 @@ fn begin_test_ring(r: &mut [u8], s: usize)
 }
 
 // The first unmarked one of n slots of the list l, from slot a on and around, that holds session x; or n if there is none. The mark of
-// a slot is that of its place among the n. Usually no slot holds x, so one test of all slots comes first.
+// a slot is that of its place among the n. If they pass the end of the list, one test of all slots comes first: usually none holds x.
 fn find_around(l: &[u8], s: usize, a: usize, n: usize, m: &[u8], x: u16) -> usize
     requires { ⌜ (s ≤ maxAllScreens) × (length (now l) ≡ 2 * (2 * s)) × (a < 2 * s) × (n ≤ 2 * s) × (length (now m) ≡ 16) ⌝ }
     ensures { λ r. ⌜ r ≡ findSlot x (take n (rotate a (wordsOfBytes (now (l .entry))))) (marks (wordsOfBytes (now (m .entry)))) ⌝ }
 {
+    if a + n <= 2 * s {
+        return find_slot(&l[2 * a..2 * (a + n)], m, x);
+    }
     if lacks_around(l, s, a, n, x) {
         return n;
     }
