@@ -5,7 +5,7 @@ use mathlib.Core.Bool.{Bool, _&&_, and-assoc}
 use mathlib.Core.List.{List, [], _∷_, _++_, append-assoc}
 use mathlib.Core.Path.{_≡_, refl, sym, ap, ap₂, _∙_}
 use lib.ListN.{length, getD, take, drop, set, length-append, length-drop, length-replicate, replicate}
-use lib.Seq.{drop-append-add, drop-append-le, drop-at, drop-cons, drop-drop, getD-take, length-take-le, set-at, take-add, take-all, take-append-add, take-append-le, take-at, take-suc, take-take}
+use lib.Seq.{drop-append-add, drop-append-le, drop-at, drop-cons, getD-take, length-take-le, set-at, take-add, take-all, take-append-add, take-append-le, take-at, take-suc, take-take}
 use borrow.Rule.Slice.PartMut.{mid-len, midOf, putMid}
 use Rattle.rules.specs.Bytes.{wordsOfBytes}
 use Rattle.rules.specs.Lists.{every}
@@ -67,18 +67,7 @@ module _ (f : ℕ → Bool) (s a n : ℕ) (bytes : List ℕ) (long : length byte
       ap (every f) (around-past s a (wordsOfBytes bytes) words-long h n few past) ∙ every-append f (take (2 * s - a) (drop a (wordsOfBytes bytes))) (take (a + n - 2 * s) (wordsOfBytes bytes))
       ∙ ap₂ {C = Bool} (λ x y. every f x && every f y) (sym (words-part a (2 * s) bytes) ∙ ap (λ (k : ℕ). wordsOfBytes (midOf (2 * a) k bytes)) e) (sym (words-take (a + n - 2 * s) bytes))
 
-  -- the same test of the other slots: of the end and then the front, or of the part between
-  pub rest-inside : a + n ≤ 2 * s
-      → every f (drop n (rotate a (wordsOfBytes bytes))) ≡ every f (wordsOfBytes (midOf (2 * (a + n)) (length bytes - 2 * (a + n)) bytes)) && every f (wordsOfBytes (take (2 * a) bytes))
-  rest-inside fits =
-      let words = wordsOfBytes bytes in
-      let e : 2 * (2 * s) - 2 * (a + n) ≡ length bytes - 2 * (a + n) = omega arith in
-      let end : drop n (drop a words) ≡ wordsOfBytes (midOf (2 * (a + n)) (length bytes - 2 * (a + n)) bytes) =
-      drop-drop n a words ∙ sym (take-all (2 * s - (a + n)) (drop (a + n) words) (omega (arith, length-drop (a + n) words, words-long)))
-      ∙ sym (words-part (a + n) (2 * s) bytes) ∙ ap (λ (k : ℕ). wordsOfBytes (midOf (2 * (a + n)) k bytes)) e in
-      ap (every f) (drop-append-le n (drop a words) (take a words) (omega (arith, length-drop a words, words-long)))
-      ∙ every-append f (drop n (drop a words)) (take a words) ∙ ap₂ {C = Bool} (λ x y. every f x && every f y) end (sym (words-take a bytes))
-
+  -- the same test of the other slots, where these are the part between
   pub rest-past : 2 * s < a + n → every f (drop n (rotate a (wordsOfBytes bytes))) ≡ every f (wordsOfBytes (midOf (2 * (a + n - 2 * s)) (2 * a - 2 * (a + n - 2 * s)) bytes))
   rest-past past =
       let words = wordsOfBytes bytes in
