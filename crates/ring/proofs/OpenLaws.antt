@@ -7,7 +7,7 @@ use lib.ListN.{length, drop, set, replicate, length-drop, length-replicate}
 use borrow.Rule.Slice.PartMut.{mid-len, midOf, putMid}
 use Rattle.rules.specs.Bytes.{wordsOfBytes}
 use Rattle.rules.specs.Hall.{Hall, Limits}
-use Rattle.rules.specs.Steps.{Answer, accept, decide, firstNo}
+use Rattle.rules.specs.Steps.{Answer, decide, firstNo}
 use Rattle.rules.specs.Table.{headerWords}
 use Rattle.rules.specs.laws.bytes.Bytes.{zero-words}
 use Rattle.words.specs.Written.{Written}

@@ -6,13 +6,13 @@ use mathlib.Core.Bool.{Bool, true, false, cond}
 use mathlib.Core.List.{List, [], _∷_}
 use mathlib.Core.Path.{_≡_, refl, sym, ap, ap₂, _∙_}
 use lib.Dec.{eqb·suc-zero, leb}
-use lib.ListN.{length, getD, take, drop, set, length-drop}
-use lib.Seq.{getD-drop, getD-set-other, getD-take, length-take-le, set-getD}
+use lib.ListN.{length, getD, take, drop, set}
+use lib.Seq.{getD-drop, getD-set-other, getD-take, set-getD}
 use borrow.Author.Tests.{eq-eqb, le-leb, lt-leb, ne-eqb}
 use borrow.Rule.Slice.PartMut.{put-same}
-use Rattle.rules.specs.Hall.{Desk, Hall, Limits, allScreens, deskOf}
-use Rattle.rules.specs.Steps.{Collect, Collected, Drop, Retire, Step, Swap, Take, accept, collect, collectSeeing, decide, firstNo, inRange, isRepeat, nextScreens}
-use Rattle.rules.specs.Steps.{performStep, refuse, retire, retireQuestions, stepQuestions}
+use Rattle.rules.specs.Hall.{Desk, Limits, allScreens, deskOf}
+use Rattle.rules.specs.Steps.{Collect, Drop, Retire, Step, Swap, Take, accept, collect, collectSeeing, decide, firstNo, inRange, isRepeat, nextScreens}
+use Rattle.rules.specs.Steps.{performStep, refuse, retireQuestions, stepQuestions}
 use Rattle.rules.specs.Table.{hallIn, headerWords, owedOffset, positionWord, scannedOffset}
 use Rattle.reply.specs.Answer.{answerOf, tableResult}
 use Rattle.reply.specs.declared.Reply.{Reply}

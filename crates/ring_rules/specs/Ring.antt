@@ -10,7 +10,7 @@ use Rattle.rules.specs.Hall.{Desk, Hall, Limits, State, allScreens, maxDesks, m
 use Rattle.rules.specs.Lists.{chunks, every}
 use Rattle.rules.specs.Steps.{Call, Collect, Drop, Question, Result, Retire, Step, Swap, Take, advance, ask, begin, collect, decide, firstNo, inRange, isRepeat, perform}
 use Rattle.rules.specs.Steps.{questions, refuse, retire, scan, settle}
-use Rattle.rules.specs.Table.{decode, decodeDesk, encodeDesk, hallIn, headerWords, inLimits, listOffset, need, positionWord, recordSound, screenWord, slotsIn, tailIn}
+use Rattle.rules.specs.Table.{decode, decodeDesk, encodeDesk, hallIn, headerWords, inLimits, listOffset, need, positionWord, recordSound, slotsIn, tailIn}
 use Rattle.rules.specs.Table.{tableAfterStep, tailOffset, tailWords, widthFor, within}
 
 -- ---- Layout.

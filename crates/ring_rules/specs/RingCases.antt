@@ -4,14 +4,14 @@ use Prim.Native.Nat.{ℕ, zero, suc, _+_, _%_}
 use mathlib.Core.Path.{_≡_, refl}
 use mathlib.Core.Bool.{Bool, true, false, cond}
 use mathlib.Core.List.{List, [], _∷_, _++_, map}
-use lib.ListN.{getD, length, replicate, take}
+use lib.ListN.{getD, replicate, take}
 use Rattle.rules.specs.Bytes.{bytesOfWords, overwriteWords}
 use Rattle.rules.specs.Cases.{_⇒_, ok, refusedWith}
 use Rattle.rules.specs.Hall.{Hall, Limits, hallLimits, hallOf, trainingLimits}
 use Rattle.rules.specs.History.{handBacks}
 use Rattle.rules.specs.Steps.{Answer, Call, Collect, Drop, Event, Retire, Step, Swap, Take, _numbered_, _sends_, end, run}
-use Rattle.rules.specs.Table.{decodeDesk, encodeDesk, recordSound, sound, stepTable}
-use Rattle.ring_rules.specs.Ring.{beginningAfter, beginningIn, beginningOffset, circular, linear, linearTable, openRing, openRingBytes, ringNeed, ringNextWord, ringSound, ringStart}
+use Rattle.rules.specs.Table.{decodeDesk, encodeDesk, recordSound}
+use Rattle.ring_rules.specs.Ring.{beginningAfter, beginningOffset, circular, linear, linearTable, openRing, openRingBytes, ringNeed, ringNextWord, ringSound, ringStart}
 use Rattle.ring_rules.specs.Ring.{ringWidthFor, rotate, slotAfter, stepRing, stepRingBytes, beginningWord}
 use Rattle.ring_rules.specs.RingDemands.{range, ringFootprint, ringOpeningFootprint}
 

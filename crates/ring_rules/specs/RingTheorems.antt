@@ -1,7 +1,6 @@
 -- The theorems about the board whose list is a ring. The statements are defined in RingDemands and in the rules of the first board; the proofs are in
 -- laws/. They hold for any limits; the exported calls use those of the hall. Document 02, "A list that turns".
-use Prim.Native.Nat.{ℕ, zero, suc, _+_, _*_, _%_, _≤_}
-use native.Mathlib.Omega.{arith}
+use Prim.Native.Nat.{ℕ, _*_, _%_, _≤_}
 use mathlib.Core.Path.{_≡_, refl}
 use mathlib.Core.Bool.{true, false}
 use mathlib.Core.List.{List, _++_}
@@ -13,7 +12,7 @@ use Rattle.rules.specs.Hall.{Hall, Limits, allScreens, hallLimits}
 use Rattle.rules.specs.History.{handBacks, numberAt}
 use Rattle.rules.specs.Messages.{MessageNumbers}
 use Rattle.rules.specs.Steps.{Call, Collect, Event, _numbered_, _sends_, begin, end, run, scan}
-use Rattle.rules.specs.Table.{hallIn, need, openTable, recordOf, stepTable}
+use Rattle.rules.specs.Table.{hallIn, openTable, recordOf, stepTable}
 use Rattle.rules.specs.Theorems.{back-sooner, closing-rule, demand-2, demand-3, hand-back-closes, message-numbers, never-unsound}
 use Rattle.rules.specs.laws.bytes.Bytes.{bytes-demand1, bytes-open, bytes-step, words-are-16}
 use Rattle.ring_rules.specs.Ring.{beginningWord, decodeRing, linear, linearTable, openRing, openRingBytes, ringNeed, ringRecordOf, ringSound, ringState, stepRing, stepRingBytes}
@@ -21,7 +20,7 @@ use Rattle.ring_rules.specs.RingDemands.{BeginningsCount, FromOpening, R
 use Rattle.ring_rules.specs.laws.Beginnings.{beginnings-run}
 use Rattle.ring_rules.specs.laws.RingBytes.{beginnings-on-bytes, passes-on-bytes, same-history-on-bytes}
 use Rattle.ring_rules.specs.laws.RingDemand1.{collect-names-few, ring-demand1, ring-opening-demand1}
-use Rattle.ring_rules.specs.laws.RingHistories.{beginnings-from-opening, first-accepts, opening-answers-alike, opens-as, opens-sound, ring-stays-sound, same-from-opening, same-history}
+use Rattle.ring_rules.specs.laws.RingHistories.{beginnings-from-opening, opening-answers-alike, opens-as, opens-sound, ring-stays-sound, same-from-opening, same-history}
 use Rattle.ring_rules.specs.laws.RingNeedSuffices.{ring-open-append, ring-step-append}
 use Rattle.ring_rules.specs.laws.RingSteps.{ring-known, ring-step}
 use Rattle.ring_rules.specs.laws.RingTables.{record-same}

@@ -8,14 +8,14 @@ use mathlib.Core.Bool.{Bool, true, false, cond}
 use mathlib.Core.List.{List, [], _∷_}
 use lib.Dec.{eqb, ltb}
 use borrow.Author.Tests.{eqb-false, eqb-true, ltb-false, ltb-true, ne-eqb}
-use lib.ListN.{length, getD, take, drop, set, length-set}
+use lib.ListN.{length, getD, drop, set}
 use lib.Seq.{getD-drop, getD-set-other, getD-take}
 use Rattle.rules.specs.Hall.{Desk, Hall, Limits, State, allScreens, usedSlots}
-use Rattle.rules.specs.History.{Action, acceptedAction, actionOf, byDesk, collects, effectOf, handBacks, handsBack, isHandBack, noAction, outOfRoom, refusedAction, swaps, _by_}
+use Rattle.rules.specs.History.{Action, acceptedAction, byDesk, collects, effectOf, handBacks, handsBack, isHandBack, noAction, outOfRoom, refusedAction, swaps, _by_}
 use Rattle.rules.specs.Lists.{occurrences, toNat}
-use Rattle.rules.specs.Steps.{Call, Collect, Drop, Event, Result, Retire, Step, Swap, Take, _numbered_, _sends_, accept, advance, collect, end, firstNo, isNone, isRepeat, perform}
-use Rattle.rules.specs.Steps.{performStep, questions, refuse, retire, run}
-use Rattle.rules.specs.Table.{encodeDesk, hallIn, positionWord, screenWord, tailOffset, widthFor}
+use Rattle.rules.specs.Steps.{Call, Collect, Drop, Result, Retire, Step, Swap, Take, _numbered_, _sends_, advance, collect, end, firstNo, isNone, isRepeat, perform}
+use Rattle.rules.specs.Steps.{performStep, questions, retire, run}
+use Rattle.rules.specs.Table.{hallIn, positionWord, screenWord, tailOffset, widthFor}
 use Rattle.rules.specs.laws.desk.Collect.{before-hand-back}
 use Rattle.rules.specs.laws.desk.Sound.{Sound, collect-sound, retire-sound, sound-orderly}
 use Rattle.rules.specs.laws.history.StepEffects.{IsDesk, desk-asked, drop-asked, retire-asked, swap-asked, take-asked}
@@ -23,7 +23,7 @@ use Rattle.rules.specs.laws.lists.ListSlices.{put-is}
 use Rattle.rules.specs.laws.table.EncodedStep.{some-screens}
 use Rattle.ring_rules.specs.Ring.{beginningAfter, beginningIn, beginningWord, decodeRing, encodeRing, frontWords, putRing, ringAfter, ringAfterStep, ringNeed, ringNextWord}
 use Rattle.ring_rules.specs.Ring.{ringRecordOf, ringSound, ringStart, ringState, ringWidthFor, settled, slotAfter, stepRing}
-use Rattle.ring_rules.specs.laws.RingSteps.{Laid, RingKnown, accepted-ring, after-below, begins-below, desk-good, desk-is, held, laid, refused-ring, ring-known, ring-step, ringAsked}
+use Rattle.ring_rules.specs.laws.RingSteps.{RingKnown, accepted-ring, after-below, begins-below, desk-good, desk-is, held, laid, refused-ring, ring-known, ring-step, ringAsked}
 use Rattle.ring_rules.specs.laws.RingSteps.{screen-below, writes}
 use Rattle.ring_rules.specs.laws.RingTables.{record-within}
 

@@ -1,10 +1,10 @@
 -- A ring's record and the record of the first board that it reads as: its parts, there and back, and what a store does.
 use Prim.Native.Nat.{ℕ, zero, suc, _+_, _*_, _-_, _≤_, _<_}
 use native.Mathlib.Omega.{arith}
-use mathlib.Core.Path.{_≡_, refl, sym, ap, ap₂, _∙_}
-use mathlib.Core.List.{List, [], _∷_, _++_, append-assoc}
+use mathlib.Core.Path.{_≡_, sym, ap, ap₂, _∙_}
+use mathlib.Core.List.{List, [], _∷_, _++_}
 use lib.ListN.{length, getD, take, drop, set, length-append, length-drop, length-set, take-append-drop, drop-of-length-le, List·getD-append}
-use lib.Seq.{drop-at, drop-cons, drop-drop, getD-append-add, getD-at, getD-drop, getD-take, length-take-le, set-append-left, take-all, take-at}
+use lib.Seq.{drop-at, drop-cons, drop-drop, getD-append-add, getD-at, getD-drop, getD-take, length-take-le, set-append-left, take-at}
 use Rattle.rules.specs.Bytes.{Words16}
 use Rattle.rules.specs.Table.{listOffset, slotsIn, tailIn, tailOffset, tailWords, widthFor}
 use Rattle.rules.specs.laws.desk.Decoding.{small-drop, small-take}

@@ -1,16 +1,16 @@
 -- The ring's calls on bytes: histories beside the first board's, the beginnings, and what passes from the first board.
-use Prim.Native.Nat.{ℕ, zero, suc, _+_, _*_, _%_, _≤_}
-use mathlib.Core.Path.{_≡_, refl, sym, ap, _∙_, subst, subst₂}
+use Prim.Native.Nat.{ℕ}
+use mathlib.Core.Path.{_≡_, refl, sym, ap, _∙_, subst₂}
 use mathlib.Core.Bool.{true}
-use mathlib.Core.List.{List, [], _∷_}
-use lib.ListN.{getD, take}
-use Rattle.rules.specs.Bytes.{Calls16, IsBytes, openOnBytes, stepBytes, stepOnBytes, wordsOfBytes}
-use Rattle.rules.specs.Hall.{Hall, Limits, allScreens}
-use Rattle.rules.specs.Steps.{Call, Event, Result, end, run}
+use mathlib.Core.List.{List}
+use lib.ListN.{take}
+use Rattle.rules.specs.Bytes.{Calls16, IsBytes, stepBytes, wordsOfBytes}
+use Rattle.rules.specs.Hall.{Hall, Limits}
+use Rattle.rules.specs.Steps.{Call, Event, end, run}
 use Rattle.rules.specs.Table.{hallIn, openTable, stepTable}
 use Rattle.rules.specs.laws.bytes.ByteHistories.{bytes-end, bytes-run, of-bytes, take-calls16}
 use Rattle.rules.specs.laws.bytes.FirstBoard.{firstBoard}
-use Rattle.ring_rules.specs.Ring.{linearTable, openRing, openRingBytes, ringSound, stepRing, stepRingBytes}
+use Rattle.ring_rules.specs.Ring.{linearTable, openRingBytes, ringSound, stepRingBytes}
 use Rattle.ring_rules.specs.RingDemands.{BeginningsCount, FromOpening, SameHistory}
 use Rattle.ring_rules.specs.laws.Beginnings.{beginnings-run}
 use Rattle.ring_rules.specs.laws.RingHistories.{first-accepts, passes, same-history}

@@ -7,15 +7,15 @@ use mathlib.Core.Bool.{Bool, true, false, cond, not, true≢false}
 use mathlib.Core.List.{List, [], _∷_, _++_, map}
 use lib.Dec.{eqb, ltb}
 use borrow.Author.Tests.{eqb-false, eqb-true, ltb-false}
-use lib.ListN.{length, getD, take, drop, set, replicate, length-append, length-drop, length-map, length-replicate, length-set}
+use lib.ListN.{length, getD, drop, set, replicate, length-append, length-drop, length-map, length-replicate, length-set}
 use lib.Seq.{getD-drop, getD-set-other, getD-set-same, getD-take}
 use Rattle.rules.specs.Bytes.{Words16}
 use Rattle.rules.specs.Demands.{Demand1, openingRefusals, refusals}
-use Rattle.rules.specs.Hall.{Desk, Hall, Limits, State, allScreens, deskOf, maxAllScreens, usedSlots}
+use Rattle.rules.specs.Hall.{Desk, Hall, Limits, State, allScreens, usedSlots}
 use Rattle.rules.specs.Lists.{occurrences}
-use Rattle.rules.specs.Steps.{Call, Collect, Drop, Result, Retire, Step, Swap, Take, _numbered_, _sends_, accept, advance, begin, collect, firstNo, handBack, isRepeat, isSession}
+use Rattle.rules.specs.Steps.{Call, Collect, Drop, Result, Retire, Step, Swap, Take, _numbered_, _sends_, accept, advance, begin, collect, isRepeat, isSession}
 use Rattle.rules.specs.Steps.{perform, questions, refuse, retire, scan, settle}
-use Rattle.rules.specs.Table.{decodeDesk, encodeDesk, hallIn, headerWords, listOffset, owedOffset, positionWord, recordSound, screenWord, slotsFor, slotsIn, tailOffset, tailWords, usedIn, waitingOffset, widthFor}
+use Rattle.rules.specs.Table.{encodeDesk, hallIn, headerWords, listOffset, owedOffset, positionWord, recordSound, screenWord, slotsFor, slotsIn, tailOffset, usedIn, waitingOffset, widthFor}
 use Rattle.rules.specs.laws.desk.Collect.{owed-collect}
 use Rattle.rules.specs.laws.desk.Decoding.{record-again, small-drop, small-take}
 use Rattle.rules.specs.laws.desk.Encoding.{slots-read-back, tail-word}
@@ -25,7 +25,7 @@ use Rattle.rules.specs.laws.lists.Bools.{and-right}
 use Rattle.rules.specs.laws.lists.ListSlices.{get-past, put-is}
 use Rattle.rules.specs.laws.lists.Lists.{indicator, indicator-same}
 use Rattle.rules.specs.laws.table.Demand1.{owed-first, retire-keeps, tail-collect}
-use Rattle.rules.specs.laws.table.EncodedStep.{length-encoded, some-screens}
+use Rattle.rules.specs.laws.table.EncodedStep.{some-screens}
 use Rattle.rules.specs.laws.table.TableHistories.{counts-encoded}
 use Rattle.rules.specs.laws.table.WordBounds.{first-no-is-asked, refusals-are-asked}
 use Rattle.ring_rules.specs.Ring.{beginningAfter, beginningIn, decodeRing, encodeRing, linear, openRing, openedRing, putRing, ringAfter, ringAfterStep, ringNeed, ringNextWord}
@@ -35,7 +35,7 @@ use Rattle.ring_rules.specs.laws.NamedWords.{not-either, not-first, offs
 use Rattle.ring_rules.specs.laws.Records.{linear-head, linear-length, linear-slots, linear-tail, linear-words, slots-length}
 use Rattle.ring_rules.specs.laws.RingOpening.{by-opening, ring-fits}
 use Rattle.ring_rules.specs.laws.RingSteps.{Laid, RingKnown, accepted-ring, after-below, begins-below, desk-good, desk-is, held, laid, record-good, refused-ring, ring-known, ringAsked}
-use Rattle.ring_rules.specs.laws.RingSteps.{slot-below, unsound-ring, writes}
+use Rattle.ring_rules.specs.laws.RingSteps.{unsound-ring, writes}
 use Rattle.ring_rules.specs.laws.RingTables.{record-long, record-within}
 use Rattle.ring_rules.specs.laws.SlotWords.{collected-slot, indexOf, index-slot, retired-slot}
 

@@ -1,22 +1,21 @@
 -- "Words past the need are neither read nor written": a call on a ring that is long enough for its hall, and anything behind it.
 use Prim.Native.Nat.{ℕ, zero, suc, _+_, _*_, _-_, _≤_, _<_}
 use native.Mathlib.Omega.{arith}
-use native.Mathlib.Nat.{mul-le-mul-right}
-use mathlib.Core.Path.{_≡_, refl, sym, ap, ap₂, _∙_, subst}
+use mathlib.Core.Path.{_≡_, refl, sym, ap, ap₂, _∙_}
 use mathlib.Core.Bool.{Bool, true, false, cond, _&&_}
-use mathlib.Core.List.{List, [], _∷_, _++_, append-assoc}
+use mathlib.Core.List.{List, _∷_, _++_, append-assoc}
 use lib.ListN.{length, take, getD, drop, set, replicate, length-append, length-drop, length-set, List·getD-append}
 use lib.Seq.{set-append-left, take-append-le}
 use lib.Dec.{leb}
 use borrow.Author.Tests.{le-leb}
-use Rattle.rules.specs.Hall.{Hall, Limits, State, allScreens, maxDesks, maxPositions, maxScreens}
+use Rattle.rules.specs.Hall.{Hall, Limits, State, allScreens}
 use Rattle.rules.specs.Lists.{chunks, every}
-use Rattle.rules.specs.Steps.{Call, Collect, Drop, Result, Retire, Step, Swap, Take, _numbered_, _sends_, accept, advance, ask, decide, firstNo, inRange, isRepeat, perform, questions}
-use Rattle.rules.specs.Table.{decode, hallIn, headerWords, inLimits, need, positionWord, screenWord, tailOffset, within}
+use Rattle.rules.specs.Steps.{Call, Collect, Drop, Result, Retire, Step, Swap, Take, _numbered_, _sends_, accept, advance, decide, firstNo, isRepeat, perform, questions}
+use Rattle.rules.specs.Table.{decode, hallIn, headerWords, inLimits, positionWord, screenWord}
 use Rattle.rules.specs.laws.history.ScreenIndex.{screen-in}
 use Rattle.rules.specs.laws.history.StepEffects.{IsDesk, desk-asked, drop-asked, swap-asked, take-asked}
 use Rattle.rules.specs.laws.table.NeedSuffices.{chunks-append, decode-same, drop-append-left, hall-same}
-use Rattle.ring_rules.specs.Ring.{collectRing, frontWords, linear, linearIn, linearRecords, linearTable, openRing, openedRing, putRing, retireRing, ringAfter, ringAfterStep, ringNeed}
+use Rattle.ring_rules.specs.Ring.{collectRing, frontWords, linear, linearIn, linearRecords, openRing, openedRing, putRing, retireRing, ringAfter, ringAfterStep, ringNeed}
 use Rattle.ring_rules.specs.Ring.{ringNextWord, ringQuestions, ringRecordOf, ringRecordSound, ringRecordsIn, ringSound, ringStart, ringState, ringWidthFor, stepRing}
 use Rattle.ring_rules.specs.laws.RingSteps.{RingKnown, accepted-ring, refused-ring, ring-known, ringAsked, unsound-ring, writes-step}
 use Rattle.ring_rules.specs.laws.RingTables.{linear-table-length, record-within}

@@ -1,24 +1,24 @@
 -- An opened ring: it is sound, and reads as an opened first board.
-use Prim.Native.Nat.{ℕ, zero, suc, _+_, _*_, _-_, _≤_, _<_}
+use Prim.Native.Nat.{ℕ, zero, suc, _+_, _*_, _-_, _≤_}
 use native.Mathlib.Omega.{arith}
 use native.Mathlib.Nat.{mul-le-mul}
 use mathlib.Core.Path.{_≡_, refl, sym, ap, ap₂, _∙_, subst}
-use mathlib.Core.Bool.{Bool, true, false, cond, _&&_}
+use mathlib.Core.Bool.{true}
 use mathlib.Core.List.{List, [], _∷_, _++_, append-assoc, append-nil}
-use lib.ListN.{length, getD, take, drop, replicate, length-append, length-drop, length-replicate, replicate-append-replicate}
+use lib.ListN.{length, take, drop, replicate, length-append, length-replicate, replicate-append-replicate}
 use lib.Seq.{drop-at, drop-drop, take-at}
-use lib.Dec.{leb, ltb, eqb}
-use borrow.Author.Tests.{le-leb, leb-true, lt-ltb}
+use lib.Dec.{leb, ltb}
+use borrow.Author.Tests.{leb-true, lt-ltb}
 use Rattle.rules.specs.Hall.{Hall, Limits, allScreens, emptyDesk, maxAllScreens, maxDesks, maxPositions, maxScreens}
 use Rattle.rules.specs.Steps.{Result, accept, decide, firstNo, inRange, refuse}
 use Rattle.rules.specs.Lists.{chunks, every}
-use Rattle.rules.specs.Table.{encodeDesk, hallIn, headerWords, inHall, inLimits, listOffset, need, openedTable, recordSound, tailWords, widthFor, within}
+use Rattle.rules.specs.Table.{encodeDesk, headerWords, inHall, inLimits, listOffset, need, openedTable, recordSound, tailWords, widthFor, within}
 use Rattle.rules.specs.laws.lists.Bools.{and-true}
 use Rattle.rules.specs.laws.history.StepEffects.{holds}
 use Rattle.rules.specs.laws.desk.Sound.{encoded-sound}
 use Rattle.rules.specs.laws.table.EncodedStep.{empty-desk-sound, limits-fit, some-screens}
 use Rattle.ring_rules.specs.Ring.{beginningIn, frontWords, openRing, openedRing, ringNeed, ringQuestions, ringRecordSound, ringSound, ringWidthFor, linear, linearRecords}
-use Rattle.ring_rules.specs.Ring.{linearTable, rotate}
+use Rattle.ring_rules.specs.Ring.{linearTable}
 use Rattle.ring_rules.specs.laws.Records.{beginning-of, linear-of}
 use Rattle.ring_rules.specs.laws.RingSteps.{known-ring}
 

@@ -1,18 +1,15 @@
 -- What the words of a sound ring say of the state that it holds.
-use Prim.Native.Nat.{ℕ, _+_, _-_, _*_, _≤_, _<_}
+use Prim.Native.Nat.{ℕ, _+_, _-_, _≤_, _<_}
 use native.Mathlib.Omega.{arith}
-use mathlib.Core.Path.{_≡_, sym, ap, _∙_, subst}
-use mathlib.Core.Bool.{true}
+use mathlib.Core.Path.{_≡_, _∙_, subst}
 use mathlib.Core.List.{List}
-use lib.ListN.{length, getD, drop, take}
-use lib.Seq.{getD-drop, getD-take}
-use Rattle.rules.specs.Hall.{Desk, Hall, Limits, allScreens, deskOf, screenIndex}
-use Rattle.rules.specs.Table.{decode, decodeDesk, hallIn, headerWords, positionWord, recordOf, recordStart, nextWord, screenWord, tailOffset, tailWords, widthFor}
+use lib.ListN.{getD}
+use Rattle.rules.specs.Hall.{Hall, Limits, allScreens, deskOf, screenIndex}
+use Rattle.rules.specs.Table.{decode, hallIn, headerWords, positionWord, recordStart, nextWord, screenWord}
 use Rattle.rules.specs.laws.history.ScreenIndex.{screen-in}
 use Rattle.rules.specs.laws.history.StepEffects.{IsDesk}
 use Rattle.rules.specs.laws.table.TableSteps.{held-word, number-word, owed-word, shown-at}
-use Rattle.ring_rules.specs.Ring.{frontWords, linear, linearTable, ringNextWord, ringRecordOf, ringStart, ringState, ringWidthFor}
-use Rattle.ring_rules.specs.laws.Records.{linear-head, linear-tail}
+use Rattle.ring_rules.specs.Ring.{linearTable, ringNextWord, ringStart, ringState}
 use Rattle.ring_rules.specs.laws.RingSteps.{RingKnown, same-hall-read}
 use Rattle.ring_rules.specs.laws.RingTables.{number-same, owed-same, word-same}
 

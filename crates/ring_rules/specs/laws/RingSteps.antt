@@ -1,34 +1,34 @@
 -- A step on a sound ring: it answers as the first board that the ring reads as, leaves a ring that reads as what that board leaves, and it stays sound.
 use Prim.Native.Nat.{ℕ, zero, suc, _+_, _*_, _-_, _≤_, _<_}
 use native.Mathlib.Omega.{arith}
-use mathlib.Core.Path.{_≡_, refl, sym, ap, ap₂, _∙_, subst}
+use mathlib.Core.Path.{_≡_, refl, sym, ap, _∙_, subst}
 use mathlib.Core.Bool.{Bool, true, false, cond, _&&_}
-use mathlib.Core.List.{List, [], _∷_, _++_, map}
+use mathlib.Core.List.{List, [], _∷_, map}
 use lib.ListN.{length, getD, take, drop, set, length-set}
-use lib.Seq.{drop-drop, drop-set-add, drop-set-lt, getD-drop, getD-set-other, getD-take, take-set-le}
+use lib.Seq.{drop-drop, drop-set-add, drop-set-lt, getD-set-other, take-set-le}
 use lib.Dec.{leb, ltb, eqb}
 use borrow.Author.Tests.{le-leb, leb-true, lt-ltb, ltb-true}
-use Rattle.rules.specs.Hall.{Desk, Hall, Limits, State, allScreens, deskOf, emptyDesk, maxAllScreens, screenIndex, usedSlots}
+use Rattle.rules.specs.Hall.{Desk, Hall, Limits, State, allScreens, deskOf, emptyDesk, maxAllScreens, usedSlots}
 use Rattle.rules.specs.Lists.{chunks, every}
 use Rattle.rules.specs.Steps.{Call, Collect, Drop, Result, Retire, Step, Swap, Take, _numbered_, _sends_, accept, advance, collect, decide, firstNo, isNone, isRepeat, isSession, perform}
 use Rattle.rules.specs.Steps.{questions, refuse, retire}
 use Rattle.rules.specs.Table.{bitsOfWords, decode, decodeDesk, encodeDesk, hallIn, headerWords, inLimits, listOffset, marksIn, marksOffset, markWords, need, nextWord, ones, positionWord, putRecord}
-use Rattle.rules.specs.Table.{recordOf, recordSound, recordStart, recordsIn, scanSound, screenWord, slotsIn, sound, stepTable, tableAfter, tableAfterStep, tailOffset, tailWords, usedIn}
+use Rattle.rules.specs.Table.{recordOf, recordSound, recordStart, recordsIn, scanSound, screenWord, slotsIn, sound, stepTable, tableAfter, tableAfterStep, tailOffset}
 use Rattle.rules.specs.Table.{widthFor}
 use Rattle.rules.specs.laws.desk.Sound.{Sound, collect-sound, encoded-sound, retire-sound}
 use Rattle.rules.specs.laws.history.ScreenIndex.{screen-in}
 use Rattle.rules.specs.laws.history.StepEffects.{IsDesk, desk-asked, drop-asked, retire-asked, swap-asked, take-asked}
-use Rattle.rules.specs.laws.lists.Bools.{and-left, and-right, and-true, cond-both}
+use Rattle.rules.specs.laws.lists.Bools.{and-left, and-right, and-true}
 use Rattle.rules.specs.laws.table.DecodeStepEncode.{valid}
 use Rattle.rules.specs.laws.table.EncodedStep.{Fits, Valid, all-get, empty-desk-sound, length-encoded, some-screens}
 use Rattle.rules.specs.laws.table.TableSteps.{Known, accepted-step, asked, desk-word, every-record-at, known, refused-step}
-use Rattle.ring_rules.specs.Ring.{beginningAfter, beginningIn, circular, collectRing, decodeRing, encodeRing, frontWords, linear, linearIn, linearTable, putRing, retireRing, ringAfter}
+use Rattle.ring_rules.specs.Ring.{beginningAfter, beginningIn, decodeRing, encodeRing, frontWords, linear, linearIn, linearTable, putRing, ringAfter}
 use Rattle.ring_rules.specs.Ring.{ringAfterStep, ringNeed, ringNextWord, ringRecordOf, ringRecordSound, ringRecordsIn, ringSound, ringStart, ringState, ringStepIf, ringWidthFor}
 use Rattle.ring_rules.specs.Ring.{settled, slotAfter, stepRing}
 use Rattle.ring_rules.specs.RingDemands.{SameStep}
-use Rattle.ring_rules.specs.laws.Records.{circular-beginning, circular-length, linear-circular, linear-set, linear-set-tail, linear-tail}
+use Rattle.ring_rules.specs.laws.Records.{circular-beginning, circular-length, linear-circular, linear-set, linear-set-tail}
 use Rattle.ring_rules.specs.laws.RingTables.{hall-same, linear-table-length, number-linear, number-same, owed-linear, put-every, put-hall, put-long, put-same, record-long, record-same}
-use Rattle.ring_rules.specs.laws.RingTables.{record-within, records-same, same-hall, word-put, word-same, word-stored}
+use Rattle.ring_rules.specs.laws.RingTables.{records-same, same-hall, word-put, word-same, word-stored}
 
 -- ---- A sound ring.
 pub record KnownAt (limits : Limits) (H : Hall) (t : List ℕ) : Type 0 where

@@ -3,13 +3,13 @@ use Prim.Native.Nat.{ℕ, zero, suc, _+_, _*_, _-_, _≤_, _<_}
 use native.Mathlib.Omega.{arith}
 use native.Mathlib.Nat.{mul-le-mul-right}
 use mathlib.Core.Path.{_≡_, refl, sym, ap, ap₂, _∙_, subst}
-use mathlib.Core.Bool.{Bool, true, false, _&&_}
-use mathlib.Core.List.{List, [], _∷_, _++_, map, append-assoc}
+use mathlib.Core.Bool.{Bool, true}
+use mathlib.Core.List.{List, _∷_, _++_, map, append-assoc}
 use lib.ListN.{length, getD, take, drop, set, length-append, length-drop, length-set, take-append-drop, List·getD-append}
-use lib.Seq.{drop-at, drop-append-add, drop-drop, drop-set-lt, getD-drop, getD-take, length-take-le, set-append-left, take-add, take-append-add, take-at, take-set-lt, take-take}
+use lib.Seq.{drop-at, drop-append-add, drop-drop, drop-set-lt, getD-drop, getD-take, length-take-le, set-append-left, take-add, take-append-add, take-at, take-set-lt}
 use Rattle.rules.specs.Hall.{Hall, allScreens}
 use Rattle.rules.specs.Lists.{chunks, every}
-use Rattle.rules.specs.Table.{hallIn, headerWords, listOffset, putRecord, recordOf, recordStart, recordWidth, recordsIn, tailOffset, tailWords, widthFor}
+use Rattle.rules.specs.Table.{hallIn, headerWords, putRecord, recordOf, recordStart, recordWidth, recordsIn, tailOffset, widthFor}
 use Rattle.rules.specs.laws.lists.Bools.{and-left, and-right, and-true}
 use Rattle.rules.specs.laws.lists.ListSlices.{set-mid}
 use Rattle.ring_rules.specs.Ring.{frontWords, putRing, ringNeed, ringRecordOf, ringRecordsIn, ringStart, ringWidthFor, linear, linearIn, linearRecords}

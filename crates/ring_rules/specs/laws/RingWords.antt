@@ -1,16 +1,16 @@
 -- Rings of 16-bit words: the opening and the steps keep the width of each word; so the ring is a `WordBoard`, for which the laws of bytes are stated.
 use Prim.Native.Nat.{ℕ, zero, suc, _+_, _*_, _-_, _≤_, _<_}
 use native.Mathlib.Omega.{arith}
-use mathlib.Core.Path.{_≡_, refl, sym, ap, _∙_, subst}
+use mathlib.Core.Path.{_≡_, refl, sym, subst}
 use mathlib.Core.Bool.{Bool, true, false}
-use mathlib.Core.List.{List, [], _∷_, _++_}
+use mathlib.Core.List.{List, _++_}
 use lib.ListN.{length, getD, take, drop, replicate, set, length-drop}
 use lib.Seq.{length-take-le}
 use Rattle.rules.specs.Bytes.{Call16, Step16, Words16}
-use Rattle.rules.specs.Hall.{Desk, Hall, Limits, State, allScreens, deskOf, maxAllScreens, usedSlots}
-use Rattle.rules.specs.Steps.{Answer, Call, Collect, Drop, Result, Retire, Step, Swap, Take, _numbered_, _sends_, advance, collect, isRepeat, perform, retire}
-use Rattle.rules.specs.Table.{decode, encodeDesk, hallIn, headerWords, inLimits, positionWord, screenWord, stepTable}
-use Rattle.rules.specs.laws.bytes.Bytes.{Kept, WordBoard}
+use Rattle.rules.specs.Hall.{Desk, Hall, Limits, State, allScreens, deskOf, usedSlots}
+use Rattle.rules.specs.Steps.{Answer, Call, Collect, Drop, Result, Retire, Step, Swap, Take, _numbered_, _sends_, advance, collect, isRepeat, retire}
+use Rattle.rules.specs.Table.{decode, encodeDesk, hallIn, headerWords, positionWord, screenWord}
+use Rattle.rules.specs.laws.bytes.Bytes.{WordBoard}
 use Rattle.rules.specs.laws.desk.Decoding.{small-drop, small-take}
 use Rattle.rules.specs.laws.history.StepEffects.{IsDesk, desk-asked, retire-asked}
 use Rattle.rules.specs.laws.lists.Bools.{cond-both}

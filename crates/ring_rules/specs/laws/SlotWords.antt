@@ -1,16 +1,16 @@
 -- The slots of a ring's record after a retire and after a collect: those that the step does not name keep their words.
-use Prim.Native.Nat.{ℕ, zero, suc, _+_, _*_, _-_, _≤_, _<_}
+use Prim.Native.Nat.{ℕ, suc, _+_, _*_, _-_, _≤_, _<_}
 use native.Mathlib.Omega.{arith}
 use native.Mathlib.Decide.{decLt}
-use mathlib.Core.Path.{_≡_, refl, sym, ap, ap₂, _∙_, subst}
+use mathlib.Core.Path.{_≡_, refl, sym, ap, _∙_, subst}
 use mathlib.Core.Bool.{Bool, true, false, cond, _&&_}
 use mathlib.Core.List.{List, [], _∷_, _++_, append-assoc, append-nil, map}
 use lib.Dec.{eqb, ltb}
 use borrow.Author.Tests.{ltb-false, ltb-true, lt-ltb}
 use lib.ListN.{length, getD, take, drop, set, replicate, length-append, length-replicate, length-set, List·getD-append, replicate-append-replicate}
-use lib.Seq.{getD-set-other, set-append-left}
-use Rattle.rules.specs.Hall.{Desk, TestedSlot, allScreens, marked, unmarked, usedSlots}
-use Rattle.rules.specs.Steps.{begin, beginAt, collect, handBack, mark, markEach, markedOf, readScreens, retire, scan, scanAt, settle, settleIf, unmarkedOf}
+use lib.Seq.{getD-set-other}
+use Rattle.rules.specs.Hall.{Desk, TestedSlot, marked, unmarked, usedSlots}
+use Rattle.rules.specs.Steps.{begin, beginAt, handBack, mark, markEach, markedOf, retire, scan, scanAt, settle, settleIf, unmarkedOf}
 use Rattle.rules.specs.Table.{listOf, sessionsOf, slotsFor}
 use Rattle.rules.specs.laws.desk.Encoding.{length-list, length-sessions}
 use Rattle.rules.specs.laws.desk.Marks.{unmarked-and-marked}
