@@ -11,7 +11,7 @@
 #   make edits          tries the wrong programs and rules in edits/: each must be refused where it says
 #   make gallery        draws the example sheets again, in docs/gallery/
 #   make selftest       shows that the comparisons catch 153 wrong boards and 203 wrong sheet programs, and that the trace of
-#                       stores catches 26 stray ones (an hour)
+#                       stores catches 26 stray ones (more than 40 minutes)
 #   make soak           runs the comparisons with new seeds; MINUTES=10 says how long (default: 1)
 #   make fuzz           fuzzes the calls, then the sheet programs, each for half of MINUTES; installs clang if missing
 #   make fuzz-selftest  shows that the fuzzing catches wrong boards, stray accesses and wrong programs (minutes)
