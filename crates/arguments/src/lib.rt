@@ -1,4 +1,6 @@
 // What a program's arguments ask for; the same for every program that reads a sheet from standard input.
+#![tactic(auto)]
+
 ghost use Rattle.arguments.specs.Asks.{Asks};
 
 #[derive(Drop)]

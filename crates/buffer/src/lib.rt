@@ -1,4 +1,6 @@
 // Puts bytes into a buffer that the caller lends: what all writers share.
+#![tactic(auto)]
+
 ghost use Rattle.std.specs.Prelude.{[], ◌∷◌, ◌≡◌, ◌+◌, leb};
 ghost use Rattle.buffer.specs.Put.{Fits, Put};
 

@@ -1,4 +1,6 @@
 // The sheet program: reads a day sheet of edition 2 from standard input and prints its lines.
+#![tactic(auto)]
+
 use arguments::{Request, request_for};
 use board::hall_limits;
 use libc::{STDERR_FILENO, STDOUT_FILENO};

@@ -1,4 +1,6 @@
 // Which fields follow each code of a day sheet: one table for readers and writers of records.
+#![tactic(auto)]
+
 ghost use Rattle.std.specs.Prelude.{◌≡◌, ◌≤◌, ◌<◌};
 ghost use Rattle.sheet_rules.specs.Sheet.{follows as follows_code};
 

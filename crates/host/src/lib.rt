@@ -1,3 +1,5 @@
+#![tactic(auto)]
+
 ghost use Rattle.std.specs.Prelude.{◌≡◌};
 ghost use Rattle.rules.specs.Bytes.{open_bytes, step_bytes};
 ghost use Rattle.rules.specs.Hall.{hall_limits, hall_of, training_limits};

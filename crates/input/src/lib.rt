@@ -1,4 +1,6 @@
 // Reads a file descriptor to its end, and distinguishes a failed read from the end.
+#![tactic(auto)]
+
 ghost use Rattle.input.specs.Input.{ReadInto};
 
 // How many bytes were read into the buffer, from its start; or a read failed, and `os::errno` has the reason.

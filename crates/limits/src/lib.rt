@@ -1,4 +1,6 @@
 // The limits of a room, a value that the board and the readers of sheets are given.
+#![tactic(auto)]
+
 ghost use Rattle.std.specs.Prelude.{◌≡◌};
 ghost use Rattle.rules.specs.Hall.{hall_of};
 ghost use Rattle.rules.specs.Table.{within as within_limits};

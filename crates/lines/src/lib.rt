@@ -1,3 +1,5 @@
+#![tactic(auto)]
+
 ghost use Rattle.std.specs.Prelude.{[], ◌∷◌, ◌++◌, ◌≡◌, length};
 ghost use Rattle.sheet_rules.specs.Lines.{decimal, end_line, line};
 ghost use Rattle.sheet_rules.specs.Rewriting.{refused_sheet_line};

@@ -1,4 +1,6 @@
 // Prints the lines of a sheet to standard output, for the sheet programs and `sheet_cases`.
+#![tactic(auto)]
+
 ghost use Rattle.reader.specs.Results.{edition_of};
 ghost use Rattle.printing.specs.Output.{HandedOver, OfInput};
 

@@ -1,3 +1,5 @@
+#![tactic(auto)]
+
 ghost use Rattle.std.specs.Prelude.{◌≡◌, ◌≤◌, ◌<◌};
 ghost use Rattle.rules.specs.Numbers.{allowed, allows as allows_padded, barred, bind, judge as judged, refusal, refusal_of};
 ghost use Rattle.sheet_rules.specs.Edition1.{decode_field, decode_fields, decode_header, decode_record, decode_rest, edition1, format_for, with_code};

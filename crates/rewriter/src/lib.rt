@@ -1,5 +1,7 @@
 // Reads a sheet in one edition and writes it in another, each number in its shortest form, into a buffer that the caller lends; or, for a
 // sheet that is refused, one line. The sheet is built in a buffer of its own first, so that nothing is written of one that is refused.
+#![tactic(auto)]
+
 ghost use Rattle.std.specs.Prelude.{◌≡◌, ◌+◌, ◌≤◌, length};
 ghost use Rattle.reader.specs.Results.{carried_of, edition_of, header_of, header_result, record_of};
 ghost use Rattle.sheet_rules.specs.Rewriting.{refused_sheet_line, rewrite as rewritten, write_reading};

@@ -1,4 +1,6 @@
 // Writes a sheet in another edition to standard output, for `shorten_sheet` and the converters.
+#![tactic(auto)]
+
 ghost use Rattle.std.specs.Prelude.{◌≡◌, length};
 ghost use Rattle.reader.specs.Results.{edition_of};
 ghost use Rattle.sheet_rules.specs.Rewriting.{rewrite as rewritten};

@@ -1,3 +1,5 @@
+#![tactic(auto)]
+
 ghost use Rattle.std.specs.Prelude.{◌≡◌, ◌+◌, ◌-◌, ◌*◌, ◌≤◌, length, drop as drop_words};
 ghost use Rattle.rules.specs.Bytes.{words_of_bytes};
 ghost use Rattle.rules.specs.Hall.{hall_of, max_all_screens, max_desks, max_positions};

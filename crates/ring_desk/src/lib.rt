@@ -1,3 +1,5 @@
+#![tactic(auto)]
+
 ghost use Rattle.std.specs.Prelude.{◌≡◌, true, ◌&&◌, ◌*◌, ◌%◌, ◌≤◌, ◌<◌, length, get_or, take, drop, [], ◌∷◌, ◌++◌};
 ghost use Rattle.rules.specs.Bytes.{words_of_bytes};
 ghost use Rattle.rules.specs.Hall.{max_all_screens};

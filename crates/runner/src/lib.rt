@@ -1,3 +1,5 @@
+#![tactic(auto)]
+
 ghost use Rattle.std.specs.Prelude.{◌≡◌, ◌+◌, ◌*◌, ◌/◌, ◌≤◌, leb, drop, length, set};
 ghost use Rattle.rules.specs.Bytes.{words_of_bytes};
 ghost use Rattle.rules.specs.Runs.{lent_after, lent_of, reply_width, request_in, requests_in, run_bytes, step_width};

@@ -1,3 +1,5 @@
+#![tactic(auto)]
+
 ghost use Rattle.std.specs.Prelude.{◌≡◌, false, ◌++◌, ◌+◌, ◌≤◌, length};
 ghost use Rattle.rules.specs.Bytes.{words_of_bytes};
 ghost use Rattle.buffer.specs.Put.{Put};

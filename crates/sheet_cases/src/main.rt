@@ -1,5 +1,7 @@
 // Prints the lines of one sheet after another: the cases of `tests/sheet_cases.txt`. On standard input, each sheet follows its
 // edition, one byte, and its length, three bytes, low byte first.
+#![tactic(auto)]
+
 use board::hall_limits;
 use libc::{STDIN_FILENO, STDOUT_FILENO};
 use printing::print;

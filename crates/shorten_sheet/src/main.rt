@@ -1,4 +1,6 @@
 // Reads a sheet of the archive from standard input and writes it in shortest form to standard output, or, if it is refused, one line.
+#![tactic(auto)]
+
 use arguments::{Request, request_for};
 use board::hall_limits;
 use libc::{STDERR_FILENO, STDOUT_FILENO};

@@ -1,3 +1,5 @@
+#![tactic(auto)]
+
 ghost use Rattle.std.specs.Prelude.{◌≡◌};
 ghost use Rattle.reply.specs.Answer.{answer_with};
 ghost use Rattle.sheet_rules.specs.Tally.{add_step, is_handed_back, one_more_if};

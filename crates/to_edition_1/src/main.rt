@@ -1,4 +1,6 @@
 // Reads a sheet of edition 2 from standard input and writes it in edition 1 to standard output, or, if it is refused, one line.
+#![tactic(auto)]
+
 use arguments::{Request, request_for};
 use board::hall_limits;
 use libc::{STDERR_FILENO, STDOUT_FILENO};

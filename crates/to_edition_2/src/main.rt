@@ -1,4 +1,6 @@
 // Reads a sheet of edition 1 from standard input and writes it in edition 2 to standard output, or, if it is refused, one line.
+#![tactic(auto)]
+
 use arguments::{Request, request_for};
 use board::hall_limits;
 use libc::{STDERR_FILENO, STDOUT_FILENO};

@@ -1,4 +1,6 @@
 // The sheet program of the training room: reads a day sheet of edition 1 from standard input and prints its lines.
+#![tactic(auto)]
+
 use arguments::{Request, request_for};
 use board::training_limits;
 use libc::{STDERR_FILENO, STDOUT_FILENO};

@@ -1,3 +1,5 @@
+#![tactic(auto)]
+
 ghost use Rattle.std.specs.Prelude.{◌≡◌, ◌+◌, ◌*◌, ◌≤◌, ◌<◌, length, get_or, set, take, replicate};
 ghost use Rattle.rules.specs.Bytes.{words_of_bytes};
 ghost use Rattle.words.specs.Words.{all_zero, lacks as lacks_word, shift_left, zeros_in};

@@ -1,4 +1,6 @@
 // Puts the records and the header of a day sheet into a buffer that the caller lends, each number in its shortest form.
+#![tactic(auto)]
+
 ghost use Rattle.std.specs.Prelude.{◌≤◌, ◌<◌, ◌++◌};
 ghost use Rattle.buffer.specs.Put.{Fits, Put};
 ghost use Rattle.reader.specs.Results.{carried_of, edition_of, header_of, record_of};

@@ -268,10 +268,10 @@ module _ (limits : Limits) (H : Hall) (A B : State) where
               answer = alike.answer;
               desk =
                   cond_cong (in_range d H.desks) _ _ empty_desk (λ h.
-                  get_or-set_same left.desks (d - 1) _ empty_desk (omega (arith, (formed_performed limits H A formed_a call e).desks, there))
+                  get_or-set_same left.desks (d - 1) (renumber (desk_of left d) (advance (desk_of A d).next)) empty_desk (omega (arith, (formed_performed limits H A formed_a call e).desks, there))
                   ∙ (λ i. renumber (after i) (advance (before i).next))
-                  ∙ sym (get_or-set_same right.desks (d - 1) _ empty_desk (omega (arith, (formed_performed limits H B formed_b call f).desks, there))));
-              named = named-moved left _ call.step ∙ alike.named ∙ sym (named-moved right _ call.step);
+                  ∙ sym (get_or-set_same right.desks (d - 1) (renumber (desk_of right d) (advance (desk_of B d).next)) empty_desk (omega (arith, (formed_performed limits H B formed_b call f).desks, there))));
+              named = named-moved left (advance (desk_of A d).next) call.step ∙ alike.named ∙ sym (named-moved right (advance (desk_of B d).next) call.step);
             }
         moved (suc n) e f alike = alike
 
