@@ -1,6 +1,6 @@
 -- The ring, computed: its need, histories around the end of the list, each refusal, the first board that it reads as, the words that a call names.
 -- No theorem is used here. Document 02, "A list that turns".
-use Rattle.std.specs.Prelude.{ℕ, zero, suc, ◌+◌, ◌%◌, ◌≡◌, refl, Bool, true, false, cond, List, [], ◌∷◌, ◌++◌, map, get_or, replicate, take}
+use Rattle.std.specs.Prelude.{ℕ, zero, suc, ◌%◌, ◌≡◌, refl, Bool, true, false, cond, List, [], ◌∷◌, ◌++◌, map, get_or, replicate, take}
 use Rattle.rules.specs.Bytes.{bytes_of_words, overwrite_words}
 use Rattle.rules.specs.Cases.{◌⇒◌, ok, refused_with}
 use Rattle.rules.specs.Hall.{Hall, Limits, hall_limits, hall_of, training_limits}

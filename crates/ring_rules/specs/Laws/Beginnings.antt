@@ -92,9 +92,9 @@ stays S b h = let e : b ≡ b + 0 = omega arith in e ∙ sym (mod-eq_of_lt (let 
 abbrev moved : ℕ → ℕ → Action → ℕ
 moved S b action = (b + to_nat (is_hand_back action)) % (2 * S)
 
-no_hand_back : (S b : ℕ) (own : Bool) (action : Action) → b < 2 * S → is_hand_back action ≡ false → b ≡ moved S b (cond own action no_action)
-no_hand_back S b true action h e = stays S b h ∙ ap (λ (q : Bool). (b + to_nat q) % (2 * S)) (sym e)
-no_hand_back S b false action h e = stays S b h
+no_hand_back : (S b : ℕ) (own : Bool) (a : Action) → b < 2 * S → is_hand_back a ≡ false → b ≡ moved S b (cond own a no_action)
+no_hand_back S b true a h e = stays S b h ∙ ap (λ (q : Bool). (b + to_nat q) % (2 * S)) (sym e)
+no_hand_back S b false a h e = stays S b h
 
 module _ (limits : Limits) (t : List ℕ) (k : RingKnown limits t) where
   abbrev H : Hall

@@ -1,5 +1,5 @@
 -- Rings of 16-bit words: the opening and the steps keep the width of each word; so the ring is a `WordBoard`, for which the laws of bytes are stated.
-use Rattle.std.specs.Prelude.{ℕ, zero, suc, ◌+◌, ◌*◌, ◌-◌, ◌≤◌, ◌<◌, ◌≡◌, refl, Bool, true, false, List, ◌++◌, length, get_or, take, drop, replicate, set}
+use Rattle.std.specs.Prelude.{ℕ, zero, suc, ◌*◌, ◌-◌, ◌≤◌, ◌<◌, ◌≡◌, refl, Bool, true, false, List, ◌++◌, length, get_or, take, drop, replicate, set}
 use Rattle.std.proofs.Common.{arith, sym, subst, length-drop, length-take-le}
 use Rattle.rules.specs.Bytes.{Call16, Step16, Words16}
 use Rattle.rules.specs.Hall.{Desk, Hall, Limits, State, all_screens, desk_of, used_slots}

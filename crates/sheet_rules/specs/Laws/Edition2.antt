@@ -226,16 +226,16 @@ module _ (format : Format) (numbers : LawfulNumbers format.read_number) where
   unfolding encode_header2
   header2_parsed sheet at hall next e =
       let was = header2_read format sheet at hall next e in
-      let zero_moved = numbers.moves max_number sheet at 0 was.after_zero was.zero-read in
-      let edition_moved = numbers.moves max_number sheet was.after_zero 2 was.after_edition was.edition-read in
-      let numbers_parsed = header_parsed format numbers sheet was.after_edition hall next was.hall-read in
+      let zero_moved = numbers.moves max_number sheet at 0 was.after_zero was.zero_read in
+      let edition_moved = numbers.moves max_number sheet was.after_zero 2 was.after_edition was.edition_read in
+      let numbers_parsed = header_parsed format numbers sheet was.after_edition hall next was.hall_read in
       record {
         moved = record { past = omega (arith, zero_moved.past, edition_moved.past, numbers_parsed.moved.past); inside = numbers_parsed.moved.inside };
         no_longer =
             omega (
               arith,
-              numbers.no_longer max_number sheet at 0 was.after_zero was.zero-read,
-              numbers.no_longer max_number sheet was.after_zero 2 was.after_edition was.edition-read,
+              numbers.no_longer max_number sheet at 0 was.after_zero was.zero_read,
+              numbers.no_longer max_number sheet was.after_zero 2 was.after_edition was.edition_read,
               numbers_parsed.no_longer,
               length-append (encode_number 0) (encode_number 2 ++ encode_header hall),
               length-append (encode_number 2) (encode_header hall),
@@ -309,9 +309,9 @@ module _ (format : Format) (exact : ExactNumbers format.read_number) where
   unfolding encode_header2
   header2_exact sheet at hall next are e =
       let was = header2_read format sheet at hall next e in
-      stands_join _ _ sheet (exact max_number sheet at 0 was.after_zero are was.zero-read)
-      (stands_join _ _ sheet (exact max_number sheet was.after_zero 2 was.after_edition are was.edition-read)
-      (header_exact format exact sheet was.after_edition hall next are was.hall-read))
+      stands_join _ _ sheet (exact max_number sheet at 0 was.after_zero are was.zero_read)
+      (stands_join _ _ sheet (exact max_number sheet was.after_zero 2 was.after_edition are was.edition_read)
+      (header_exact format exact sheet was.after_edition hall next are was.hall_read))
 
   pub edition2_exact : Exact (edition2 format)
   edition2_exact = record {
@@ -348,7 +348,7 @@ module _ (format : Format) (carried : Carried) (sheet : List ℕ) (at code after
         rest_code format (stands_for short.code) (desk_before carried) sheet short.after_code entry next short.rest
             ∙ ap stands_for (same_read short.code short.after_code short.read),
       ))
-      (λ out. absurd (true≢false (sym is ∙ ap is_shorthand (sym (same_read out.code out.after_code out.read)) ∙ out.is-not)))
+      (λ out. absurd (true≢false (sym is ∙ ap is_shorthand (sym (same_read out.code out.after_code out.read)) ∙ out.is_not)))
       (record2_parsed format carried sheet at entry next e)
 
   -- and no other code is used for it

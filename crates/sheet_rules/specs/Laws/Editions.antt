@@ -66,7 +66,7 @@ module _ (format : Format) where
   first_of_edition_2 sheet meaning e =
       let was = opened_from (edition2 format) sheet meaning.header (whole meaning.records) e in
       let header = header2_read format sheet 0 meaning.header was.next was.read in
-      record { next = header.after_zero; read = header.zero-read }
+      record { next = header.after_zero; read = header.zero_read }
 
   pub not_in_both : (sheet : List ℕ) (meaning other : Meaning) → Accepted (edition1 format) sheet meaning → Accepted (edition2 format) sheet other → ⊥
   not_in_both sheet meaning other one two =
