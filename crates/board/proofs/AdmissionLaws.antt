@@ -7,10 +7,10 @@ use Rattle.rules.specs.Lists.{chunks, every}
 use Rattle.rules.specs.Runs.{answer_request}
 use Rattle.rules.specs.Steps.{Call, Result, in_range}
 use Rattle.rules.specs.Table.{hall_in, header_words, in_limits, need, next_word, record_sound, record_start, record_width, sound, start_for, step_table, width_for}
-use Rattle.rules.specs.Laws.History.StepEffects.{in_range_lem}
-use Rattle.rules.specs.Laws.Table.DecodeStepEncode.{step_encoded}
-use Rattle.rules.specs.Laws.Table.Demand1.{step_stays_sound}
-use Rattle.rules.specs.Laws.Table.TableSteps.{Known, known, number_word, record_within, refused_step, unsound-step}
+use Rattle.rules.proofs.Laws.History.StepEffects.{in_range_lem}
+use Rattle.rules.proofs.Laws.Table.DecodeStepEncode.{step_encoded}
+use Rattle.rules.proofs.Laws.Table.Demand1.{step_stays_sound}
+use Rattle.rules.proofs.Laws.Table.TableSteps.{Known, known, number_word, record_within, refused_step, unsound-step}
 use Rattle.reply.specs.Answer.{table_result}
 use Rattle.board.specs.Admission.{Admits, admission_of, header_of, location_of, numbers_in, soundness_of}
 use Rattle.reply.specs.declared.Reply.TheVariants.{NoDesk as NoDeskReply, OtherMessage as OtherMessageReply, Unsound as NotSoundReply}

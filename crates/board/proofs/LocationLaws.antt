@@ -5,10 +5,10 @@ use Rattle.rules.specs.Bytes.{words_of_bytes}
 use Rattle.rules.specs.Hall.{Hall, Limits, all_screens, desk_of, screen_index}
 use Rattle.rules.specs.Steps.{in_range}
 use Rattle.rules.specs.Table.{decode, decode_desk, hall_in, max_words, position_word, put_record, record_of, record_sound, record_start, screen_word, width_for}
-use Rattle.rules.specs.Laws.Desk.Decoding.{small-drop, small-take}
-use Rattle.rules.specs.Laws.History.ScreenIndex.{screen_in}
-use Rattle.rules.specs.Laws.History.StepEffects.{in_range_lem}
-use Rattle.rules.specs.Laws.Table.TableSteps.{desk_word, held_word, record_sound_lem, shown_word}
+use Rattle.rules.proofs.Laws.Desk.Decoding.{small-drop, small-take}
+use Rattle.rules.proofs.Laws.History.ScreenIndex.{screen_in}
+use Rattle.rules.proofs.Laws.History.StepEffects.{in_range_lem}
+use Rattle.rules.proofs.Laws.Table.TableSteps.{desk_word, held_word, record_sound_lem, shown_word}
 use Rattle.words.specs.Written.{Written}
 use Rattle.words.proofs.Laws.{length-words, part_written, words-part}
 use Rattle.desk.specs.Record.{Encoded}

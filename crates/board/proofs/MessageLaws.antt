@@ -7,9 +7,9 @@ use Rattle.rules.specs.Hall.{Limits}
 use Rattle.rules.specs.Messages.{next_in}
 use Rattle.rules.specs.Steps.{Result, Step, ◌numbered◌, ◌sends◌, accept, advance, decide, first_no, in_range, perform_step, step_questions}
 use Rattle.rules.specs.Table.{decode, hall_in, in_hall, next_word, step_table, table_after_step, within}
-use Rattle.rules.specs.Laws.History.StepEffects.{in_range_lem}
-use Rattle.rules.specs.Laws.Lists.Bools.{and_left}
-use Rattle.rules.specs.Laws.Table.TableSteps.{accepted_step, asked, known_inside, number_word, refused_step}
+use Rattle.rules.proofs.Laws.History.StepEffects.{in_range_lem}
+use Rattle.rules.proofs.Laws.Lists.Bools.{and_left}
+use Rattle.rules.proofs.Laws.Table.TableSteps.{accepted_step, asked, known_inside, number_word, refused_step}
 use Rattle.words.proofs.Laws.{length-words, written_then}
 use Rattle.reply.specs.Answer.{answer_of, table_result}
 use Rattle.reply.specs.declared.Reply.{Reply}

@@ -7,10 +7,10 @@ use Rattle.rules.specs.Bytes.{words_of_bytes}
 use Rattle.rules.specs.Hall.{Hall, Limits, max_desks, max_positions, max_screens}
 use Rattle.rules.specs.Steps.{Answer, first_no, in_range}
 use Rattle.rules.specs.Table.{header_words, need, open_questions, open_table, within}
-use Rattle.rules.specs.Laws.Bytes.Bytes.{zero_words}
-use Rattle.rules.specs.Laws.Table.EncodedStep.{hall-opens}
-use Rattle.rules.specs.Laws.Table.TableSteps.{accepted_open, refused_open}
-use Rattle.rules.specs.Laws.Table.WordBounds.{by_open}
+use Rattle.rules.proofs.Laws.Bytes.Bytes.{zero_words}
+use Rattle.rules.proofs.Laws.Table.EncodedStep.{hall-opens}
+use Rattle.rules.proofs.Laws.Table.TableSteps.{accepted_open, refused_open}
+use Rattle.rules.proofs.Laws.Table.WordBounds.{by_open}
 use Rattle.words.specs.Written.{Written}
 use Rattle.words.proofs.Laws.{part_written}
 use Rattle.reply.specs.Answer.{answer_of, table_result}

@@ -8,8 +8,8 @@ use Rattle.rules.specs.Hall.{Desk, Hall, Limits, all_screens, desk_of}
 use Rattle.rules.specs.Steps.{Collect, Collected, Drop, Retire, Step, Swap, Take, accept, collect, collect_seeing, decide, first_no, in_range, is_repeat, next_screens}
 use Rattle.rules.specs.Steps.{perform_step, refuse, retire, retire_questions, step_questions}
 use Rattle.rules.specs.Table.{decode, decode_desk, encode_desk, hall_in, header_words, owed_offset, position_word, put_record, record_of, record_start, scanned_offset, table_after_step}
-use Rattle.rules.specs.Laws.Table.EncodedStep.{some_screens}
-use Rattle.rules.specs.Laws.Table.TableSteps.{collect-seeing, owed_word, shown_at}
+use Rattle.rules.proofs.Laws.Table.EncodedStep.{some_screens}
+use Rattle.rules.proofs.Laws.Table.TableSteps.{collect-seeing, owed_word, shown_at}
 use Rattle.desk.specs.Record.{Retired}
 use Rattle.reply.specs.Answer.{answer_of, table_result}
 use Rattle.reply.specs.declared.Reply.{Reply}

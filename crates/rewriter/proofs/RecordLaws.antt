@@ -11,12 +11,12 @@ use borrow.Author.Tests.{leb-false, leb-true}
 use Rattle.buffer.specs.Put.{Put}
 use Rattle.buffer.specs.Laws.Put.{put_none, put_on}
 use Rattle.rules.specs.Numbers.{Refusal, parsed, refused}
-use Rattle.rules.specs.Laws.History.StepEffects.{in_range_lem}
+use Rattle.rules.proofs.Laws.History.StepEffects.{in_range_lem}
 use Rattle.sheet_rules.specs.Lawful.{Lawful}
 use Rattle.sheet_rules.specs.Offsets.{ending_in}
 use Rattle.sheet_rules.specs.Rewriting.{entries_in}
 use Rattle.sheet_rules.specs.Sheet.{Carried, Edition, Record, Records, carried_after, complete, decode_records, encode_records, max_bytes, more, no_desk}
-use Rattle.sheet_rules.specs.Laws.Sheet.{records_end, records_more, records_stop}
+use Rattle.sheet_rules.proofs.Laws.Sheet.{records_end, records_more, records_stop}
 use Rattle.rewriter.specs.Build.{PutRecords, PutUnlessLong, records_from, written_for}
 
 module _ (from to : Edition) (sheet : List ℕ) where

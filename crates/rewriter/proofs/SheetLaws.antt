@@ -16,7 +16,7 @@ use Rattle.rules.specs.Table.{max_words}
 use Rattle.sheet_rules.specs.Offsets.{ending_in}
 use Rattle.sheet_rules.specs.Rewriting.{meaning_of, refused_sheet_line, rewrite, unless_too_long, write_reading, write_unless}
 use Rattle.sheet_rules.specs.Sheet.{Edition, Records, begin_sheet, encode_sheet, if_opens, lent_table, max_bytes, open_sheet, opened, opening_number}
-use Rattle.sheet_rules.specs.Laws.Sheet.{begun, opening_answer, reading-opens}
+use Rattle.sheet_rules.proofs.Laws.Sheet.{begun, opening_answer, reading-opens}
 use Rattle.rewriter.specs.Build.{PutRecords, records_from, written_for}
 
 -- ---- The opening.

@@ -3,7 +3,7 @@ use Rattle.std.specs.Prelude.{ℕ, ◌≤◌, ◌≡◌, List, ◌++◌, length,
 use Rattle.std.proofs.Common.{arith, ◌∙◌, le-leb}
 use Rattle.sheet_rules.specs.Rewriting.{rewrite}
 use Rattle.sheet_rules.specs.Sheet.{Edition}
-use Rattle.sheet_rules.specs.SheetTheorems.{rewritten_always_fits}
+use Rattle.sheet_rules.proofs.SheetTheorems.{rewritten_always_fits}
 use Rattle.rewriter.specs.Output.{no_room, put, write_whole}
 use Rattle.rewriter.specs.Laws.Output.{put_bytes, put_count, put_rest, put_within}
 

@@ -12,8 +12,8 @@ use Rattle.rules.specs.Hall.{Hall, Limits, all_screens, hall_of, max_all_screens
 use Rattle.rules.specs.Lists.{chunks, every}
 use Rattle.rules.specs.Steps.{Call, in_range}
 use Rattle.rules.specs.Table.{hall_in, header_words, in_limits}
-use Rattle.rules.specs.Laws.History.StepEffects.{in_range_lem}
-use Rattle.rules.specs.Laws.Table.EncodedStep.{Fits, limits_fit}
+use Rattle.rules.proofs.Laws.History.StepEffects.{in_range_lem}
+use Rattle.rules.proofs.Laws.Table.EncodedStep.{Fits, limits_fit}
 use Rattle.reply.specs.Answer.{table_result}
 use Rattle.reply.specs.declared.Reply.TheVariants.{NoDesk as NoDeskReply, OtherMessage as OtherMessageReply, Unsound as NotSoundReply}
 use Rattle.board.specs.Admission.{numbers_in}
@@ -21,9 +21,9 @@ use Rattle.board.specs.declared.Hall.{Hall as Numbers}
 use Rattle.board.specs.declared.Soundness.{Soundness}
 use Rattle.board.specs.declared.Soundness.TheVariants.{Sound, Unsound}
 use Rattle.ring_rules.specs.Ring.{ring_need, ring_next_word, ring_record_sound, ring_sound, ring_start, ring_start_for, ring_width_for, step_ring}
-use Rattle.ring_rules.specs.Laws.RingReads.{ring_number_word}
-use Rattle.ring_rules.specs.Laws.RingSteps.{RingKnown, refused_ring, ring_known, unsound-ring}
-use Rattle.ring_rules.specs.Laws.RingTables.{record_within}
+use Rattle.ring_rules.proofs.Laws.RingReads.{ring_number_word}
+use Rattle.ring_rules.proofs.Laws.RingSteps.{RingKnown, refused_ring, ring_known, unsound-ring}
+use Rattle.ring_rules.proofs.Laws.RingTables.{record_within}
 use Rattle.ring.specs.RingAdmission.{Admits, admission_of, location_of, soundness_of}
 use Rattle.ring.specs.declared.Location.{Location}
 use Rattle.ring.specs.declared.Admission.{Admission}

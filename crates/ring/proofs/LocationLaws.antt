@@ -10,15 +10,15 @@ use Rattle.rules.specs.Bytes.{words_of_bytes}
 use Rattle.rules.specs.Hall.{Hall, Limits, all_screens, desk_of, screen_index}
 use Rattle.rules.specs.Steps.{in_range}
 use Rattle.rules.specs.Table.{hall_in, max_words, position_word, screen_word}
-use Rattle.rules.specs.Laws.Desk.Decoding.{small-drop, small-take}
-use Rattle.rules.specs.Laws.History.ScreenIndex.{screen_in}
-use Rattle.rules.specs.Laws.History.StepEffects.{in_range_lem}
+use Rattle.rules.proofs.Laws.Desk.Decoding.{small-drop, small-take}
+use Rattle.rules.proofs.Laws.History.ScreenIndex.{screen_in}
+use Rattle.rules.proofs.Laws.History.StepEffects.{in_range_lem}
 use Rattle.words.specs.Written.{Written}
 use Rattle.words.proofs.Laws.{length-words, part_written, words-part}
 use Rattle.board.specs.Admission.{screen_for}
 use Rattle.ring_rules.specs.Ring.{decode_ring, put_ring, ring_record_of, ring_record_sound, ring_start, ring_state, ring_width_for}
-use Rattle.ring_rules.specs.Laws.RingReads.{ring_held_word, ring_shown_word}
-use Rattle.ring_rules.specs.Laws.RingSteps.{desk_is, record_good}
+use Rattle.ring_rules.proofs.Laws.RingReads.{ring_held_word, ring_shown_word}
+use Rattle.ring_rules.proofs.Laws.RingSteps.{desk_is, record_good}
 use Rattle.ring_desk.specs.RingRecord.{RingEncoded}
 use Rattle.ring_desk.proofs.RingFound.{sound_ring_encoded}
 use Rattle.ring.specs.declared.Location.{Location}

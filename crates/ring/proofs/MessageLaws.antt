@@ -15,8 +15,8 @@ use Rattle.reply.specs.Answer.{table_result}
 use Rattle.reply.specs.declared.Reply.{Reply}
 use Rattle.board.specs.Results.{Matches, moved_on}
 use Rattle.ring_rules.specs.Ring.{ring_after_step, ring_next_word, ring_state, step_ring}
-use Rattle.ring_rules.specs.Laws.RingReads.{ring_number_word}
-use Rattle.ring_rules.specs.Laws.RingSteps.{accepted_ring, refused_ring, ring_asked}
+use Rattle.ring_rules.proofs.Laws.RingReads.{ring_number_word}
+use Rattle.ring_rules.proofs.Laws.RingSteps.{accepted_ring, refused_ring, ring_asked}
 use Rattle.ring.specs.RingResults.{Performed, Stepped, admitted_step}
 use Rattle.ring.specs.declared.Location.{Location}
 use Rattle.ring.proofs.AdmissionLaws.{AdmitsCall, admitted}

@@ -9,7 +9,7 @@ use Rattle.rules.specs.Bytes.{words_of_bytes}
 use Rattle.rules.specs.Hall.{Hall, Limits}
 use Rattle.rules.specs.Steps.{Answer, decide, first_no}
 use Rattle.rules.specs.Table.{header_words}
-use Rattle.rules.specs.Laws.Bytes.Bytes.{zero_words}
+use Rattle.rules.proofs.Laws.Bytes.Bytes.{zero_words}
 use Rattle.words.specs.Written.{Written}
 use Rattle.words.proofs.Laws.{part_written}
 use Rattle.reply.specs.Answer.{answer_of, table_result}
@@ -17,8 +17,8 @@ use Rattle.reply.specs.declared.Reply.{Reply}
 use Rattle.reply.specs.declared.Reply.TheVariants.{Accepted}
 use Rattle.board.specs.Opening.{OpeningAnswer}
 use Rattle.ring_rules.specs.Ring.{open_ring, opened_ring, ring_need, ring_questions}
-use Rattle.ring_rules.specs.Laws.RingHistories.{opening_answers_alike}
-use Rattle.ring_rules.specs.Laws.RingOpening.{by_opening, ring_fits}
+use Rattle.ring_rules.proofs.Laws.RingHistories.{opening_answers_alike}
+use Rattle.ring_rules.proofs.Laws.RingOpening.{by_opening, ring_fits}
 
 -- the first board's questions, of a table with one word fewer for each desk
 pub ring_answer : (limits : Limits) (H : Hall) (t : List ℕ) (words : ℕ) (answer : Answer) → words ≡ length t - H.desks → OpeningAnswer limits H words answer

@@ -20,9 +20,9 @@ use Rattle.reply.specs.declared.Reply.TheVariants.{Accepted, NoPosition, NoScree
 use Rattle.words.proofs.Scan.{ended, rest}
 use Rattle.desk.proofs.DeskTie.{scanned_word}
 use Rattle.ring_rules.specs.Ring.{collect_ring, decode_ring, linear, put_ring, retire_ring, ring_after_step, ring_record_of, ring_start, ring_state}
-use Rattle.ring_rules.specs.Laws.Records.{linear-head}
-use Rattle.ring_rules.specs.Laws.RingReads.{ring_owed_word, ring_shown_at}
-use Rattle.ring_rules.specs.Laws.RingSteps.{held}
+use Rattle.ring_rules.proofs.Laws.Records.{linear-head}
+use Rattle.ring_rules.proofs.Laws.RingReads.{ring_owed_word, ring_shown_at}
+use Rattle.ring_rules.proofs.Laws.RingSteps.{held}
 use Rattle.ring_desk.specs.RingRecord.{RingRetired, collect_ring_seeing}
 use Rattle.ring_desk.proofs.RingFound.{next_screens_same, ring-scanned-below}
 use Rattle.ring.specs.RingResults.{admitted_step}

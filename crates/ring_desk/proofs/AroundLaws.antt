@@ -14,7 +14,7 @@ use Rattle.words.proofs.Laws.{length-words, words-part, words_put, words_take}
 use Rattle.marks.specs.Marks.{pick}
 use Rattle.ring_rules.specs.Ring.{rotate, slot_after}
 use Rattle.ring_desk.specs.Around.{Parted}
-use Rattle.ring_rules.specs.Laws.Rotations.{rotate-back, rotate-length, slot_get, slot_set}
+use Rattle.ring_rules.proofs.Laws.Rotations.{rotate-back, rotate-length, slot_get, slot_set}
 
 -- a test of all elements of a list in two parts
 pub every_append : (f : ℕ → Bool) (xs ys : List ℕ) → every f (xs ++ ys) ≡ every f xs && every f ys

@@ -14,7 +14,7 @@ use Rattle.desk.proofs.WordDesk.{mark_words_in, word_desk}
 use Rattle.desk.proofs.DeskLaws.{Found, facts, found, see_none, see_stores, start_none, start_stores, words_of}
 use Rattle.desk.proofs.DeskTie.{DeskCounts, again, begun_encoded, desk_counts, finds, formed_of, read_encoded}
 use Rattle.ring_rules.specs.Ring.{beginning_in, circular, decode_ring, encode_ring, linear, retire_ring, rotate, slot_after}
-use Rattle.ring_rules.specs.Laws.Records.{circular_beginning, circular-length, linear-circular}
+use Rattle.ring_rules.proofs.Laws.Records.{circular_beginning, circular-length, linear-circular}
 use Rattle.ring_desk.specs.RingRecord.{RingEncoded, with_desk}
 use Rattle.ring_desk.proofs.RingReads.{Reads, head_word, reads_end, reads_head, reads_slot, reads_start, used_same}
 use Rattle.ring_desk.proofs.RingParts.{marks_same, reads_marks, tested_around}

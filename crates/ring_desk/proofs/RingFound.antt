@@ -11,10 +11,10 @@ use borrow.Author.Tests.{ltb-true}
 use Rattle.rules.specs.Hall.{max_all_screens}
 use Rattle.rules.specs.Steps.{begin, collect, collect_seeing, next_screens}
 use Rattle.rules.specs.Table.{record_sound}
-use Rattle.rules.specs.Laws.Lists.Bools.{and_left, and_right}
+use Rattle.rules.proofs.Laws.Lists.Bools.{and_left, and_right}
 use Rattle.desk.proofs.DeskTie.{begin-scanned, scanned-below, scanned_word, sound_encoded}
 use Rattle.ring_rules.specs.Ring.{beginning_in, collect_ring, decode_ring, linear, ring_record_sound, ring_width_for}
-use Rattle.ring_rules.specs.Laws.Records.{linear-length}
+use Rattle.ring_rules.proofs.Laws.Records.{linear-length}
 use Rattle.ring_desk.specs.RingRecord.{RingEncoded, collect_ring_seeing}
 use Rattle.ring_desk.proofs.RingParts.{linear-small}
 

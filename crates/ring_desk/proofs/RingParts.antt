@@ -8,15 +8,15 @@ use lib.Seq.{drop-append-le, drop_at, drop-drop, length-take-le, take-add, take-
 use borrow.Rule.Slice.PartMut.{mid_of, put_mid}
 use Rattle.rules.specs.Bytes.{words_of_bytes}
 use Rattle.rules.specs.Table.{list_offset, mark_words, marks_offset, slots_in, tail_in, tail_words, width_for}
-use Rattle.rules.specs.Laws.Desk.Decoding.{small-drop, small-take}
-use Rattle.rules.specs.Laws.Lists.ListSlices.{put_mid_lem}
-use Rattle.rules.specs.Laws.Table.WordBounds.{below-append}
+use Rattle.rules.proofs.Laws.Desk.Decoding.{small-drop, small-take}
+use Rattle.rules.proofs.Laws.Lists.ListSlices.{put_mid_lem}
+use Rattle.rules.proofs.Laws.Table.WordBounds.{below-append}
 use Rattle.words.proofs.Laws.{words-part}
 use Rattle.desk.proofs.WordDesk.{mark_words_in}
 use Rattle.desk.proofs.DeskLaws.{tested_in}
 use Rattle.ring_rules.specs.Ring.{beginning_in, linear, rotate, slot_after}
-use Rattle.ring_rules.specs.Laws.Rotations.{slot_rotate}
-use Rattle.ring_rules.specs.Laws.Records.{slots_length}
+use Rattle.ring_rules.proofs.Laws.Rotations.{slot_rotate}
+use Rattle.ring_rules.proofs.Laws.Records.{slots_length}
 use Rattle.ring_desk.proofs.RingReads.{Reads, head-long, head_same, in_parts, reads_as, reads_in_parts, reads_parts, rotated_long, slots-long, slots_rotated, tail_long, tail_same}
 
 -- ---- the list, as the code lends it

@@ -10,11 +10,11 @@ use lib.ListN.{length, get_or, take, drop, set, length-append, length-set}
 use lib.Seq.{drop_at, drop-drop, get_or-drop, get_or-set_other, get_or-take, set_at, take_at}
 use borrow.Author.Tests.{ltb-true, ltb-false, lt-ltb}
 use Rattle.rules.specs.Table.{list_offset, slots_in, tail_in, tail_words, used_in, width_for}
-use Rattle.rules.specs.Laws.Lists.ListSlices.{set_append_add, set_mid}
+use Rattle.rules.proofs.Laws.Lists.ListSlices.{set_append_add, set_mid}
 use Rattle.ring_rules.specs.Ring.{beginning_in, circular, linear, ring_width_for, rotate, slot_after}
-use Rattle.ring_rules.specs.Laws.Rotations.{rotate-length, slot_get, slot_next, slot_set}
-use Rattle.ring_rules.specs.Laws.Records.{beginning_of, circular_beginning, circular-length, circular-linear, head-length, linear-circular, linear_of, linear-set, parts_of_lem}
-use Rattle.ring_rules.specs.Laws.Records.{slots_length, tail_length}
+use Rattle.ring_rules.proofs.Laws.Rotations.{rotate-length, slot_get, slot_next, slot_set}
+use Rattle.ring_rules.proofs.Laws.Records.{beginning_of, circular_beginning, circular-length, circular-linear, head-length, linear-circular, linear_of, linear-set, parts_of_lem}
+use Rattle.ring_rules.proofs.Laws.Records.{slots_length, tail_length}
 
 -- ---- the slot that comes i places after slot b is one of the 2s
 pub slot_below : (s b i : ℕ) → b < 2 * s → i ≤ 2 * s → slot_after s b i < 2 * s

@@ -9,8 +9,8 @@ use borrow.Rule.Slice.PartMut.{put_mid}
 use Rattle.rules.specs.Hall.{Desk, unmarked, used_slots}
 use Rattle.rules.specs.Steps.{hand_back, marked_of, settle_if, unmarked_of}
 use Rattle.rules.specs.Table.{all_marks, encode_desk, encode_tail, list_of, list_offset, mark_words, marks_offset, sessions_of, slots_for, slots_in, tail_in, width_for, words_of_bits}
-use Rattle.rules.specs.Laws.Desk.Encoding.{length_sessions}
-use Rattle.rules.specs.Laws.Desk.Marks.{unmarked_and_marked}
+use Rattle.rules.proofs.Laws.Desk.Encoding.{length_sessions}
+use Rattle.rules.proofs.Laws.Desk.Marks.{unmarked_and_marked}
 use Rattle.marks.specs.Marks.{marks, ones_in, pick}
 use Rattle.desk.specs.Record.{parted}
 use Rattle.desk.proofs.MarkTie.{mark_bits}
@@ -18,7 +18,7 @@ use Rattle.desk.proofs.WordDesk.{mark_words_in, word_desk}
 use Rattle.desk.proofs.DeskLaws.{Counted, counted, first_ready, hand_none, none_ready, part_stores, tested_part, tested_in}
 use Rattle.desk.proofs.DeskTie.{again, first-handed, formed_of, handed_encoded, marked_is, parted_encoded, parted_none, settled-counts}
 use Rattle.ring_rules.specs.Ring.{beginning_after, beginning_in, circular, decode_ring, encode_ring, linear, rotate, slot_after}
-use Rattle.ring_rules.specs.Laws.Rotations.{slot_rotate, rotate-length}
+use Rattle.ring_rules.proofs.Laws.Rotations.{slot_rotate, rotate-length}
 use Rattle.ring_desk.specs.RingRecord.{RingEncoded, hand_back_ring, with_desk}
 use Rattle.ring_desk.specs.Around.{Parted}
 use Rattle.ring_desk.proofs.AroundLaws.{put_rotated}

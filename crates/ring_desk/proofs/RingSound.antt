@@ -7,7 +7,7 @@ use mathlib.Core.Path.{◌≡◌, refl, sym, ap, ◌∙◌}
 use lib.Dec.{leb, ltb}
 use lib.ListN.{length, get_or, take, drop}
 use Rattle.rules.specs.Table.{mark_words, marks_offset, record_sound, scan_sound, slots_in, used_in}
-use Rattle.rules.specs.Laws.Desk.Decoding.{small-drop, small-take}
+use Rattle.rules.proofs.Laws.Desk.Decoding.{small-drop, small-take}
 use Rattle.marks.specs.Marks.{marks, ones_in}
 use Rattle.words.specs.Words.{all_zero, lacks}
 use Rattle.desk.proofs.MarkTie.{clear_is, count_is}

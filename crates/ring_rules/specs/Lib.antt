@@ -1,8 +1,3 @@
 -- The definitions of the board whose list is a ring, and what is proved of them.
 pub mod Ring
 pub mod RingDemands
-pub mod RingTheorems
-pub mod RingCases
-pub mod RingInstances
-pub mod RingExamples
-pub mod Laws

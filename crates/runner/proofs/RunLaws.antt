@@ -15,7 +15,7 @@ use Rattle.rules.specs.Lists.{chunks}
 use Rattle.rules.specs.Runs.{after_all, answer_request, answers_to, lent_after, lent_of, reply_width, reply_words, request_for, request_in, requests_in, run_bytes}
 use Rattle.rules.specs.Runs.{step_width}
 use Rattle.rules.specs.Steps.{Call, Result}
-use Rattle.rules.specs.Laws.Bytes.Bytes.{overwrite_back, overwrite_front, words_are_16}
+use Rattle.rules.proofs.Laws.Bytes.Bytes.{overwrite_back, overwrite_front, words_are_16}
 use Rattle.reply.specs.Answer.{answer_of, table_result}
 use Rattle.reply.specs.declared.Reply.{Reply}
 use Rattle.reply.specs.declared.Reply.TheVariants.{Accepted, TableShort, Unsound as UnsoundReply}

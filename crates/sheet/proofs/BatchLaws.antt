@@ -18,8 +18,8 @@ use Rattle.sheet_rules.specs.Lines.{answer_line, end_line, line, lines_from, ref
 use Rattle.sheet_rules.specs.Run.{calls_in, run_record}
 use Rattle.sheet_rules.specs.Sheet.{Edition, Record, Records, complete, more, stop}
 use Rattle.sheet_rules.specs.Tally.{add_step}
-use Rattle.sheet_rules.specs.Laws.Run.{Asks, record_asks}
-use Rattle.sheet_rules.specs.Laws.Sheet.{records_end, records_more, records_stop}
+use Rattle.sheet_rules.proofs.Laws.Run.{Asks, record_asks}
+use Rattle.sheet_rules.proofs.Laws.Sheet.{records_end, records_more, records_stop}
 use Rattle.tally.specs.Counts.{to_tally}
 use Rattle.sheet.specs.Batch.{Batch, PartialBatch, Progress, batches_left, finished_at, record_room, remaining_calls, remaining_output, remaining_records}
 use Rattle.sheet.specs.Laws.Batches.{emitted_append, emitted_none}

@@ -12,9 +12,9 @@ use Rattle.rules.specs.Messages.{next_in, send}
 use Rattle.rules.specs.Runs.{answer_request, request_for}
 use Rattle.rules.specs.Steps.{Call, Collect, Drop, Result, Retire, Swap, Take, ◌numbered◌, ◌sends◌}
 use Rattle.rules.specs.Table.{step_table}
-use Rattle.rules.specs.Laws.Bytes.Bytes.{words_are_16}
-use Rattle.rules.specs.Laws.Lists.Bools.{and-true}
-use Rattle.rules.specs.Laws.Table.TableSteps.{unsound-step}
+use Rattle.rules.proofs.Laws.Bytes.Bytes.{words_are_16}
+use Rattle.rules.proofs.Laws.Lists.Bools.{and-true}
+use Rattle.rules.proofs.Laws.Table.TableSteps.{unsound-step}
 use Rattle.reply.specs.declared.Reply.{Reply}
 use Rattle.reply.specs.declared.Reply.TheVariants.{NoCode, Unsound as UnsoundReply}
 use Rattle.board.specs.Admission.{soundness_of}
@@ -26,7 +26,7 @@ use Rattle.board.proofs.RequestLaws.{none_above, none_below}
 use Rattle.board.proofs.ResultLaws.{matches_unchanged}
 use Rattle.sheet_rules.specs.Run.{call_of, run_record}
 use Rattle.sheet_rules.specs.Sheet.{Record}
-use Rattle.sheet_rules.specs.Laws.Run.{record_asks}
+use Rattle.sheet_rules.proofs.Laws.Run.{record_asks}
 use Rattle.sheet.specs.Run.{Ran}
 
 -- ---- A sound table: the request with the desk's next message number is what the record asks for.

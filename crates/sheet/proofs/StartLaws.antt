@@ -18,7 +18,7 @@ use Rattle.sheet_rules.specs.Lawful.{Lawful}
 use Rattle.sheet_rules.specs.Lines.{answer_line, end_line, line, lines_from, lines_of, printed, refusal_line}
 use Rattle.sheet_rules.specs.Sheet.{Edition, after_opening, begin_sheet, if_opens, lent_table, opened, opening_number, reading, unopened}
 use Rattle.sheet_rules.specs.Tally.{zeros}
-use Rattle.sheet_rules.specs.Laws.Sheet.{begun, begun_header, opening_answer, reading-opens}
+use Rattle.sheet_rules.proofs.Laws.Sheet.{begun, begun_header, opening_answer, reading-opens}
 use Rattle.sheet.specs.Batch.{Started, calls_of, finished_at, remaining_records, start_table}
 use Rattle.reader.specs.declared.Carried.TheVariants.{NoDesk}
 use Rattle.reply.specs.declared.Reply.{Reply}

@@ -8,15 +8,3 @@ pub mod Tally
 pub mod Lines
 pub mod Rewriting
 pub mod OtherEdition
-pub mod SheetTheorems
-pub mod SheetCases
-pub mod ReadingCases
-pub mod OffsetCases
-pub mod RewritingCases
-pub mod Edition2Cases
-pub mod TrainingCases
-pub mod RunCases
-pub mod SheetInstances
-pub mod SheetExamples
-pub mod Edition2Examples
-pub mod Laws

@@ -8,7 +8,7 @@ use lib.ListN.{length, get_or, set, take, drop}
 use lib.Seq.{length-take-le, drop-drop}
 use borrow.Rule.Slice.PartMut.{drop_put, mid_of, put_mid}
 use Rattle.rules.specs.Bytes.{IsBytes, bytes_of_words, overwrite_words, words_of_bytes}
-use Rattle.rules.specs.Laws.Bytes.Bytes.{overwrite_back, words-length}
+use Rattle.rules.proofs.Laws.Bytes.Bytes.{overwrite_back, words-length}
 use Rattle.words.specs.Written.{Written}
 
 -- a table has half as many words as bytes

@@ -3,8 +3,8 @@ use Rattle.std.proofs.Common.{◌≡◌, ℕ, ◌+◌, ◌-◌, true, List, get_
 use Rattle.rules.specs.Bytes.{words_of_bytes}
 use Rattle.rules.specs.Steps.{in_range}
 use Rattle.rules.specs.Table.{hall_in, next_word, start_for, tail_offset}
-use Rattle.rules.specs.Laws.History.StepEffects.{in_range_lem}
-use Rattle.rules.specs.Laws.Table.TableSteps.{Known, known, record_within}
+use Rattle.rules.proofs.Laws.History.StepEffects.{in_range_lem}
+use Rattle.rules.proofs.Laws.Table.TableSteps.{Known, known, record_within}
 use Rattle.limits.specs.Room.{limits_of}
 use Rattle.words.proofs.Laws.{length-words}
 use Rattle.board.specs.Admission.{admission_of}

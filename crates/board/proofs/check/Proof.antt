@@ -2,7 +2,7 @@
 use Rattle.std.proofs.Common.{sym, ap, ◌∙◌, mul-le-mul, arith, rules}
 use Rattle.rules.specs.Bytes.{words_of_bytes}
 use Rattle.rules.specs.Table.{hall_in, start_for}
-use Rattle.rules.specs.Laws.Table.EncodedStep.{limits_fit}
+use Rattle.rules.proofs.Laws.Table.EncodedStep.{limits_fit}
 use Rattle.limits.specs.Room.{limits_of}
 use Rattle.words.proofs.Laws.{length-words}
 use Rattle.board.specs.declared.Hall.{Hall}

@@ -4,7 +4,7 @@ use borrow.Rule.Slice.PartMut.{mid_of}
 use Rattle.rules.specs.Bytes.{words_of_bytes}
 use Rattle.rules.specs.Steps.{Collect, collect_seeing, next_screens}
 use Rattle.rules.specs.Table.{decode, decode_desk, encode_desk, hall_in}
-use Rattle.rules.specs.Laws.Bytes.Bytes.{words_are_16}
+use Rattle.rules.proofs.Laws.Bytes.Bytes.{words_are_16}
 use Rattle.limits.specs.Room.{limits_of}
 use Rattle.words.proofs.Laws.{length-words}
 use Rattle.reply.specs.Answer.{table_result}

@@ -3,7 +3,7 @@ use Rattle.std.proofs.Common.{◌≤◌, length, mul-le-mul, arith, rules}
 use Rattle.rules.specs.Bytes.{words_of_bytes}
 use Rattle.rules.specs.Hall.{hall_of}
 use Rattle.rules.specs.Table.{need}
-use Rattle.rules.specs.Laws.Table.EncodedStep.{limits_fit}
+use Rattle.rules.proofs.Laws.Table.EncodedStep.{limits_fit}
 use Rattle.limits.specs.Room.{limits_of}
 use Rattle.words.proofs.Laws.{length-words}
 use Rattle.board.proofs.SoundLaws.{header_names, header_short, limits_broken, said_no, said_yes, table_too_short}

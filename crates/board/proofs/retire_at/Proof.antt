@@ -1,7 +1,7 @@
 -- `board::retire_at` meets its contract.
 use Rattle.std.proofs.Common.{sym, subst, arith, rules}
 use Rattle.rules.specs.Bytes.{words_of_bytes}
-use Rattle.rules.specs.Laws.Bytes.Bytes.{words_are_16}
+use Rattle.rules.proofs.Laws.Bytes.Bytes.{words_are_16}
 use Rattle.words.proofs.Laws.{length-words}
 use Rattle.reply.specs.Answer.{answer_of}
 use Rattle.desk.specs.Record.{Encoded, Retired}

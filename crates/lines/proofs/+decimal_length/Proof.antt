@@ -5,7 +5,7 @@ use mathlib.Core.Path.{sym, ap}
 use lib.ListN.{length, length-append}
 use borrow.Fn.Kinds.{In}
 use borrow.Fn.PlainCycle.{Measures, is, falls, and}
-use Rattle.sheet_rules.specs.Laws.Longest.{decimal-length as at-most-20}
+use Rattle.sheet_rules.proofs.Laws.Longest.{decimal-length as at-most-20}
 use Rattle.lines.proofs.DigitLaws.{decimal_more, decimal_one}
 use Rattle.lines.proofs.decimal_length.Reads as decimal-length
 use Rattle.lines.proofs.decimal_length.Kinds as decimal-length-kinds

@@ -3,7 +3,7 @@ use native.Mathlib.Omega.{arith}
 use lib.ListN.{length-append}
 use borrow.Author.Rules.{rules}
 use Rattle.sheet_rules.specs.Rewriting.{refused_sheet_line}
-use Rattle.sheet_rules.specs.Laws.Longest.{decimal-length}
+use Rattle.sheet_rules.proofs.Laws.Longest.{decimal-length}
 use Rattle.lines.proofs.refused_sheet_length.Statement.{statement}
 use Rattle.lines.proofs.refused_sheet_length.Tie as tie
 

@@ -4,7 +4,7 @@ use mathlib.Core.List.{List, ◌++◌}
 use mathlib.Core.Path.{ap₂, sym, ◌∙◌}
 use borrow.Author.Rules.{rules}
 use Rattle.rules.specs.Bytes.{words_of_bytes}
-use Rattle.rules.specs.Laws.Bytes.Bytes.{words_are_16}
+use Rattle.rules.proofs.Laws.Bytes.Bytes.{words_are_16}
 use Rattle.words.proofs.Laws.{length-words}
 use Rattle.marks.specs.Marks.{digits}
 use Rattle.marks.proofs.WordLaws.{two_numbers_lem}

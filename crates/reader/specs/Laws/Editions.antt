@@ -4,7 +4,7 @@ use Rattle.limits.specs.Room.{limits_of}
 use Rattle.sheet_rules.specs.Edition1.{Format}
 use Rattle.sheet_rules.specs.Edition2.{Version, edition_for, version1, version2}
 use Rattle.sheet_rules.specs.Lawful.{Lawful}
-use Rattle.sheet_rules.specs.SheetTheorems.{editions_lawful, numbers_are_lawful}
+use Rattle.sheet_rules.proofs.SheetTheorems.{editions_lawful, numbers_are_lawful}
 use Rattle.reader.specs.Results.{edition_of, format_of, padding_of, version_of}
 use Rattle.reader.specs.declared.Edition.{Edition}
 

@@ -1,7 +1,7 @@
 -- `reply::pack` meets its contract.
 use mathlib.Core.Path.{refl}
 use borrow.Author.Rules.{rules}
-use Rattle.rules.specs.Laws.Bytes.Bytes.{unpack-pack}
+use Rattle.rules.proofs.Laws.Bytes.Bytes.{unpack-pack}
 use Rattle.reply.specs.Answer.{answer_with}
 use Rattle.reply.proofs.pack.Statement.{statement}
 use Rattle.reply.proofs.pack.Tie as tie

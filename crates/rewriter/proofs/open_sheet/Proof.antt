@@ -7,7 +7,7 @@ use Rattle.limits.specs.Room.{limits_of}
 use Rattle.reader.specs.Results.{edition_of, header_of, header_result}
 use Rattle.reader.specs.Laws.Editions.{edition_limits}
 use Rattle.sheet_rules.specs.Sheet.{begin_sheet, opening_number}
-use Rattle.sheet_rules.specs.Laws.Sheet.{not-begun}
+use Rattle.sheet_rules.proofs.Laws.Sheet.{not-begun}
 use Rattle.rewriter.proofs.SheetLaws.{opening_number_lem, sheet_opens, sheet_refused}
 use Rattle.rewriter.proofs.open_sheet.Statement.{statement}
 use Rattle.rewriter.proofs.open_sheet.Tie as tie

@@ -3,7 +3,7 @@ use native.Mathlib.Omega.{arith}
 use mathlib.Core.Path.{refl}
 use borrow.Author.Rules.{rules}
 use Rattle.reader.specs.Results.{carried_of, format_of, record_of, version_of}
-use Rattle.sheet_rules.specs.Laws.Longest.{record_at_most_15}
+use Rattle.sheet_rules.proofs.Laws.Longest.{record_at_most_15}
 use Rattle.rewriter.proofs.put_unless_long.Statement.{statement}
 use Rattle.rewriter.proofs.put_unless_long.Tie as tie
 

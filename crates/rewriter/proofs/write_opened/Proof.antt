@@ -7,7 +7,7 @@ use Rattle.rules.specs.Numbers.{Refusal}
 use Rattle.reader.specs.Results.{edition_of, format_of, header_of, version_of}
 use Rattle.sheet_rules.specs.Rewriting.{refused_sheet_line}
 use Rattle.sheet_rules.specs.Sheet.{Edition, Records}
-use Rattle.sheet_rules.specs.Laws.Longest.{header_at_most_15}
+use Rattle.sheet_rules.proofs.Laws.Longest.{header_at_most_15}
 use Rattle.rewriter.specs.Build.{BuiltOf, PutRecords, records_from}
 use Rattle.rewriter.specs.Output.{write_whole}
 use Rattle.rewriter.specs.declared.Built.{Built}

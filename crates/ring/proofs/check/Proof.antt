@@ -9,7 +9,7 @@ use borrow.Author.Rules.{rules}
 use Rattle.rules.specs.Bytes.{words_of_bytes}
 use Rattle.rules.specs.Hall.{Hall, hall_of}
 use Rattle.rules.specs.Table.{in_limits}
-use Rattle.rules.specs.Laws.Table.EncodedStep.{Fits, limits_fit}
+use Rattle.rules.proofs.Laws.Table.EncodedStep.{Fits, limits_fit}
 use Rattle.limits.specs.Room.{limits_of}
 use Rattle.words.proofs.Laws.{length-words}
 use Rattle.board.proofs.SoundLaws.{said_no, said_yes}

@@ -11,9 +11,9 @@ use Rattle.rules.specs.Bytes.{words_of_bytes}
 use Rattle.rules.specs.Steps.{in_range}
 use Rattle.rules.specs.Table.{hall_in, tail_offset}
 use Rattle.ring_rules.specs.Ring.{ring_next_word, ring_start_for}
-use Rattle.rules.specs.Laws.History.StepEffects.{in_range_lem}
-use Rattle.ring_rules.specs.Laws.RingSteps.{RingKnown, ring_known}
-use Rattle.ring_rules.specs.Laws.RingTables.{record_within}
+use Rattle.rules.proofs.Laws.History.StepEffects.{in_range_lem}
+use Rattle.ring_rules.proofs.Laws.RingSteps.{RingKnown, ring_known}
+use Rattle.ring_rules.proofs.Laws.RingTables.{record_within}
 use Rattle.limits.specs.Room.{limits_of}
 use Rattle.words.proofs.Laws.{length-words}
 use Rattle.board.specs.declared.Hall.{Hall}

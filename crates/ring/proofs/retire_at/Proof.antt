@@ -3,7 +3,7 @@ use native.Mathlib.Omega.{arith}
 use mathlib.Core.Path.{subst, sym}
 use borrow.Author.Rules.{rules}
 use Rattle.rules.specs.Bytes.{words_of_bytes}
-use Rattle.rules.specs.Laws.Bytes.Bytes.{words_are_16}
+use Rattle.rules.proofs.Laws.Bytes.Bytes.{words_are_16}
 use Rattle.words.proofs.Laws.{length-words}
 use Rattle.reply.specs.Answer.{answer_of}
 use Rattle.ring_desk.specs.RingRecord.{RingEncoded, RingRetired}

@@ -8,7 +8,7 @@ use borrow.Author.Rules.{rules}
 use borrow.Rule.Slice.PartMut.{mid_len, put_mid, same_len_mid}
 use Rattle.rules.specs.Bytes.{words_of_bytes}
 use Rattle.rules.specs.Table.{list_offset, mark_words, marks_offset}
-use Rattle.rules.specs.Laws.Bytes.Bytes.{words_are_16, zero_words}
+use Rattle.rules.proofs.Laws.Bytes.Bytes.{words_are_16, zero_words}
 use Rattle.marks.specs.Marks.{marks}
 use Rattle.words.proofs.Laws.{length-words, words-part, words_put}
 use Rattle.desk.proofs.DeskLaws.{Counted}

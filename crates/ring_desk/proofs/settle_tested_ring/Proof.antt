@@ -9,7 +9,7 @@ use Rattle.rules.specs.Bytes.{words_of_bytes}
 use Rattle.rules.specs.Hall.{Desk}
 use Rattle.rules.specs.Steps.{marked_of, unmarked_of}
 use Rattle.rules.specs.Table.{all_marks}
-use Rattle.rules.specs.Laws.Desk.Marks.{unmarked_and_marked}
+use Rattle.rules.proofs.Laws.Desk.Marks.{unmarked_and_marked}
 use Rattle.ring_rules.specs.Ring.{beginning_in, decode_ring}
 use Rattle.ring_desk.proofs.RingCollect.{ready_count, tested_count, waiting_count}
 use Rattle.ring_desk.proofs.RingSettle.{parted-length, settled_stores}

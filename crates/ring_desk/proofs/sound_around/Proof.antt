@@ -11,7 +11,7 @@ use Rattle.rules.specs.Bytes.{words_of_bytes}
 use Rattle.words.proofs.Laws.{length-words}
 use Rattle.words.specs.Words.{zeros_in}
 use Rattle.ring_rules.specs.Ring.{rotate}
-use Rattle.ring_rules.specs.Laws.Rotations.{rotate-length}
+use Rattle.ring_rules.proofs.Laws.Rotations.{rotate-length}
 use Rattle.ring_desk.proofs.AroundLaws.{rest_past, test_inside}
 use Rattle.ring_desk.proofs.ZeroLaws.{first_speaks, miscounted, second_speaks, zeros-around}
 use Rattle.ring_desk.proofs.sound_around.Statement.{statement}

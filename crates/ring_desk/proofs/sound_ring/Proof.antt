@@ -11,7 +11,7 @@ use borrow.Author.Tests.{le-leb, le-ltb, lt-leb, lt-ltb}
 use borrow.Rule.Slice.PartMut.{mid_len}
 use Rattle.rules.specs.Bytes.{words_of_bytes}
 use Rattle.rules.specs.Table.{list_offset, marks_offset, scan_sound, slots_in, used_in}
-use Rattle.rules.specs.Laws.Bytes.Bytes.{words_are_16}
+use Rattle.rules.proofs.Laws.Bytes.Bytes.{words_are_16}
 use Rattle.marks.proofs.BoolLaws.{not-false, not-true}
 use Rattle.marks.specs.Marks.{marks, ones_in}
 use Rattle.words.proofs.Laws.{length-words, words-part}

@@ -1,7 +1,7 @@
 -- `sheet::finish` meets its contract.
 use native.Mathlib.Omega.{arith}
 use borrow.Author.Rules.{rules}
-use Rattle.sheet_rules.specs.Laws.Longest.{end_length}
+use Rattle.sheet_rules.proofs.Laws.Longest.{end_length}
 use Rattle.tally.specs.Counts.{to_tally}
 use Rattle.sheet.proofs.finish.Statement.{statement}
 use Rattle.sheet.proofs.finish.Tie as tie

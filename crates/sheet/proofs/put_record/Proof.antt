@@ -5,7 +5,7 @@ use borrow.Author.Rules.{rules}
 use Rattle.rules.specs.Bytes.{IsBytes, words_of_bytes}
 use Rattle.rules.specs.Hall.{Limits}
 use Rattle.rules.specs.Numbers.{parsed}
-use Rattle.sheet_rules.specs.Laws.Longest.{line-length}
+use Rattle.sheet_rules.proofs.Laws.Longest.{line-length}
 use Rattle.reader.specs.Results.{edition_of, record_of, record_result}
 use Rattle.reader.specs.Laws.Editions.{edition_lawful, edition_limits}
 use Rattle.sheet_rules.specs.Lawful.{Lawful}

@@ -6,13 +6,13 @@ use Rattle.rules.specs.Bytes.{words_of_bytes}
 use Rattle.rules.specs.Hall.{Limits}
 use Rattle.rules.specs.Numbers.{parsed}
 use Rattle.rules.specs.Table.{open_table}
-use Rattle.sheet_rules.specs.Laws.Longest.{line-length}
+use Rattle.sheet_rules.proofs.Laws.Longest.{line-length}
 use Rattle.reader.specs.Results.{edition_of, header_of, header_result}
 use Rattle.reply.specs.Answer.{table_result}
 use Rattle.reader.specs.Laws.Editions.{edition_lawful, edition_limits}
 use Rattle.sheet_rules.specs.Lawful.{Lawful}
 use Rattle.sheet_rules.specs.Sheet.{begin_sheet, lent_table}
-use Rattle.sheet_rules.specs.Laws.Sheet.{not-begun, reading-opens}
+use Rattle.sheet_rules.proofs.Laws.Sheet.{not-begun, reading-opens}
 use Rattle.limits.specs.Room.{limits_of}
 use Rattle.sheet.specs.declared.State.{State}
 use Rattle.sheet.proofs.StartLaws.{lent_unsound, refused_leaves, started_opened, started_refused, started_stopped}

@@ -1,7 +1,7 @@
 -- `sheet::stop` meets its contract.
 use native.Mathlib.Omega.{arith}
 use borrow.Author.Rules.{rules}
-use Rattle.sheet_rules.specs.Laws.Longest.{line-length}
+use Rattle.sheet_rules.proofs.Laws.Longest.{line-length}
 use Rattle.buffer.specs.Laws.Put.{put_on}
 use Rattle.sheet.proofs.stop.Statement.{statement}
 use Rattle.sheet.proofs.stop.Tie as tie

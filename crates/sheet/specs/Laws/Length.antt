@@ -4,7 +4,7 @@ use Rattle.std.proofs.Common.{arith, length-append, leb-true}
 use Rattle.rules.specs.Hall.{Hall}
 use Rattle.rules.specs.Numbers.{Parsed, Refusal, bind, parsed, refusal_of, refused}
 use Rattle.rules.specs.Table.{open_table}
-use Rattle.sheet_rules.specs.Laws.Longest.{end_length, line-length}
+use Rattle.sheet_rules.proofs.Laws.Longest.{end_length, line-length}
 use Rattle.sheet_rules.specs.Lines.{end_line, line, lines_from, lines_of, printed, refusal_line}
 use Rattle.sheet_rules.specs.Run.{run_record}
 use Rattle.sheet_rules.specs.Sheet.{Carried, Edition, Record, after_opening, bind_records, carried_after, complete, decode_records, if_opens, lent_table, max_bytes, more}

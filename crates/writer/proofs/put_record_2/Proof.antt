@@ -1,7 +1,7 @@
 -- `writer::put_record_2` meets its contract.
 use mathlib.Core.Path.{sym, ◌∙◌}
 use borrow.Author.Rules.{rules}
-use Rattle.sheet_rules.specs.Laws.Edition2.{encode_changed, encode-repeated}
+use Rattle.sheet_rules.proofs.Laws.Edition2.{encode_changed, encode-repeated}
 use Rattle.reader.specs.Results.{carried_of, record_of}
 use Rattle.writer.proofs.put_record_2.Statement.{statement}
 use Rattle.writer.proofs.put_record_2.Tie as tie

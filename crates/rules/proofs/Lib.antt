@@ -1,0 +1,12 @@
+pub mod Theorems
+pub mod Cases
+pub mod HistoryCases
+pub mod CallCases
+pub mod RoomCases
+pub mod MessageCases
+pub mod RunCases
+pub mod Instances
+pub mod Examples
+pub mod MessageExamples
+pub mod RunExamples
+pub mod Laws

@@ -1,0 +1,12 @@
+pub mod SheetTheorems
+pub mod SheetCases
+pub mod ReadingCases
+pub mod OffsetCases
+pub mod RewritingCases
+pub mod Edition2Cases
+pub mod TrainingCases
+pub mod RunCases
+pub mod SheetInstances
+pub mod SheetExamples
+pub mod Edition2Examples
+pub mod Laws
