@@ -1,3 +1,2 @@
 -- What the contracts of writers cite, and the laws that their callers use.
 pub mod Put
-pub mod Laws

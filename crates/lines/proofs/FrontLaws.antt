@@ -3,7 +3,7 @@ use Prim.Native.Nat.{ℕ}
 use mathlib.Core.List.{List, [], ◌∷◌, ◌++◌}
 use lib.Seq.{append_snoc}
 use Rattle.buffer.specs.Put.{Put}
-use Rattle.buffer.specs.Laws.Put.{put_on}
+use Rattle.buffer.proofs.Laws.Put.{put_on}
 
 pub rest_put : (front : List ℕ) (byte : ℕ) {rest before middle after : List ℕ} {at between next : ℕ}
     → Put before middle at (front ++ (byte ∷ [])) between → Put middle after between rest next

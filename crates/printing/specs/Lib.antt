@@ -1,5 +1,2 @@
 -- The definitions that the contract of this crate cites, beside those of the sheet, and what follows from it.
 pub mod Output
-pub mod Whole
-pub mod Examples
-pub mod Laws

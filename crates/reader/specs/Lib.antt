@@ -1,3 +1,2 @@
 -- The definitions that the contracts of this crate cite, beside those of the rules.
 pub mod Results
-pub mod Laws

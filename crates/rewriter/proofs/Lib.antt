@@ -2,3 +2,6 @@
 pub mod OutputLaws
 pub mod RecordLaws
 pub mod SheetLaws
+pub mod Cases
+pub mod Laws
+pub mod Whole

@@ -9,7 +9,7 @@ use lib.ListN.{length, length-append}
 use lib.Dec.{leb}
 use borrow.Author.Tests.{leb-false, leb-true}
 use Rattle.buffer.specs.Put.{Put}
-use Rattle.buffer.specs.Laws.Put.{put_none, put_on}
+use Rattle.buffer.proofs.Laws.Put.{put_none, put_on}
 use Rattle.rules.specs.Numbers.{Refusal, parsed, refused}
 use Rattle.rules.proofs.Laws.History.StepEffects.{in_range_lem}
 use Rattle.sheet_rules.specs.Lawful.{Lawful}

@@ -8,7 +8,7 @@ use lib.ListN.{length, length-append, length-replicate, take}
 use borrow.Author.Tests.{le-leb, lt-leb}
 use Rattle.board.specs.Opening.{OpeningAnswer}
 use Rattle.buffer.specs.Put.{Put}
-use Rattle.buffer.specs.Laws.Put.{put_first, put_on}
+use Rattle.buffer.proofs.Laws.Put.{put_first, put_on}
 use Rattle.rules.specs.Hall.{Hall, Limits}
 use Rattle.rules.specs.Numbers.{Refusal, parsed, refusal_of, refused}
 use Rattle.rules.specs.Steps.{Answer}

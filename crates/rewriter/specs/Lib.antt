@@ -2,6 +2,3 @@
 -- of `rewrite`.
 pub mod Build
 pub mod Output
-pub mod Cases
-pub mod Whole
-pub mod Laws

@@ -10,7 +10,7 @@ use lib.ListN.{length}
 use Rattle.rules.specs.Numbers.{Parsed, Refusal, parsed, refused}
 use Rattle.rules.specs.Steps.{Result}
 use Rattle.buffer.specs.Put.{Put}
-use Rattle.buffer.specs.Laws.Put.{put_first, put_none, put_on, put_rest, put_within}
+use Rattle.buffer.proofs.Laws.Put.{put_first, put_none, put_on, put_rest, put_within}
 use Rattle.reply.specs.Answer.{answer_of, answer_with, table_result}
 use Rattle.reader.specs.Results.{carried_of}
 use Rattle.sheet_rules.specs.Lawful.{Lawful}
@@ -22,7 +22,7 @@ use Rattle.sheet_rules.proofs.Laws.Run.{Asks, record_asks}
 use Rattle.sheet_rules.proofs.Laws.Sheet.{records_end, records_more, records_stop}
 use Rattle.tally.specs.Counts.{to_tally}
 use Rattle.sheet.specs.Batch.{Batch, PartialBatch, Progress, batches_left, finished_at, record_room, remaining_calls, remaining_output, remaining_records}
-use Rattle.sheet.specs.Laws.Batches.{emitted_append, emitted_none}
+use Rattle.sheet.proofs.Laws.Batches.{emitted_append, emitted_none}
 use Rattle.reader.specs.declared.Carried.TheVariants.{LastDesk}
 use Rattle.reply.specs.declared.Reply.{Reply}
 use Rattle.tally.specs.declared.Tally.{Tally}

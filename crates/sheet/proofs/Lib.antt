@@ -2,3 +2,5 @@
 pub mod CallLaws
 pub mod BatchLaws
 pub mod StartLaws
+pub mod Laws
+pub mod Whole

@@ -11,8 +11,8 @@ use Rattle.rules.specs.Steps.{Answer, Result, decide}
 use Rattle.rules.specs.Table.{open_table, opened_table, sound}
 use Rattle.board.specs.Admission.{soundness_of}
 use Rattle.buffer.specs.Put.{Put}
-use Rattle.buffer.specs.Laws.Put.{put_first, put_rest, put_within}
-use Rattle.sheet.specs.Laws.Length.{line_some}
+use Rattle.buffer.proofs.Laws.Put.{put_first, put_rest, put_within}
+use Rattle.sheet.proofs.Laws.Length.{line_some}
 use Rattle.reply.specs.Answer.{answer_of, table_result}
 use Rattle.sheet_rules.specs.Lawful.{Lawful}
 use Rattle.sheet_rules.specs.Lines.{answer_line, end_line, line, lines_from, lines_of, printed, refusal_line}

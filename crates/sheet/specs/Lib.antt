@@ -1,5 +1,3 @@
 -- The definitions that the contracts of this crate cite, beside those of the rules, and the theorems about a whole sheet.
 pub mod Batch
 pub mod Run
-pub mod Whole
-pub mod Laws

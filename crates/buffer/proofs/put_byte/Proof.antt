@@ -1,7 +1,7 @@
 -- `buffer::put_byte` meets its contract.
 use native.Mathlib.Omega.{arith}
 use borrow.Author.Rules.{rules}
-use Rattle.buffer.specs.Laws.Put.{put_one}
+use Rattle.buffer.proofs.Laws.Put.{put_one}
 use Rattle.buffer.proofs.put_byte.Statement.{statement}
 use Rattle.buffer.proofs.put_byte.Tie as tie
 

@@ -5,7 +5,7 @@ use lib.ListN.{length-append}
 use borrow.Author.Rules.{rules}
 use borrow.Fn.Kinds.{In}
 use borrow.Fn.PlainCycle.{Measures, is, falls, and}
-use Rattle.buffer.specs.Laws.Put.{put_on}
+use Rattle.buffer.proofs.Laws.Put.{put_on}
 use Rattle.lines.proofs.DigitLaws.{decimal_more, decimal_one}
 use Rattle.lines.proofs.put_digits.Reads as put-digits
 use Rattle.lines.proofs.put_digits.Kinds as put-digits-kinds

@@ -10,10 +10,10 @@ use Rattle.rules.specs.Bytes.{words_of_bytes}
 use Rattle.rules.specs.Table.{max_words}
 use Rattle.reader.specs.Results.{edition_of}
 use Rattle.sheet.specs.Batch.{Checked, batches_left}
-use Rattle.sheet.specs.Laws.Batches.{fewer_left}
+use Rattle.sheet.proofs.Laws.Batches.{fewer_left}
 use Rattle.sheet_rules.proofs.Laws.Sheet.{lent_bytes}
 use Rattle.printing.specs.Output.{Reached}
-use Rattle.printing.specs.Laws.Output.{reached_batch, reached_fits, reached_start}
+use Rattle.printing.proofs.Laws.Output.{reached_batch, reached_fits, reached_start}
 use Rattle.printing.proofs.print.Statement.{statement}
 use Rattle.printing.proofs.print.Tie as tie
 

@@ -5,7 +5,7 @@ use Rattle.rules.specs.Hall.{Limits}
 use Rattle.rules.specs.Numbers.{parsed, refused}
 use Rattle.limits.specs.Room.{limits_of}
 use Rattle.reader.specs.Results.{edition_of, header_of, header_result}
-use Rattle.reader.specs.Laws.Editions.{edition_limits}
+use Rattle.reader.proofs.Laws.Editions.{edition_limits}
 use Rattle.sheet_rules.specs.Sheet.{begin_sheet, opening_number}
 use Rattle.sheet_rules.proofs.Laws.Sheet.{not-begun}
 use Rattle.rewriter.proofs.SheetLaws.{opening_number_lem, sheet_opens, sheet_refused}

@@ -5,7 +5,7 @@ use mathlib.Core.Path.{sym, ap, ◌∙◌}
 use lib.ListN.{length}
 use borrow.Author.Rules.{rules}
 use Rattle.reader.specs.Results.{carried_of, edition_of, record_of, record_result}
-use Rattle.reader.specs.Laws.Editions.{edition_lawful}
+use Rattle.reader.proofs.Laws.Editions.{edition_lawful}
 use Rattle.sheet_rules.specs.Lawful.{Lawful}
 use Rattle.rewriter.proofs.RecordLaws.{Building, WasRead, building_ended, building_first, building_next, building_stopped, record_code, record_past}
 use Rattle.rewriter.proofs.put_records.Statement.{statement}

@@ -9,7 +9,7 @@ use borrow.Author.Rules.{rules}
 use Rattle.reader.specs.Results.{edition_of}
 use Rattle.sheet_rules.specs.Rewriting.{rewrite}
 use Rattle.rewriter.specs.Output.{output_of, put, write_whole}
-use Rattle.rewriter.specs.Whole.{no_room_never, their_number, within_the_buffer}
+use Rattle.rewriter.proofs.Whole.{no_room_never, their_number, within_the_buffer}
 use Rattle.rewriter.specs.declared.Written.{Written}
 use Rattle.rewriting.proofs.write_rewritten.Statement.{statement}
 use Rattle.rewriting.proofs.write_rewritten.Tie as tie

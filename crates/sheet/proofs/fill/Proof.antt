@@ -5,7 +5,7 @@ use lib.ListN.{length}
 use Rattle.rules.specs.Bytes.{words_of_bytes}
 use Rattle.reader.specs.Results.{edition_of}
 use Rattle.sheet.specs.Batch.{Checked, batches_left}
-use Rattle.sheet.specs.Laws.Batches.{fewer_left}
+use Rattle.sheet.proofs.Laws.Batches.{fewer_left}
 use Rattle.sheet.proofs.BatchLaws.{InBatch, batch_finished, batch_full, in_batch_first, in_batch_next, in_batch_within}
 use Rattle.sheet.proofs.fill.Statement.{statement}
 use Rattle.sheet.proofs.fill.Tie as tie

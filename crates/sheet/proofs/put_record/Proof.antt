@@ -7,7 +7,7 @@ use Rattle.rules.specs.Hall.{Limits}
 use Rattle.rules.specs.Numbers.{parsed}
 use Rattle.sheet_rules.proofs.Laws.Longest.{line-length}
 use Rattle.reader.specs.Results.{edition_of, record_of, record_result}
-use Rattle.reader.specs.Laws.Editions.{edition_lawful, edition_limits}
+use Rattle.reader.proofs.Laws.Editions.{edition_lawful, edition_limits}
 use Rattle.sheet_rules.specs.Lawful.{Lawful}
 use Rattle.sheet_rules.specs.Run.{run_record}
 use Rattle.limits.specs.Room.{limits_of}

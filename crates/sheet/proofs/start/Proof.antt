@@ -9,7 +9,7 @@ use Rattle.rules.specs.Table.{open_table}
 use Rattle.sheet_rules.proofs.Laws.Longest.{line-length}
 use Rattle.reader.specs.Results.{edition_of, header_of, header_result}
 use Rattle.reply.specs.Answer.{table_result}
-use Rattle.reader.specs.Laws.Editions.{edition_lawful, edition_limits}
+use Rattle.reader.proofs.Laws.Editions.{edition_lawful, edition_limits}
 use Rattle.sheet_rules.specs.Lawful.{Lawful}
 use Rattle.sheet_rules.specs.Sheet.{begin_sheet, lent_table}
 use Rattle.sheet_rules.proofs.Laws.Sheet.{not-begun, reading-opens}

@@ -2,7 +2,7 @@
 use native.Mathlib.Omega.{arith}
 use borrow.Author.Rules.{rules}
 use Rattle.sheet_rules.proofs.Laws.Longest.{line-length}
-use Rattle.buffer.specs.Laws.Put.{put_on}
+use Rattle.buffer.proofs.Laws.Put.{put_on}
 use Rattle.sheet.proofs.stop.Statement.{statement}
 use Rattle.sheet.proofs.stop.Tie as tie
 

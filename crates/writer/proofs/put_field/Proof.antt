@@ -1,7 +1,7 @@
 -- `writer::put_field` meets its contract.
 use mathlib.Core.Path.{sym, ◌∙◌}
 use borrow.Author.Rules.{rules}
-use Rattle.buffer.specs.Laws.Put.{put_none}
+use Rattle.buffer.proofs.Laws.Put.{put_none}
 use Rattle.writer.proofs.put_field.Statement.{statement}
 use Rattle.writer.proofs.put_field.Tie as tie
 

@@ -2,7 +2,7 @@
 use native.Mathlib.Omega.{arith}
 use lib.ListN.{length-append}
 use borrow.Author.Rules.{rules}
-use Rattle.buffer.specs.Laws.Put.{put_on}
+use Rattle.buffer.proofs.Laws.Put.{put_on}
 use Rattle.sheet_rules.specs.Edition1.{encode_header}
 use Rattle.writer.proofs.put_hall.Statement.{statement}
 use Rattle.writer.proofs.put_hall.Tie as tie

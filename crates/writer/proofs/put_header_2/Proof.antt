@@ -2,7 +2,7 @@
 use native.Mathlib.Omega.{arith}
 use lib.ListN.{length-append}
 use borrow.Author.Rules.{rules}
-use Rattle.buffer.specs.Laws.Put.{put_on}
+use Rattle.buffer.proofs.Laws.Put.{put_on}
 use Rattle.sheet_rules.specs.Edition2.{encode_header2}
 use Rattle.writer.proofs.put_header_2.Statement.{statement}
 use Rattle.writer.proofs.put_header_2.Tie as tie

@@ -3,7 +3,7 @@ use native.Mathlib.Omega.{arith}
 use mathlib.Core.Path.{ap}
 use lib.ListN.{length}
 use borrow.Author.Rules.{rules}
-use Rattle.buffer.specs.Laws.Put.{put_on}
+use Rattle.buffer.proofs.Laws.Put.{put_on}
 use Rattle.writer.proofs.EncodeLaws.{at_least_one, encode_one, encode-three, encode_two}
 use Rattle.writer.proofs.put_number.Statement.{statement}
 use Rattle.writer.proofs.put_number.Tie as tie

@@ -11,7 +11,7 @@ use Rattle.sheet_rules.specs.Sheet.{Edition, lent_table, reading}
 use Rattle.tally.specs.Counts.{to_tally}
 use Rattle.tally.specs.declared.Tally.{Tally}
 use Rattle.printing.specs.Output.{HandedOver}
-use Rattle.printing.specs.Whole.{complete_output}
+use Rattle.printing.proofs.Whole.{complete_output}
 
 abbrev empty_state : Bool → State
 empty_state finished =

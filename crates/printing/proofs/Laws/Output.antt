@@ -4,8 +4,8 @@ use Rattle.std.proofs.Common.{arith, sym, ap, ◌∙◌, append_assoc, append-ni
 use Rattle.rules.specs.Messages.{send}
 use Rattle.rules.specs.Steps.{Call, end}
 use Rattle.sheet.specs.Batch.{Batch, Emitted, Started, calls_of, remaining_calls, remaining_output, sheet_table, start_table}
-use Rattle.sheet.specs.Laws.Batches.{end_append}
-use Rattle.sheet.specs.Laws.Length.{output_bounded}
+use Rattle.sheet.proofs.Laws.Batches.{end_append}
+use Rattle.sheet.proofs.Laws.Length.{output_bounded}
 use Rattle.sheet.specs.declared.State.{State}
 use Rattle.sheet_rules.specs.Lines.{printed}
 use Rattle.sheet_rules.specs.Sheet.{Edition, reading}

@@ -4,8 +4,8 @@ use Rattle.std.proofs.Common.{sym, ap, ◌∙◌, arith}
 use Rattle.sheet_rules.specs.Lines.{printed}
 use Rattle.sheet_rules.specs.Sheet.{Edition}
 use Rattle.sheet.specs.Batch.{BatchResult, Batches, Started, bytes_of, last_state, last_table, sheet_table}
-use Rattle.sheet.specs.Laws.Batches.{batches_bounded, batches_emitted, batches_left_bounded, emitted_all, final_table_at_end, final_table_at_start}
-use Rattle.sheet.specs.Laws.Batches.{final_table_kept}
+use Rattle.sheet.proofs.Laws.Batches.{batches_bounded, batches_emitted, batches_left_bounded, emitted_all, final_table_at_end, final_table_at_start}
+use Rattle.sheet.proofs.Laws.Batches.{final_table_kept}
 use Rattle.sheet.specs.declared.State.{State}
 
 module _ (edition : Edition) (sheet out : List ℕ) (first : State) (table out_after : List ℕ) (put : ℕ) (started : Started edition sheet out first table out_after put)

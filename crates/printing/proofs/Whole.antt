@@ -4,7 +4,7 @@ use Rattle.sheet.specs.Batch.{sheet_table}
 use Rattle.sheet_rules.specs.Lines.{printed}
 use Rattle.sheet_rules.specs.Sheet.{Edition}
 use Rattle.printing.specs.Output.{HandedOver}
-use Rattle.printing.specs.Laws.Output.{finished_bytes, finished_table}
+use Rattle.printing.proofs.Laws.Output.{finished_bytes, finished_table}
 
 module _ (edition : Edition) (sheet : List ℕ) (bytes : ℕ) (handed : HandedOver edition sheet true bytes) where
   -- All bytes that the rules print for the sheet were handed over,

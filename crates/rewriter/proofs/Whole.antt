@@ -5,7 +5,7 @@ use Rattle.sheet_rules.specs.Rewriting.{rewrite}
 use Rattle.sheet_rules.specs.Sheet.{Edition}
 use Rattle.sheet_rules.proofs.SheetTheorems.{rewritten_always_fits}
 use Rattle.rewriter.specs.Output.{no_room, put, write_whole}
-use Rattle.rewriter.specs.Laws.Output.{put_bytes, put_count, put_rest, put_within}
+use Rattle.rewriter.proofs.Laws.Output.{put_bytes, put_count, put_rest, put_within}
 
 -- The first bytes of the buffer are those that were to be written, and the rest is unchanged.
 module _ (out bytes after : List ℕ) (n : ℕ) (written : put after n ≡ write_whole out bytes) where
