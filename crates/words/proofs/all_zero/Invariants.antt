@@ -1,0 +1,18 @@
+use Prim.Native.Nat.{◌≤◌, ◌-◌}
+use native.Mathlib.Omega.{arith}
+use mathlib.Core.Bool.{◌&&◌}
+use mathlib.Core.Path.{◌≡◌, refl}
+use lib.Dec.{eqb}
+use lib.ListN.{drop}
+use borrow.Author.Rules.{rules}
+use Rattle.rules.specs.Bytes.{words_of_bytes}
+use Rattle.words.specs.Words.{all_zero}
+use Rattle.words.proofs.Laws.{length-words}
+use Rattle.words.proofs.Scan.{every_end, zero_next}
+use Rattle.words.proofs.all_zero.Given as goal
+
+abbrev pub invariant-loop-i : goal.invariant-loop-i
+invariant-loop-i l = (l.i ≤ l.n) × (all_zero (words_of_bytes l.l) ≡ eqb l.bits 0 && all_zero (drop l.i (words_of_bytes l.l)))
+
+abbrev pub decreases-loop-i : goal.decreases-loop-i
+decreases-loop-i l = l.n - l.i

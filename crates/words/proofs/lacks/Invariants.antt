@@ -1,0 +1,19 @@
+use Prim.Native.Nat.{◌≤◌, ◌-◌}
+use native.Mathlib.Omega.{arith}
+use mathlib.Core.Bool.{◌&&◌, not}
+use mathlib.Core.Logic.{⊎_elim}
+use mathlib.Core.Path.{◌≡◌, ap, refl, sym, ◌∙◌}
+use lib.Dec.{eqb}
+use lib.ListN.{drop}
+use borrow.Author.Tests.{eq-eqb, ne_eqb}
+use Rattle.rules.specs.Bytes.{words_of_bytes}
+use Rattle.words.specs.Words.{lacks}
+use Rattle.words.proofs.Laws.{length-words}
+use Rattle.words.proofs.Scan.{every_broken, every_end, every-next}
+use Rattle.words.proofs.lacks.Given as goal
+
+abbrev pub invariant-loop-i : goal.invariant-loop-i
+invariant-loop-i l = (l.i ≤ l.n) × (lacks l.x (words_of_bytes l.l) ≡ l.ok && lacks l.x (drop l.i (words_of_bytes l.l)))
+
+abbrev pub decreases-loop-i : goal.decreases-loop-i
+decreases-loop-i l = l.n - l.i
