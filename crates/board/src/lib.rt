@@ -33,7 +33,7 @@ pub const POSITIONS: usize = 2;
 pub const HEADER: usize = 3;
 
 // The board: the limits of its rooms, and the words that a table needs.
-#[derive(Drop)]
+#[derive(Clone, Copy)]
 pub struct Board;
 
 impl Board {
@@ -163,7 +163,7 @@ fn sound_records(t: &[u8], p: usize, l: usize, s: usize) -> bool
 }
 
 // The numbers of a hall: P, c and L, and S, the screens of all desks.
-#[derive(Drop)]
+#[derive(Clone, Copy)]
 pub struct Hall {
     pub desks: usize,
     pub screens: usize,
@@ -172,7 +172,7 @@ pub struct Hall {
 }
 
 // The header of a table: its hall, or `Broken` if a number is out of range or the table is too short for the hall.
-#[derive(Drop)]
+#[derive(Clone, Copy)]
 enum Header {
     Broken,
     Of(Hall),
@@ -208,7 +208,7 @@ fn read_header(t: &[u8], limits: Limits) -> Header
 }
 
 // Whether a table is sound; if it is, its hall.
-#[derive(Drop)]
+#[derive(Clone, Copy)]
 pub enum Soundness {
     Unsound,
     Sound(Hall),
@@ -234,7 +234,7 @@ pub fn check(t: &[u8], limits: Limits) -> Soundness
 
 // A desk's location in a sound table: the numbers of positions, of screens per desk and of all screens, the start and the end of the
 // desk's record, and the offset of its next message number.
-#[derive(Drop)]
+#[derive(Clone, Copy)]
 struct Location {
     pub positions: usize,
     pub screens: usize,
@@ -245,7 +245,7 @@ struct Location {
 }
 
 // The result of the first questions of a step in a sound table: one of their refusals, or the location of the desk.
-#[derive(Drop)]
+#[derive(Clone, Copy)]
 enum Admission {
     NoDesk,
     OtherMessage,

@@ -7,7 +7,7 @@ ghost use Rattle.rules.specs.Table.{within as within_limits};
 ghost use Rattle.limits.specs.Room.{limits_of};
 
 // The most desks, screens per desk and positions of a board, and the largest session.
-#[derive(Drop)]
+#[derive(Clone, Copy)]
 pub struct Limits {
     pub desks: u16,
     pub screens: u16,

@@ -21,21 +21,21 @@ pub const READ_BYTES: usize = MAX_BYTES + 1;
 const MAX_NUMBER: u16 = 65535;
 
 // Whether padded numbers, those with a zero group at the high end, are accepted.
-#[derive(Drop)]
+#[derive(Clone, Copy)]
 pub enum Padding {
     Allowed,
     Barred,
 }
 
 // How numbers are read, and the limits of the room: a session is read against the room's largest.
-#[derive(Drop)]
+#[derive(Clone, Copy)]
 pub struct Format {
     pub padding: Padding,
     pub limits: Limits,
 }
 
 // The layout of a header and of a record.
-#[derive(Drop)]
+#[derive(Clone, Copy)]
 pub enum Version {
     // P, c, L; every record has its desk.
     One,
@@ -44,7 +44,7 @@ pub enum Version {
 }
 
 // An edition of the day sheet.
-#[derive(Drop)]
+#[derive(Clone, Copy)]
 pub struct Edition {
     pub version: Version,
     pub format: Format,
@@ -86,7 +86,7 @@ pub fn archive_edition(limits: Limits) -> Edition
 
 // What ends a reading: the code that its line shows (0 if no code was read), the reply number, and the offset of the first byte of the number
 // that is refused (0 if none is).
-#[derive(Drop)]
+#[derive(Clone, Copy)]
 pub struct Refusal {
     pub code: u16,
     pub number: u16,
@@ -126,7 +126,7 @@ pub fn refuse_with(number: u16) -> Refusal
 }
 
 // A number of a sheet and the offset after it, or why it is refused.
-#[derive(Drop)]
+#[derive(Clone, Copy)]
 pub enum Number {
     Value(u16, usize),
     Refused(Refusal),
@@ -236,7 +236,7 @@ fn read_field(
 }
 
 // A record of a sheet. A field that does not follow the code is 0.
-#[derive(Drop)]
+#[derive(Clone, Copy)]
 pub struct Record {
     pub code: u16,
     pub desk: u16,
@@ -246,14 +246,14 @@ pub struct Record {
 }
 
 // What a record leaves for the next: its desk. Before the first record there is none.
-#[derive(Drop)]
+#[derive(Clone, Copy)]
 pub enum Carried {
     NoDesk,
     LastDesk(u16),
 }
 
 // A record and the offset after it, or what ends the reading.
-#[derive(Drop)]
+#[derive(Clone, Copy)]
 pub enum ParsedRecord {
     Whole(Record, usize),
     Refused(Refusal),
@@ -431,7 +431,7 @@ pub fn read_record(sheet: &[u8], at: usize, edition: Edition, carried: Carried) 
 }
 
 // The header of a sheet: P, c and L.
-#[derive(Drop)]
+#[derive(Clone, Copy)]
 pub struct Header {
     pub desks: u16,
     pub screens: u16,
@@ -439,7 +439,7 @@ pub struct Header {
 }
 
 // The header and the offset after it, or what ends the reading.
-#[derive(Drop)]
+#[derive(Clone, Copy)]
 pub enum ParsedHeader {
     Whole(Header, usize),
     Refused(Refusal),

@@ -26,7 +26,7 @@ const RECORD_BYTES: usize = 15;
 const ROOM: usize = MAX_BYTES + RECORD_BYTES;
 
 // The result of writing, which writes all bytes or none.
-#[derive(Drop)]
+#[derive(Clone, Copy)]
 pub enum Written {
     // So many bytes, from the start of the buffer.
     Bytes(usize),
@@ -58,7 +58,7 @@ fn open_sheet(sheet: &[u8], edition: Edition) -> ParsedHeader
 }
 
 // The offset up to which the records were put, or what ends their reading.
-#[derive(Drop)]
+#[derive(Clone, Copy)]
 enum Built {
     Upto(usize),
     Refused(Refusal),

@@ -91,7 +91,7 @@ fn check(t: &[u8], limits: Limits) -> Soundness
 
 // A desk's location in a sound ring: the numbers of positions, of screens per desk and of all screens, the start and the end of the
 // desk's record, and the offset of its next message number.
-#[derive(Drop)]
+#[derive(Clone, Copy)]
 struct Location {
     pub positions: usize,
     pub screens: usize,
@@ -102,7 +102,7 @@ struct Location {
 }
 
 // The result of the first questions of a step: one of their refusals, or the location of the desk.
-#[derive(Drop)]
+#[derive(Clone, Copy)]
 enum Admission {
     NotSound,
     NoDesk,

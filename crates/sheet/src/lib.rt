@@ -27,7 +27,7 @@ const ROOM: usize = 84 + 67;
 
 // How far the run of a sheet is: the offset and the number of the next record, what the record before left for it, the tally so far,
 // whether the table is sound, asked once, after the opening, and whether the last line was put.
-#[derive(Drop)]
+#[derive(Clone, Copy)]
 pub struct State {
     pub offset: usize,
     pub index: u64,
@@ -38,7 +38,7 @@ pub struct State {
 }
 
 // The result of a batch: the state after it, and the offset after its bytes in the buffer.
-#[derive(Drop)]
+#[derive(Clone, Copy)]
 pub struct Filled {
     pub state: State,
     pub put: usize,

@@ -14,7 +14,7 @@ const TAKE: u16 = 1;
 const COLLECT: u16 = 5;
 
 // The counts of the last line: steps accepted, steps refused by the board, sessions handed back.
-#[derive(Drop)]
+#[derive(Clone, Copy)]
 pub struct Tally {
     pub accepted: u32,
     pub refused: u32,
