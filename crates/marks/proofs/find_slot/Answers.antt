@@ -1,19 +1,15 @@
 -- `marks::find_slot` meets its contract.
-use Prim.Native.Nat.{◌+◌, ◌-◌, ◌≤◌}
 use native.Mathlib.Omega.{arith}
-use mathlib.Core.Logic.{⊎_elim}
-use mathlib.Core.Path.{◌≡◌, sym, ◌∙◌}
-use lib.ListN.{drop, get_or}
-use borrow.Author.Rules.{rules}
+use mathlib.Core.Path.{sym, ◌∙◌}
+use lib.ListN.{get_or}
 use borrow.Author.Tests.{eqb-true}
 use Rattle.rules.specs.Bytes.{words_of_bytes}
 use Rattle.words.proofs.Laws.{length-words}
 use Rattle.marks.specs.Marks.{find_slot, marks}
-use Rattle.marks.proofs.BoolLaws.{not-false, not-true}
 use Rattle.marks.proofs.MarkLaws.{is_unmarked, marks-length}
 use Rattle.marks.proofs.SlotLaws.{find_end, find_found, find_lacking, find_marked, find_other}
 use Rattle.marks.proofs.find_slot.Goals as goal
-use Rattle.marks.proofs.find_slot.Goals.{then-word-x, else-word-x}
+use Rattle.marks.proofs.find_slot.Goals.{then-word-x+else-not-marked, else-word-x}
 
 pub returns-then-lacks : goal.returns-then-lacks
 returns-then-lacks c =
@@ -34,7 +30,7 @@ returns-then-not-marked c =
     let many = length-words c.args.l.now in
     let marks_many = length-words c.args.m.now in
     find_found c.args.x (find_slot c.args.x l (marks m)) l (marks m) loop.j (omega arith) (omega (arith, marks-length m)) loop.invariant.1 (sym c.word.ensures ∙ c.if-word-x.true)
-    (is_unmarked m loop.j (sym c.marked.ensures ∙ not-true c.if-not-marked.true))
+    (is_unmarked m loop.j (sym c.marked.ensures ∙ c.if-not-marked.true))
 
 pub loop-j-preserved : goal.loop-j-preserved
 loop-j-preserved c =
@@ -49,9 +45,9 @@ loop-j-preserved c =
     let q = c.word.ensures in (
       omega arith,
       elim c.if-word-x.branch [
-        | then-word-x w ↦ let e = eqb-true (get_or (marks m) loop.j 0) 1 (sym w.1.ensures ∙ not-false w.2.left) in
+        | then-word-x+else-not-marked w ↦ let e = eqb-true (get_or (marks m) loop.j 0) 1 (sym w.marked.ensures ∙ w.if-not-marked.false) in
             find_marked x n l (marks m) loop.j (omega arith) (omega arith) loop.invariant.1 (λ z. omega arith)
-        | else-word-x w ↦ find_other x n l (marks m) loop.j (omega arith) (omega arith) loop.invariant.1 (λ z. w.left (q ∙ z))
+        | else-word-x w ↦ find_other x n l (marks m) loop.j (omega arith) (omega arith) loop.invariant.1 (λ z. w.if-word-x.false (q ∙ z))
       ],
     )
 

@@ -1,6 +1,5 @@
 -- `marks::four_words` meets its contract.
 use native.Mathlib.Omega.{arith}
-use borrow.Author.Rules.{rules}
 use Rattle.marks.proofs.four_words.Goals as goal
 
 pub returns : goal.returns

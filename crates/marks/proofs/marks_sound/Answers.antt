@@ -2,12 +2,10 @@
 use native.Mathlib.Omega.{arith}
 use mathlib.Core.Path.{ap, sym, ◌∙◌}
 use lib.ListN.{drop}
-use borrow.Author.Rules.{rules}
 use borrow.Author.Tests.{le-leb}
 use Rattle.rules.specs.Bytes.{words_of_bytes}
 use Rattle.words.specs.Words.{all_zero}
 use Rattle.marks.specs.Marks.{ones_in}
-use Rattle.marks.proofs.BoolLaws.{not-false, not-true}
 use Rattle.marks.proofs.MarkLaws.{none_counted, none_marked}
 use Rattle.marks.proofs.marks_sound.Goals as goal
 
@@ -20,9 +18,9 @@ returns-then-all_zero c =
 pub returns-then-not-unmarked_from : goal.returns-then-not-unmarked_from
 returns-then-not-unmarked_from c =
     let unmarked = ap (λ l. all_zero (drop c.args.n l)) c.mark_bits.ensures ∙ sym c.unmarked_from.ensures in
-    rw (unmarked ∙ not-true c.if-not-unmarked_from.true)
+    rw (unmarked ∙ c.if-not-unmarked_from.true)
 
 pub returns : goal.returns
 returns c =
     let unmarked = ap (λ l. all_zero (drop c.args.n l)) c.mark_bits.ensures ∙ sym c.unmarked_from.ensures in
-    rw (unmarked ∙ not-false c.if-not-unmarked_from.false, c.ones.ensures)
+    rw (unmarked ∙ c.if-not-unmarked_from.false, c.ones.ensures)

@@ -1,7 +1,6 @@
 -- `marks::ones` meets its contract.
 use native.Mathlib.Omega.{arith}
 use lib.Count.{ones-le}
-use borrow.Author.Rules.{rules}
 use Rattle.rules.specs.Bytes.{words_of_bytes}
 use Rattle.rules.proofs.Laws.Bytes.Bytes.{words_are_16}
 use Rattle.marks.proofs.WordLaws.{ones_of_both}

@@ -1,6 +1,5 @@
 -- `marks::partition` meets its contract.
 use native.Mathlib.Omega.{arith}
-use borrow.Author.Rules.{rules}
 use Rattle.rules.specs.Bytes.{words_of_bytes}
 use Rattle.words.proofs.Laws.{length-words}
 use Rattle.marks.specs.Marks.{marks}
@@ -20,4 +19,4 @@ pub returns : goal.returns
 returns c =
     let split = c.split-u in
     let copied = c.copy_in in
-    split_bytes c.args.l.now (marks (words_of_bytes c.args.m.now)) split.result split.new.l split.new.kept.1.0 copied.new.dst split.ensures split.auto.l c.requires.1 copied.auto.dst copied.ensures.holds
+    split_bytes c.args.l.now (marks (words_of_bytes c.args.m.now)) split.result split.new.l split.new.kept copied.new.dst split.ensures split.auto.l c.requires.1 copied.auto.dst copied.ensures.holds

@@ -1,16 +1,13 @@
 -- `marks::split` meets its contract.
-use Prim.Native.Nat.{◌-◌}
 use native.Mathlib.Omega.{arith}
-use mathlib.Core.Logic.{⊎_elim}
-use mathlib.Core.Path.{◌≡◌, refl, sym, ◌∙◌}
-use lib.ListN.{length, get_or}
-use borrow.Author.Rules.{rules}
+use mathlib.Core.Path.{refl, sym, ◌∙◌}
+use lib.ListN.{get_or}
 use borrow.Author.Tests.{eqb-true}
 use Rattle.rules.specs.Bytes.{words_of_bytes}
 use Rattle.words.proofs.Laws.{length-words}
 use Rattle.marks.specs.Marks.{marks}
 use Rattle.marks.proofs.MarkLaws.{is_unmarked, marks-length}
-use Rattle.marks.proofs.SplitLaws.{Going, going_end, going_marked, going_none, going_unmarked}
+use Rattle.marks.proofs.SplitLaws.{going_end, going_marked, going_none, going_unmarked}
 use Rattle.marks.proofs.split.Goals as goal
 use Rattle.marks.proofs.split.Goals.{then-marked, else-marked}
 
@@ -29,12 +26,12 @@ loop-j-preserved c =
     let many = length-words c.args.l.now in
     let marks_many = length-words c.args.m.now in
     elim c.if-marked.branch [
-      | then-marked w ↦ (rw w.1 loop.invariant.0, rw (w.1, w.2, w.3, x) (going_marked l₀ (marks m) kept₀ (words_of_bytes loop.l) loop.auto loop.j loop.u going (omega arith) (omega arith) (omega arith) (eqb-true (get_or (marks m) loop.j 0) 1 (sym c.marked.ensures ∙ w.if-marked.true))))
-      | else-marked w ↦ (rw w.5 (w.2.kept.0 ∙ loop.invariant.0), rw (w.5, w.6, w.7, w.2.ensures.holds, x) (going_unmarked l₀ (marks m) kept₀ (words_of_bytes loop.l) loop.auto loop.j loop.u going (omega arith) (omega arith) (omega arith) (is_unmarked m loop.j (sym c.marked.ensures ∙ w.if-marked.false))))
+      | then-marked w ↦ (rw w.l-is loop.invariant.0, rw (w.l-is, w.kept-is, w.u-is, x) (going_marked l₀ (marks m) kept₀ (words_of_bytes loop.l) loop.kept loop.j loop.u going (omega arith) (omega arith) (omega arith) (eqb-true (get_or (marks m) loop.j 0) 1 (sym c.marked.ensures ∙ w.if-marked.true))))
+      | else-marked w ↦ (rw w.l-is (w.put_word.auto.t ∙ loop.invariant.0), rw (w.l-is, w.kept-is, w.u-is, w.put_word.ensures.holds, x) (going_unmarked l₀ (marks m) kept₀ (words_of_bytes loop.l) loop.kept loop.j loop.u going (omega arith) (omega arith) (omega arith) (is_unmarked m loop.j (sym c.marked.ensures ∙ w.if-marked.false))))
     ]
 
 pub returns : goal.returns
 returns c =
     let loop = c.loop-j in
     let many = length-words c.args.l.now in
-    going_end (words_of_bytes c.args.l.now) (marks (words_of_bytes c.args.m.now)) c.args.kept.now (words_of_bytes loop.l) loop.auto loop.j loop.u loop.invariant.1 (omega arith)
+    going_end (words_of_bytes c.args.l.now) (marks (words_of_bytes c.args.m.now)) c.args.kept.now (words_of_bytes loop.l) loop.kept loop.j loop.u loop.invariant.1 (omega arith)

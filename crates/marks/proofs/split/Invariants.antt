@@ -1,15 +1,9 @@
 use Prim.Native.Nat.{◌-◌}
-use native.Mathlib.Omega.{arith}
-use mathlib.Core.Logic.{⊎_elim}
-use mathlib.Core.Path.{◌≡◌, refl, sym, ◌∙◌}
-use lib.ListN.{length, get_or}
-use borrow.Author.Rules.{rules}
-use borrow.Author.Tests.{eqb-true}
+use mathlib.Core.Path.{◌≡◌}
+use lib.ListN.{length}
 use Rattle.rules.specs.Bytes.{words_of_bytes}
-use Rattle.words.proofs.Laws.{length-words}
 use Rattle.marks.specs.Marks.{marks}
-use Rattle.marks.proofs.MarkLaws.{is_unmarked, marks-length}
-use Rattle.marks.proofs.SplitLaws.{Going, going_end, going_marked, going_none, going_unmarked}
+use Rattle.marks.proofs.SplitLaws.{Going}
 use Rattle.marks.proofs.split.Given as goal
 
 abbrev pub invariant-loop-j : goal.invariant-loop-j

@@ -1,6 +1,5 @@
 -- `reply::answer` meets its contract.
 use mathlib.Core.Path.{◌∙◌, ap₂}
-use borrow.Author.Rules.{rules}
 use Rattle.reply.specs.Answer.{answer_with}
 use Rattle.reply.proofs.answer.Goals as goal
 

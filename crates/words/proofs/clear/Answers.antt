@@ -1,11 +1,9 @@
 -- `words::clear` meets its contract.
-use Prim.Native.Nat.{◌-◌, ◌≤◌}
 use native.Mathlib.Omega.{arith}
-use mathlib.Core.List.{◌++◌, append-nil}
+use mathlib.Core.List.{append-nil}
 use mathlib.Core.Path.{◌≡◌, ◌∙◌}
-use lib.ListN.{length, drop, length-set, drop_of_length-le, replicate}
+use lib.ListN.{length, length-set, drop_of_length-le}
 use borrow.Author.Fill.{fill_more}
-use borrow.Author.Rules.{rules}
 use Rattle.words.proofs.clear.Goals as goal
 
 pub loop-i-preserved : goal.loop-i-preserved

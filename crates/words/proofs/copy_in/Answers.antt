@@ -1,12 +1,10 @@
 -- `words::copy_in` meets its contract.
-use Prim.Native.Nat.{ℕ, ◌+◌, ◌-◌, ◌≤◌}
+use Prim.Native.Nat.{ℕ, ◌+◌}
 use native.Mathlib.Omega.{arith}
 use mathlib.Core.Path.{◌≡◌, refl, sym, ◌∙◌, ap}
 use lib.ListN.{length, take}
 use lib.Seq.{take_all}
-use borrow.Author.Rules.{rules}
 use Rattle.rules.specs.Bytes.{words_of_bytes}
-use Rattle.words.specs.Written.{Written}
 use Rattle.words.proofs.Copies.{copy_next}
 use Rattle.words.proofs.Laws.{length-words, written_as, written_none, written_then}
 use Rattle.words.proofs.copy_in.Goals as goal

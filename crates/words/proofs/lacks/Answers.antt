@@ -1,11 +1,8 @@
 -- `words::lacks` meets its contract.
-use Prim.Native.Nat.{◌≤◌, ◌-◌}
 use native.Mathlib.Omega.{arith}
-use mathlib.Core.Bool.{◌&&◌, not}
-use mathlib.Core.Logic.{⊎_elim}
-use mathlib.Core.Path.{◌≡◌, ap, refl, sym, ◌∙◌}
+use mathlib.Core.Bool.{not}
+use mathlib.Core.Path.{ap, refl, sym, ◌∙◌}
 use lib.Dec.{eqb}
-use lib.ListN.{drop}
 use borrow.Author.Tests.{eq-eqb, ne_eqb}
 use Rattle.rules.specs.Bytes.{words_of_bytes}
 use Rattle.words.specs.Words.{lacks}
@@ -34,7 +31,7 @@ loop-i-preserved c =
     let loop = c.loop-i in
     let other_word = ap (λ y. not (eqb y x)) (sym c.word.ensures) in
     elim c.if-word-x.branch [
-      then-word-x w ↦ (omega arith, every_broken (λ y. not (eqb y x)) (lacks x words) loop.ok c.if-word-x.ok words loop.i (omega arith) loop.invariant.1 (other_word ∙ ap not (eq-eqb _ _ w.if-word-x.true)) w.ok-is)
+      | then-word-x w ↦ (omega arith, every_broken (λ y. not (eqb y x)) (lacks x words) loop.ok c.if-word-x.ok words loop.i (omega arith) loop.invariant.1 (other_word ∙ ap not (eq-eqb _ _ w.if-word-x.true)) w.ok-is)
       | else-word-x w ↦ (omega arith, every-next (λ y. not (eqb y x)) (lacks x words) loop.ok c.if-word-x.ok words loop.i (omega arith) loop.invariant.1 (other_word ∙ ap not (ne_eqb _ _ w.if-word-x.false)) w.ok-is)
     ]
 

@@ -1,15 +1,9 @@
 use Prim.Native.Nat.{◌≤◌, ◌-◌}
-use native.Mathlib.Omega.{arith}
-use mathlib.Core.Bool.{◌&&◌, not}
-use mathlib.Core.Logic.{⊎_elim}
-use mathlib.Core.Path.{◌≡◌, ap, refl, sym, ◌∙◌}
-use lib.Dec.{eqb}
+use mathlib.Core.Bool.{◌&&◌}
+use mathlib.Core.Path.{◌≡◌}
 use lib.ListN.{drop}
-use borrow.Author.Tests.{eq-eqb, ne_eqb}
 use Rattle.rules.specs.Bytes.{words_of_bytes}
 use Rattle.words.specs.Words.{lacks}
-use Rattle.words.proofs.Laws.{length-words}
-use Rattle.words.proofs.Scan.{every_broken, every_end, every-next}
 use Rattle.words.proofs.lacks.Given as goal
 
 abbrev pub invariant-loop-i : goal.invariant-loop-i

@@ -6,7 +6,6 @@ use mathlib.Core.Path.{◌≡◌, ap}
 use lib.Bits.{and_le_r, and_mask, bit_and}
 use lib.Dec.{lit<}
 use lib.ListN.{length-set, set}
-use borrow.Author.Rules.{rules}
 use Rattle.rules.specs.Bytes.{words_of_bytes}
 use Rattle.words.proofs.Laws.{put_written, written_as}
 use Rattle.words.proofs.put_word.Goals as goal

@@ -1,12 +1,9 @@
 -- `words::shift_left` meets its contract.
-use Prim.Native.Nat.{ℕ, ◌-◌, ◌/◌, ◌≤◌}
+use Prim.Native.Nat.{ℕ, ◌-◌, ◌/◌}
 use native.Mathlib.Omega.{arith}
-use mathlib.Core.List.{◌++◌}
 use mathlib.Core.Path.{◌≡◌, refl, sym, ◌∙◌, ap}
-use lib.ListN.{length, take, drop, set}
-use borrow.Author.Rules.{rules}
+use lib.ListN.{length, set}
 use Rattle.rules.specs.Bytes.{words_of_bytes}
-use Rattle.words.specs.Written.{Written}
 use Rattle.words.proofs.Copies.{move_end, move_next, shift_none, shift_some}
 use Rattle.words.proofs.Laws.{length-words, written_as, written_none, written_then}
 use Rattle.words.proofs.shift_left.Goals as goal

@@ -1,13 +1,9 @@
-use Prim.Native.Nat.{ℕ, ◌-◌, ◌/◌, ◌≤◌}
-use native.Mathlib.Omega.{arith}
+use Prim.Native.Nat.{◌-◌, ◌≤◌}
 use mathlib.Core.List.{◌++◌}
-use mathlib.Core.Path.{◌≡◌, refl, sym, ◌∙◌, ap}
-use lib.ListN.{length, take, drop, set}
-use borrow.Author.Rules.{rules}
+use mathlib.Core.Path.{◌≡◌}
+use lib.ListN.{length, take, drop}
 use Rattle.rules.specs.Bytes.{words_of_bytes}
 use Rattle.words.specs.Written.{Written}
-use Rattle.words.proofs.Copies.{move_end, move_next, shift_none, shift_some}
-use Rattle.words.proofs.Laws.{length-words, written_as, written_none, written_then}
 use Rattle.words.proofs.shift_left.Given as goal
 
 abbrev pub invariant-loop-i : goal.invariant-loop-i

@@ -1,7 +1,4 @@
 -- `words::word` meets its contract.
-use Prim.Native.Nat.{◌+◌, ◌*◌}
-use native.Mathlib.Omega.{arith}
-use borrow.Author.Rules.{rules}
 use Rattle.words.proofs.Laws.{word_at}
 use Rattle.words.proofs.word.Goals as goal
 

@@ -1,11 +1,7 @@
 -- `words::zeros` meets its contract.
-use Prim.Native.Nat.{◌+◌, ◌≤◌, ◌-◌}
 use native.Mathlib.Omega.{arith}
-use mathlib.Core.Logic.{⊎_elim}
-use mathlib.Core.Path.{◌≡◌, ap, sym, ◌∙◌}
+use mathlib.Core.Path.{ap, sym, ◌∙◌}
 use lib.Dec.{eqb}
-use lib.ListN.{drop}
-use borrow.Author.Rules.{rules}
 use borrow.Author.Tests.{eq-eqb, ne_eqb}
 use Rattle.rules.specs.Bytes.{words_of_bytes}
 use Rattle.words.specs.Words.{zeros_in}
@@ -24,7 +20,7 @@ loop-i-preserved c =
     let loop = c.loop-i in
     let is_zero = ap (λ x. eqb x 0) (sym c.word.ensures) in
     elim c.if-word-eq0.branch [
-      then-word-eq0 w ↦ (omega arith, omega (arith, w.found-is, loop.invariant.1), zeros-found (zeros_in words) loop.found c.if-word-eq0.found words loop.i (omega arith) loop.invariant.2 (is_zero ∙ eq-eqb _ _ w.if-word-eq0.true) w.found-is)
+      | then-word-eq0 w ↦ (omega arith, omega (arith, w.found-is, loop.invariant.1), zeros-found (zeros_in words) loop.found c.if-word-eq0.found words loop.i (omega arith) loop.invariant.2 (is_zero ∙ eq-eqb _ _ w.if-word-eq0.true) w.found-is)
       | else-word-eq0 w ↦ (omega arith, omega (arith, w.found-is, loop.invariant.1), zeros_passed (zeros_in words) loop.found c.if-word-eq0.found words loop.i (omega arith) loop.invariant.2 (is_zero ∙ ne_eqb _ _ w.if-word-eq0.false) w.found-is)
     ]
 
