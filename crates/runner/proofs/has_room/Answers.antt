@@ -4,10 +4,8 @@ use mathlib.Core.Bool.{Bool, true, false}
 use mathlib.Core.Path.{◌≡◌, refl, sym}
 use Prim.Native.Nat.{ℕ, ◌+◌, ◌*◌, ◌/◌}
 use lib.Dec.{leb, ltb}
-use borrow.Author.Rules.{rules}
 use borrow.Author.Tests.{le-leb, lt-leb, ltb-false, ltb-true}
-use Rattle.runner.proofs.has_room.Statement.{statement}
-use Rattle.runner.proofs.has_room.Tie as tie
+use Rattle.runner.proofs.has_room.Goals as goal
 
 -- the steps and the replies that fit, compared in pieces of 4 bytes
 same_test : (sent lent : ℕ) → ltb (sent / 4) (3 * (lent / 4) + 3) ≡ leb (2 * (sent / 2 / 6)) (lent / 2)
@@ -17,14 +15,5 @@ same_test sent lent = by_test (ltb (sent / 4) (3 * (lent / 4) + 3)) refl
     by_test true e = sym (le-leb (2 * (sent / 2 / 6)) (lent / 2) (omega (arith, ltb-true (sent / 4) (3 * (lent / 4) + 3) e)))
     by_test false e = sym (lt-leb (2 * (sent / 2 / 6)) (lent / 2) (omega (arith, ltb-false (sent / 4) (3 * (lent / 4) + 3) e)))
 
-mul-result : tie.Need-overflow-mul-result
-mul-result c = search rules
-
-add_result : tie.Need-overflow-add-result
-add_result c = search rules
-
-returns : tie.Need-returns
+pub returns : goal.returns
 returns c = same_test c.args.sent c.args.lent
-
-pub has_room_spec : {M : Type 1} → statement M
-has_room_spec = tie.close (tie.spec mul-result add_result returns)
