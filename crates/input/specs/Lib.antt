@@ -1,2 +1,3 @@
--- The definition that the contract of this crate cites.
+-- The definitions that the contracts of this crate cite.
 pub mod Input
+pub mod Line
