@@ -1,3 +1,2 @@
--- The definitions that the contracts of this crate cite.
+-- The definitions that the contract of this crate cites.
 pub mod Input
-pub mod Line
