@@ -13,7 +13,6 @@ use Rattle.marks.proofs.SlotLaws.{find_end, find_found, find_lacking, find_marke
 use Rattle.ring_rules.specs.Ring.{rotate}
 use Rattle.ring_desk.proofs.AroundLaws.{around_inside, around-length, around_word}
 use Rattle.ring_desk.proofs.find_around.Goals as goal
-use Rattle.ring_desk.proofs.find_around.Goals.at
 use Rattle.ring_desk.proofs.find_around.Goals.{then-word-x+else-not-marked, else-word-x, Start}
 
 -- the slots that are gone through, and the marks
@@ -35,13 +34,13 @@ marks_many o = omega (arith, marks-length (words_of_bytes o.args.m.now), length-
 
 pub returns-then-a-n : goal.returns-then-a-n
 returns-then-a-n c =
-    c.find_slot.ensures ∙ ap (λ (part : List ℕ). find_slot c.args.x part (marks_of_lem (at.returns-then-a-n c).Start))
-    (words-part c.args.a (c.args.a + c.args.n) c.args.l.now ∙ sym (around_inside c.args.s c.args.a (words_of_bytes c.args.l.now) (list_long (at.returns-then-a-n c).Start) c.requires.2 c.args.n c.if-a-n.true))
+    c.find_slot.ensures ∙ ap (λ (part : List ℕ). find_slot c.args.x part (marks_of_lem (goal.at.returns-then-a-n c).Start))
+    (words-part c.args.a (c.args.a + c.args.n) c.args.l.now ∙ sym (around_inside c.args.s c.args.a (words_of_bytes c.args.l.now) (list_long (goal.at.returns-then-a-n c).Start) c.requires.2 c.args.n c.if-a-n.true))
 
 pub returns-then-lacks_around : goal.returns-then-lacks_around
 returns-then-lacks_around c =
-    sym (slots-long (at.returns-then-lacks_around c).Start)
-    ∙ find_lacking c.args.x (slots (at.returns-then-lacks_around c).Start) (marks_of_lem (at.returns-then-lacks_around c).Start) (omega (arith, slots-long (at.returns-then-lacks_around c).Start, marks_many (at.returns-then-lacks_around c).Start))
+    sym (slots-long (goal.at.returns-then-lacks_around c).Start)
+    ∙ find_lacking c.args.x (slots (goal.at.returns-then-lacks_around c).Start) (marks_of_lem (goal.at.returns-then-lacks_around c).Start) (omega (arith, slots-long (goal.at.returns-then-lacks_around c).Start, marks_many (goal.at.returns-then-lacks_around c).Start))
     (sym c.lacks_around.ensures ∙ c.if-lacks_around.true)
 
 pub loop-j-init : goal.loop-j-init
@@ -61,10 +60,10 @@ returns-then-not-marked c =
     let j = c.loop-j.j in
     let x = c.args.x in
     let below = c.loop-j-test.true in
-    let session = around_word c.args.s c.args.a (words_of_bytes c.args.l.now) (list_long (at.returns-then-not-marked c).Start) c.requires.2 c.args.n j c.slot_after-p.result
+    let session = around_word c.args.s c.args.a (words_of_bytes c.args.l.now) (list_long (goal.at.returns-then-not-marked c).Start) c.requires.2 c.args.n j c.slot_after-p.result
     c.requires.3 below c.slot_after-p.ensures.0 in
-    find_found x (find_slot x (slots (at.returns-then-not-marked c).Start) (marks_of_lem (at.returns-then-not-marked c).Start)) (slots (at.returns-then-not-marked c).Start) (marks_of_lem (at.returns-then-not-marked c).Start) j
-    (omega (arith, slots-long (at.returns-then-not-marked c).Start, below)) (omega (arith, marks_many (at.returns-then-not-marked c).Start, below)) c.loop-j.invariant.1
+    find_found x (find_slot x (slots (goal.at.returns-then-not-marked c).Start) (marks_of_lem (goal.at.returns-then-not-marked c).Start)) (slots (goal.at.returns-then-not-marked c).Start) (marks_of_lem (goal.at.returns-then-not-marked c).Start) j
+    (omega (arith, slots-long (goal.at.returns-then-not-marked c).Start, below)) (omega (arith, marks_many (goal.at.returns-then-not-marked c).Start, below)) c.loop-j.invariant.1
     (sym session ∙ sym c.word.ensures ∙ c.if-word-x.true)
     (is_unmarked (words_of_bytes c.args.m.now) j (sym c.marked.ensures ∙ c.if-not-marked.true))
 
@@ -72,21 +71,21 @@ pub loop-j-preserved : goal.loop-j-preserved
 loop-j-preserved c =
     let j = c.loop-j.j in
     let x = c.args.x in
-    let n = find_slot x (slots (at.loop-j-preserved c).Start) (marks_of_lem (at.loop-j-preserved c).Start) in
+    let n = find_slot x (slots (goal.at.loop-j-preserved c).Start) (marks_of_lem (goal.at.loop-j-preserved c).Start) in
     let below = c.loop-j-test.true in
-    let in_slots : j < length (slots (at.loop-j-preserved c).Start) = omega (arith, slots-long (at.loop-j-preserved c).Start, below) in
-    let in_marks : j < length (marks_of_lem (at.loop-j-preserved c).Start) = omega (arith, marks_many (at.loop-j-preserved c).Start, below) in
-    let session = around_word c.args.s c.args.a (words_of_bytes c.args.l.now) (list_long (at.loop-j-preserved c).Start) c.requires.2 c.args.n j c.slot_after-p.result
+    let in_slots : j < length (slots (goal.at.loop-j-preserved c).Start) = omega (arith, slots-long (goal.at.loop-j-preserved c).Start, below) in
+    let in_marks : j < length (marks_of_lem (goal.at.loop-j-preserved c).Start) = omega (arith, marks_many (goal.at.loop-j-preserved c).Start, below) in
+    let session = around_word c.args.s c.args.a (words_of_bytes c.args.l.now) (list_long (goal.at.loop-j-preserved c).Start) c.requires.2 c.args.n j c.slot_after-p.result
     c.requires.3 below c.slot_after-p.ensures.0 in (
       omega arith,
       elim c.if-word-x.branch [
-        | then-word-x+else-not-marked w ↦ let is_marked = eqb-true (get_or (marks_of_lem (at.loop-j-preserved c).Start) j 0) 1 (sym w.marked.ensures ∙ w.if-not-marked.false) in
-            find_marked x n (slots (at.loop-j-preserved c).Start) (marks_of_lem (at.loop-j-preserved c).Start) j in_slots in_marks c.loop-j.invariant.1 (λ z. omega arith)
-        | else-word-x w ↦ find_other x n (slots (at.loop-j-preserved c).Start) (marks_of_lem (at.loop-j-preserved c).Start) j in_slots in_marks c.loop-j.invariant.1 (λ z. w.if-word-x.false (c.word.ensures ∙ session ∙ z))
+        | then-word-x+else-not-marked w ↦ let is_marked = eqb-true (get_or (marks_of_lem (goal.at.loop-j-preserved c).Start) j 0) 1 (sym w.marked.ensures ∙ w.if-not-marked.false) in
+            find_marked x n (slots (goal.at.loop-j-preserved c).Start) (marks_of_lem (goal.at.loop-j-preserved c).Start) j in_slots in_marks c.loop-j.invariant.1 (λ z. omega arith)
+        | else-word-x w ↦ find_other x n (slots (goal.at.loop-j-preserved c).Start) (marks_of_lem (goal.at.loop-j-preserved c).Start) j in_slots in_marks c.loop-j.invariant.1 (λ z. w.if-word-x.false (c.word.ensures ∙ session ∙ z))
       ],
     )
 
 pub returns : goal.returns
 returns c =
-    find_end c.args.x (find_slot c.args.x (slots (at.returns c).Start) (marks_of_lem (at.returns c).Start)) (slots (at.returns c).Start) (marks_of_lem (at.returns c).Start) c.loop-j.j
-    (omega (arith, slots-long (at.returns c).Start, c.loop-j-test.false)) c.loop-j.invariant.1
+    find_end c.args.x (find_slot c.args.x (slots (goal.at.returns c).Start) (marks_of_lem (goal.at.returns c).Start)) (slots (goal.at.returns c).Start) (marks_of_lem (goal.at.returns c).Start) c.loop-j.j
+    (omega (arith, slots-long (goal.at.returns c).Start, c.loop-j-test.false)) c.loop-j.invariant.1

@@ -18,7 +18,6 @@ use Rattle.ring_desk.proofs.RingParts.{lent_words}
 use Rattle.ring_desk.proofs.RingCollect.{tested_fits}
 use Rattle.ring_desk.proofs.RingSettle.{marked_count, parted_same, parted_stores, ring-counted}
 use Rattle.ring_desk.proofs.part_tested_ring.Goals as goal
-use Rattle.ring_desk.proofs.part_tested_ring.Goals.at
 use Rattle.ring_desk.proofs.part_tested_ring.Goals.{Start, After-ones-kept}
 
 -- the record in words
@@ -27,9 +26,9 @@ words o = words_of_bytes o.args.r.now
 
 -- the marks and their count
 known : (c : After-ones-kept) →
-    Counted c.args.s (linear c.args.s (words (at.After-ones-kept c).Start)) c.ones-kept.result (words_of_bytes c.mark_bytes-m.result)
+    Counted c.args.s (linear c.args.s (words (goal.at.After-ones-kept c).Start)) c.ones-kept.result (words_of_bytes c.mark_bytes-m.result)
 known c =
-    ring-counted c.args.s (words (at.After-ones-kept c).Start) c.requires.0 (words_are_16 c.args.r.now (search rules)) c.ones-kept.result
+    ring-counted c.args.s (words (goal.at.After-ones-kept c).Start) c.requires.0 (words_are_16 c.args.r.now (search rules)) c.ones-kept.result
     (words_of_bytes c.mark_bytes-m.result)
     (ap words_of_bytes c.mark_bytes-m.ensures ∙ words-part marks_offset list_offset c.args.r.now) c.ones-kept.ensures
 
@@ -42,8 +41,8 @@ mark_bytes-m-requires c = mid_len (2 * marks_offset) (2 * list_offset) c.args.r.
 
 pub returns-then-kept-eq0 : goal.returns-then-kept-eq0
 returns-then-kept-eq0 c =
-    let kept = marked_count c.args.s (words (at.returns-then-kept-eq0 c).Start) c.requires.0 c.ones-kept.result (words_of_bytes c.mark_bytes-m.result) (known (at.returns-then-kept-eq0 c).After-ones-kept) in
-    (sym c.if-kept-eq0.true ∙ kept, parted_same c.args.s (words (at.returns-then-kept-eq0 c).Start) c.requires.0 (sym kept ∙ c.if-kept-eq0.true))
+    let kept = marked_count c.args.s (words (goal.at.returns-then-kept-eq0 c).Start) c.requires.0 c.ones-kept.result (words_of_bytes c.mark_bytes-m.result) (known (goal.at.returns-then-kept-eq0 c).After-ones-kept) in
+    (sym c.if-kept-eq0.true ∙ kept, parted_same c.args.s (words (goal.at.returns-then-kept-eq0 c).Start) c.requires.0 (sym kept ∙ c.if-kept-eq0.true))
 
 pub first_tested-first-requires : goal.first_tested-first-requires
 first_tested-first-requires c = (c.requires.0, c.requires.1)
@@ -66,9 +65,9 @@ slice_bounds-partition_around-end c = omega (arith, c.requires.1)
 pub partition_around-requires : goal.partition_around-requires
 partition_around-requires c = (
   c.requires.0.reads.bounded,
-  mid_len (2 * list_offset) (2 * (list_offset + 2 * c.args.s)) c.args.r.now (whole (at.partition_around-requires c).Start) ∙ omega arith,
+  mid_len (2 * list_offset) (2 * (list_offset + 2 * c.args.s)) c.args.r.now (whole (goal.at.partition_around-requires c).Start) ∙ omega arith,
   c.first_tested-first.ensures.1,
-  omega (arith, c.count-tested.ensures, tested_fits c.args.s (words (at.partition_around-requires c).Start) c.requires.0),
+  omega (arith, c.count-tested.ensures, tested_fits c.args.s (words (goal.at.partition_around-requires c).Start) c.requires.0),
   omega (arith, ap length c.mark_bytes-m.ensures, mid_len (2 * marks_offset) (2 * list_offset) c.args.r.now (omega (arith, c.requires.1))),
 )
 
@@ -83,9 +82,9 @@ returns c =
     let after = put_mid (2 * list_offset) (2 * (list_offset + 2 * s) - 2 * list_offset) bytes part in
     let same : length after ≡ length bytes =
     same_len_mid {X = ℕ} (2 * list_offset) (2 * (list_offset + 2 * s) - 2 * list_offset) bytes part c.partition_around.auto.l in
-    let wide = c.partition_around.auto.l ∙ mid_len (2 * list_offset) (2 * (list_offset + 2 * s)) bytes (whole (at.returns c).Start) in
+    let wide = c.partition_around.auto.l ∙ mid_len (2 * list_offset) (2 * (list_offset + 2 * s)) bytes (whole (goal.at.returns c).Start) in
     let many : length (words_of_bytes part) ≡ 2 * s = omega (arith, length-words part, wide) in
-    let list = words_put list_offset (list_offset + 2 * s) bytes part (omega arith) (whole (at.returns c).Start) wide in
+    let list = words_put list_offset (list_offset + 2 * s) bytes part (omega arith) (whole (goal.at.returns c).Start) wide in
     let parted =
     subst (λ (slots : List ℕ). Parted slots (marks m) a n (words_of_bytes part)) (lent_words s bytes) c.partition_around.ensures in
     let fits : 2 * list_offset ≤ length after = omega (arith, same, c.requires.1) in
@@ -93,8 +92,8 @@ returns c =
     let all_marks_lem : 2 * list_offset - 2 * marks_offset ≡ 2 * mark_words = omega arith in
     let cleared = ap words_of_bytes (c.clear.ensures ∙ ap (λ (k : ℕ). replicate k 0) (sixteen ∙ all_marks_lem)) ∙ zero_words mark_words in
     let zeros = words_put marks_offset list_offset after c.clear.new.l (omega arith) fits (c.clear.auto.l ∙ sixteen) in (
-      marked_count s (words (at.returns c).Start) c.requires.0 c.ones-kept.result m (known (at.returns c).After-ones-kept),
+      marked_count s (words (goal.at.returns c).Start) c.requires.0 c.ones-kept.result m (known (goal.at.returns c).After-ones-kept),
       zeros ∙ ap (λ (l : List ℕ). put_mid marks_offset mark_words l (words_of_bytes c.clear.new.l)) list
-          ∙ parted_stores s (words (at.returns c).Start) c.requires.0 a n c.ones-kept.result m c.count-tested.ensures.0 c.first_tested-first.ensures.0 (known (at.returns c).After-ones-kept)
+          ∙ parted_stores s (words (goal.at.returns c).Start) c.requires.0 a n c.ones-kept.result m c.count-tested.ensures.0 c.first_tested-first.ensures.0 (known (goal.at.returns c).After-ones-kept)
           (words_of_bytes part) (words_of_bytes c.clear.new.l) many parted cleared,
     )

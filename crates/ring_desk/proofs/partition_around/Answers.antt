@@ -10,7 +10,6 @@ use Rattle.marks.specs.Marks.{marks}
 use Rattle.ring_desk.specs.Around.{Parted}
 use Rattle.ring_desk.proofs.AroundLaws.{parted_inside, room-length}
 use Rattle.ring_desk.proofs.partition_around.Goals as goal
-use Rattle.ring_desk.proofs.partition_around.Goals.at
 use Rattle.ring_desk.proofs.partition_around.Goals.{Start}
 
 -- the room for the copy
@@ -31,15 +30,15 @@ pub slice_bounds-part-end : goal.slice_bounds-part-end
 slice_bounds-part-end c = omega (arith, c.requires.0, c.requires.3)
 
 pub slice_bounds-partition_in-end : goal.slice_bounds-partition_in-end
-slice_bounds-partition_in-end c = sym (room (at.slice_bounds-partition_in-end c).Start)
+slice_bounds-partition_in-end c = sym (room (goal.at.slice_bounds-partition_in-end c).Start)
 
 pub partition_in-requires : goal.partition_in-requires
-partition_in-requires c = (c.requires.0, c.requires.1, c.requires.2, omega (arith, room (at.partition_in-requires c).Start, c.requires.3), omega (arith, room (at.partition_in-requires c).Start), c.requires.4)
+partition_in-requires c = (c.requires.0, c.requires.1, c.requires.2, omega (arith, room (goal.at.partition_in-requires c).Start, c.requires.3), omega (arith, room (goal.at.partition_in-requires c).Start), c.requires.4)
 
 pub returns : goal.returns
 returns c =
     let n = c.args.n in
     let many : length (words_of_bytes (take (2 * n) (replicate {A = ℕ} 256 0))) ≡ n =
-    omega (arith, length-words (take (2 * n) (replicate {A = ℕ} 256 0)), room (at.returns c).Start) in
+    omega (arith, length-words (take (2 * n) (replicate {A = ℕ} 256 0)), room (goal.at.returns c).Start) in
     subst (λ (k : ℕ). Parted (words_of_bytes c.args.l.now) (marks (words_of_bytes c.args.m.now)) c.args.a k (words_of_bytes c.partition_in.new.l))
     many c.partition_in.ensures

@@ -14,7 +14,6 @@ use Rattle.ring_rules.specs.Ring.{rotate}
 use Rattle.ring_desk.proofs.RingParts.{lent_words}
 use Rattle.ring_desk.proofs.RingCollect.{mark_stores, scanned-count, slot_unmarked, tested_fits, unmarked_stores}
 use Rattle.ring_desk.proofs.read_screen_ring.Goals as goal
-use Rattle.ring_desk.proofs.read_screen_ring.Goals.at
 use Rattle.ring_desk.proofs.read_screen_ring.Goals.{then-j-n, else-j-n, Start, After-find_around-j, Joined-j-n}
 
 -- the record in words
@@ -24,7 +23,7 @@ words o = words_of_bytes o.args.r.now
 -- the slot that is found
 found : (c : After-find_around-j) →
     c.find_around-j.result
-    ≡ find_slot c.args.x (take c.count-n.result (rotate c.first_tested-a.result (slots_in c.args.s (words (at.After-find_around-j c).Start)))) (marks (mark_words_in (words (at.After-find_around-j c).Start)))
+    ≡ find_slot c.args.x (take c.count-n.result (rotate c.first_tested-a.result (slots_in c.args.s (words (goal.at.After-find_around-j c).Start)))) (marks (mark_words_in (words (goal.at.After-find_around-j c).Start)))
 found c =
     c.find_around-j.ensures
     ∙ ap₂ (λ (l m : List ℕ). find_slot c.args.x (take c.count-n.result (rotate c.first_tested-a.result l)) (marks m))
@@ -63,28 +62,28 @@ find_around-j-requires c =
       c.requires.0.reads.bounded,
       mid_len (2 * list_offset) (2 * (list_offset + 2 * c.args.s)) c.args.r.now most ∙ omega arith,
       c.first_tested-a.ensures.1,
-      omega (arith, c.count-n.ensures, tested_fits c.args.s (words (at.find_around-j-requires c).Start) c.requires.0),
+      omega (arith, c.count-n.ensures, tested_fits c.args.s (words (goal.at.find_around-j-requires c).Start) c.requires.0),
       mid_len (2 * marks_offset) (2 * list_offset) c.args.r.now (omega (arith, c.requires.1)) ∙ omega arith,
     )
 
 pub mark_slot-requires : goal.mark_slot-requires
 mark_slot-requires c =
     let sixteen = mid_len (2 * marks_offset) (2 * list_offset) c.args.r.now (omega (arith, c.requires.1)) in
-    let free = slot_unmarked c.args.s (words (at.mark_slot-requires c).Start) c.requires.0 c.args.x c.count-n.result c.first_tested-a.result c.find_around-j.result
-    c.count-n.ensures.0 c.first_tested-a.ensures.0 (found (at.mark_slot-requires c).After-find_around-j) c.if-j-n.true in (
+    let free = slot_unmarked c.args.s (words (goal.at.mark_slot-requires c).Start) c.requires.0 c.args.x c.count-n.result c.first_tested-a.result c.find_around-j.result
+    c.count-n.ensures.0 c.first_tested-a.ensures.0 (found (goal.at.mark_slot-requires c).After-find_around-j) c.if-j-n.true in (
       sixteen ∙ omega arith,
-      omega (arith, c.if-j-n.true, c.count-n.ensures, tested_fits c.args.s (words (at.mark_slot-requires c).Start) c.requires.0, c.requires.0.reads.bounded),
+      omega (arith, c.if-j-n.true, c.count-n.ensures, tested_fits c.args.s (words (goal.at.mark_slot-requires c).Start) c.requires.0, c.requires.0.reads.bounded),
       ap (λ (m : List ℕ). get_or (marks m) c.find_around-j.result 0) (words-part marks_offset list_offset c.args.r.now) ∙ free,
     )
 
 pub overflow_add-k : goal.overflow_add-k
-overflow_add-k c = omega (arith, c.word-k.ensures, scanned-count c.args.s (words (at.overflow_add-k c).Start) c.requires.0, c.requires.2)
+overflow_add-k c = omega (arith, c.word-k.ensures, scanned-count c.args.s (words (goal.at.overflow_add-k c).Start) c.requires.0, c.requires.2)
 
 pub put_word-requires : goal.put_word-requires
-put_word-requires c = omega (arith, same (at.put_word-requires c).Joined-j-n, c.requires.1)
+put_word-requires c = omega (arith, same (goal.at.put_word-requires c).Joined-j-n, c.requires.1)
 
 pub shape_of-r : goal.shape_of-r
-shape_of-r c = c.put_word.auto.t ∙ same (at.shape_of-r c).Joined-j-n
+shape_of-r c = c.put_word.auto.t ∙ same (goal.at.shape_of-r c).Joined-j-n
 
 pub returns : goal.returns
 returns c =
@@ -93,14 +92,14 @@ returns c =
     let j = c.find_around-j.result in
     let given = c.requires.0 in
     let fits : 2 * list_offset ≤ length bytes = omega (arith, c.requires.1) in
-    let is = found (at.returns c).After-find_around-j in
+    let is = found (goal.at.returns c).After-find_around-j in
     elim c.if-j-n.branch [
       | then-j-n w ↦ let marked = w.mark_slot.ensures.holds ∙ ap (λ (m : List ℕ). mark_slot m j) (words-part marks_offset list_offset bytes) in
           let put = words_put marks_offset list_offset bytes w.mark_slot.new.m (omega arith) fits (w.mark_slot.auto.m ∙ mid_len (2 * marks_offset) (2 * list_offset) bytes fits) in
-          c.put_word.ensures.holds ∙ ap₂ (λ (l : List ℕ) (k : ℕ). set l 1 (k + 1)) (ap words_of_bytes w.r-is ∙ put ∙ ap (put_mid marks_offset mark_words (words (at.returns c).Start)) marked) c.word-k.ensures
-          ∙ mark_stores s (words (at.returns c).Start) given c.args.x c.count-n.result c.first_tested-a.result j
+          c.put_word.ensures.holds ∙ ap₂ (λ (l : List ℕ) (k : ℕ). set l 1 (k + 1)) (ap words_of_bytes w.r-is ∙ put ∙ ap (put_mid marks_offset mark_words (words (goal.at.returns c).Start)) marked) c.word-k.ensures
+          ∙ mark_stores s (words (goal.at.returns c).Start) given c.args.x c.count-n.result c.first_tested-a.result j
           c.count-n.ensures.0 c.first_tested-a.ensures.0 is w.if-j-n.true
       | else-j-n w ↦ c.put_word.ensures.holds ∙ ap₂ (λ (l : List ℕ) (k : ℕ). set l 1 (k + 1)) (ap words_of_bytes w.r-is) c.word-k.ensures
-          ∙ unmarked_stores s (words (at.returns c).Start) given c.args.x c.count-n.result c.first_tested-a.result j
+          ∙ unmarked_stores s (words (goal.at.returns c).Start) given c.args.x c.count-n.result c.first_tested-a.result j
           c.count-n.ensures.0 c.first_tested-a.ensures.0 is (omega (arith, w.if-j-n.false))
     ]

@@ -13,7 +13,6 @@ use Rattle.rules.specs.Table.{list_offset}
 use Rattle.ring_rules.specs.Ring.{decode_ring, slot_after}
 use Rattle.ring_desk.proofs.RingCollect.{owed_word, retire_stores, used-count}
 use Rattle.ring_desk.proofs.retire_ring.Goals as goal
-use Rattle.ring_desk.proofs.retire_ring.Goals.at
 use Rattle.ring_desk.proofs.retire_ring.Goals.{Start, Else-owed-eq0, After-used_slots-n}
 
 -- the desk that the call finds
@@ -22,26 +21,26 @@ found o = decode_ring o.args.s (words_of_bytes o.args.r.now)
 
 -- a session is owed
 owes : (c : Else-owed-eq0) →
-    eqb (found (at.Else-owed-eq0 c).Start).owed 0 ≡ false
+    eqb (found (goal.at.Else-owed-eq0 c).Start).owed 0 ≡ false
 owes c =
-    ne_eqb (found (at.Else-owed-eq0 c).Start).owed 0 (λ z. c.if-owed-eq0.false (c.word-owed.ensures ∙ owed_word c.args.s (words_of_bytes c.args.r.now) c.requires.0 ∙ z))
+    ne_eqb (found (goal.at.Else-owed-eq0 c).Start).owed 0 (λ z. c.if-owed-eq0.false (c.word-owed.ensures ∙ owed_word c.args.s (words_of_bytes c.args.r.now) c.requires.0 ∙ z))
 
 -- the slots that are used
 used : (c : After-used_slots-n) →
-    c.used_slots-n.result ≡ used_slots (found (at.After-used_slots-n c).Start)
+    c.used_slots-n.result ≡ used_slots (found (goal.at.After-used_slots-n c).Start)
 used c =
     c.used_slots-n.ensures.0 ∙ used-count c.args.s (words_of_bytes c.args.r.now) c.requires.0
 
 pub returns-then-owed-eq0 : goal.returns-then-owed-eq0
 returns-then-owed-eq0 c =
-    let none : eqb (found (at.returns-then-owed-eq0 c).Start).owed 0 ≡ _ =
-    eq-eqb (found (at.returns-then-owed-eq0 c).Start).owed 0 (sym (owed_word c.args.s (words_of_bytes c.args.r.now) c.requires.0) ∙ sym c.word-owed.ensures ∙ c.if-owed-eq0.true) in
+    let none : eqb (found (goal.at.returns-then-owed-eq0 c).Start).owed 0 ≡ _ =
+    eq-eqb (found (goal.at.returns-then-owed-eq0 c).Start).owed 0 (sym (owed_word c.args.s (words_of_bytes c.args.r.now) c.requires.0) ∙ sym c.word-owed.ensures ∙ c.if-owed-eq0.true) in
     record { number = simp none; session = refl; after = refl }
 
 pub returns-then-s-n : goal.returns-then-s-n
 returns-then-s-n c =
     record {
-      number = simp (owes (at.returns-then-s-n c).Else-owed-eq0, le-ltb (used_slots (found (at.returns-then-s-n c).Start)) (2 * c.args.s) (omega (arith, used (at.returns-then-s-n c).After-used_slots-n, c.if-s-n.true)));
+      number = simp (owes (goal.at.returns-then-s-n c).Else-owed-eq0, le-ltb (used_slots (found (goal.at.returns-then-s-n c).Start)) (2 * c.args.s) (omega (arith, used (goal.at.returns-then-s-n c).After-used_slots-n, c.if-s-n.true)));
       session = refl;
       after = refl;
     }
@@ -69,8 +68,8 @@ returns c =
     let stored = c.put_word-3.ensures.holds
     ∙ ap (λ (x : List _). set x 0 0) (c.put_word-2.ensures.holds ∙ ap (λ (x : List _). set x 4 (waiting + 1)) c.put_word.ensures.holds) in
     record {
-      number = simp (owes (at.returns c).Else-owed-eq0, lt-ltb (used_slots (found (at.returns c).Start)) (2 * s) (omega (arith, used (at.returns c).After-used_slots-n, c.if-s-n.false)));
+      number = simp (owes (goal.at.returns c).Else-owed-eq0, lt-ltb (used_slots (found (goal.at.returns c).Start)) (2 * s) (omega (arith, used (goal.at.returns c).After-used_slots-n, c.if-s-n.false)));
       session = c.word-owed.ensures ∙ owed_word s words c.requires.0;
       after = stored ∙ (λ i. set (set (set words (list_offset + p) (c.word-owed.ensures i)) 4 (c.word-waiting.ensures i + 1)) 0 0)
-          ∙ retire_stores s words c.requires.0 n p (used (at.returns c).After-used_slots-n) (omega (arith, c.if-s-n.false)) slot;
+          ∙ retire_stores s words c.requires.0 n p (used (goal.at.returns c).After-used_slots-n) (omega (arith, c.if-s-n.false)) slot;
     }

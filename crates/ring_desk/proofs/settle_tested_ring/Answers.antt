@@ -13,7 +13,6 @@ use Rattle.ring_rules.specs.Ring.{beginning_in, decode_ring}
 use Rattle.ring_desk.proofs.RingCollect.{ready_count, tested_count, waiting_count}
 use Rattle.ring_desk.proofs.RingSettle.{parted-length, settled_stores}
 use Rattle.ring_desk.proofs.settle_tested_ring.Goals as goal
-use Rattle.ring_desk.proofs.settle_tested_ring.Goals.at
 use Rattle.ring_desk.proofs.settle_tested_ring.Goals.{Start, After-count-w}
 
 -- the desk that the call finds
@@ -22,9 +21,9 @@ found o = decode_ring o.args.s (words_of_bytes o.args.r.now)
 
 -- its counts, as the code has them
 record Counts (c : After-count-w) : Type 0 where
-  pub ready : c.count-a.result ≡ length (found (at.After-count-w c).Start).ready
-  pub tested : c.count-b.result ≡ length (found (at.After-count-w c).Start).tested
-  pub waiting : c.count-w.result ≡ length (found (at.After-count-w c).Start).waiting
+  pub ready : c.count-a.result ≡ length (found (goal.at.After-count-w c).Start).ready
+  pub tested : c.count-b.result ≡ length (found (goal.at.After-count-w c).Start).tested
+  pub waiting : c.count-w.result ≡ length (found (goal.at.After-count-w c).Start).waiting
 
 counts : (c : After-count-w) → Counts c
 counts c =
@@ -40,30 +39,30 @@ part_tested_ring-kept-requires c = c.requires
 
 pub overflow_sub-b : goal.overflow_sub-b
 overflow_sub-b c =
-    let known = counts (at.overflow_sub-b c).After-count-w in
-    omega (arith, known.tested, c.part_tested_ring-kept.ensures.0, unmarked_and_marked (found (at.overflow_sub-b c).Start).tested)
+    let known = counts (goal.at.overflow_sub-b c).After-count-w in
+    omega (arith, known.tested, c.part_tested_ring-kept.ensures.0, unmarked_and_marked (found (goal.at.overflow_sub-b c).Start).tested)
 
 pub overflow_cast-a : goal.overflow_cast-a
 overflow_cast-a c =
-    let known = counts (at.overflow_cast-a c).After-count-w in
+    let known = counts (goal.at.overflow_cast-a c).After-count-w in
     omega (arith, known.ready, known.tested, c.requires.0.reads.bounded, c.requires.0.reads.room)
 
 pub overflow_add-w : goal.overflow_add-w
 overflow_add-w c =
-    let known = counts (at.overflow_add-w c).After-count-w in
-    omega (arith, known.waiting, c.part_tested_ring-kept.ensures.0, unmarked_and_marked (found (at.overflow_add-w c).Start).tested, c.requires.0.reads.bounded, c.requires.0.reads.room)
+    let known = counts (goal.at.overflow_add-w c).After-count-w in
+    omega (arith, known.waiting, c.part_tested_ring-kept.ensures.0, unmarked_and_marked (found (goal.at.overflow_add-w c).Start).tested, c.requires.0.reads.bounded, c.requires.0.reads.room)
 
 pub overflow_cast-w : goal.overflow_cast-w
 overflow_cast-w c =
-    let known = counts (at.overflow_cast-w c).After-count-w in
-    omega (arith, known.waiting, c.part_tested_ring-kept.ensures.0, unmarked_and_marked (found (at.overflow_cast-w c).Start).tested, c.requires.0.reads.bounded, c.requires.0.reads.room)
+    let known = counts (goal.at.overflow_cast-w c).After-count-w in
+    omega (arith, known.waiting, c.part_tested_ring-kept.ensures.0, unmarked_and_marked (found (goal.at.overflow_cast-w c).Start).tested, c.requires.0.reads.bounded, c.requires.0.reads.room)
 
 pub returns : goal.returns
 returns c =
     let s = c.args.s in
     let words = words_of_bytes c.args.r.now in
-    let D = found (at.returns c).Start in
-    let known = counts (at.returns c).After-count-w in
+    let D = found (goal.at.returns c).Start in
+    let known = counts (goal.at.returns c).After-count-w in
     let a = c.count-a.result + (c.count-b.result - c.part_tested_ring-kept.result) in
     let w = c.count-w.result + c.part_tested_ring-kept.result in
     let ready : a ≡ length (D.ready ++ unmarked_of D.tested) =

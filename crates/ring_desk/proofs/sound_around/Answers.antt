@@ -14,7 +14,6 @@ use Rattle.ring_rules.proofs.Laws.Rotations.{rotate-length}
 use Rattle.ring_desk.proofs.AroundLaws.{rest_past, test_inside}
 use Rattle.ring_desk.proofs.ZeroLaws.{first_speaks, miscounted, second_speaks, zeros-around}
 use Rattle.ring_desk.proofs.sound_around.Goals as goal
-use Rattle.ring_desk.proofs.sound_around.Goals.at
 use Rattle.ring_desk.proofs.sound_around.Goals.{Start}
 
 -- the used slots, and the others
@@ -35,17 +34,17 @@ count_is : (o : Start) → zeros_in (words_of_bytes o.args.l.now) ≡ zeros_in (
 count_is o = zeros-around o.args.b o.args.n (words_of_bytes o.args.l.now)
 
 pub returns-then-zeros-s : goal.returns-then-zeros-s
-returns-then-zeros-s c = sym (miscounted (used (at.returns-then-zeros-s c).Start) (others (at.returns-then-zeros-s c).Start) (λ z. c.if-zeros-s.true (omega (arith, z, c.zeros.ensures, count_is (at.returns-then-zeros-s c).Start, others_many (at.returns-then-zeros-s c).Start))))
+returns-then-zeros-s c = sym (miscounted (used (goal.at.returns-then-zeros-s c).Start) (others (goal.at.returns-then-zeros-s c).Start) (λ z. c.if-zeros-s.true (omega (arith, z, c.zeros.ensures, count_is (goal.at.returns-then-zeros-s c).Start, others_many (goal.at.returns-then-zeros-s c).Start))))
 
 pub returns-then-e-s : goal.returns-then-e-s
 returns-then-e-s c =
     let given = c.requires in
     c.lacks.ensures ∙ sym (test_inside (λ (word : ℕ). not (eqb word 0)) c.args.s c.args.b c.args.n c.args.l.now given.1 given.2 given.3 c.if-e-s.true)
-    ∙ first_speaks (used (at.returns-then-e-s c).Start) (others (at.returns-then-e-s c).Start) (omega (arith, c.if-zeros-s.false, c.zeros.ensures, count_is (at.returns-then-e-s c).Start, others_many (at.returns-then-e-s c).Start))
+    ∙ first_speaks (used (goal.at.returns-then-e-s c).Start) (others (goal.at.returns-then-e-s c).Start) (omega (arith, c.if-zeros-s.false, c.zeros.ensures, count_is (goal.at.returns-then-e-s c).Start, others_many (goal.at.returns-then-e-s c).Start))
 
 pub returns : goal.returns
 returns c =
     let given = c.requires in
     let past = c.if-e-s.false in
     c.all_zero.ensures ∙ sym (rest_past (λ (word : ℕ). eqb word 0) c.args.s c.args.b c.args.n c.args.l.now given.1 given.2 given.3 (omega arith))
-    ∙ second_speaks (used (at.returns c).Start) (others (at.returns c).Start) (omega (arith, c.if-zeros-s.false, c.zeros.ensures, count_is (at.returns c).Start, others_many (at.returns c).Start))
+    ∙ second_speaks (used (goal.at.returns c).Start) (others (goal.at.returns c).Start) (omega (arith, c.if-zeros-s.false, c.zeros.ensures, count_is (goal.at.returns c).Start, others_many (goal.at.returns c).Start))

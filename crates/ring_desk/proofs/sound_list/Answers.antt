@@ -12,7 +12,6 @@ use Rattle.words.proofs.Laws.{words-drop, words_take}
 use Rattle.words.specs.Words.{all_zero, lacks}
 use Rattle.ring_rules.specs.Ring.{rotate}
 use Rattle.ring_desk.proofs.sound_list.Goals as goal
-use Rattle.ring_desk.proofs.sound_list.Goals.at
 use Rattle.ring_desk.proofs.sound_list.Goals.{Start, After-lacks}
 
 -- the tests of the used slots and of the others
@@ -34,10 +33,10 @@ rest_words o =
     ap words_of_bytes (take_all (length bytes - 2 * o.args.n) (drop (2 * o.args.n) bytes) (omega (arith, length-drop (2 * o.args.n) bytes))) ∙ words-drop o.args.n bytes
 
 -- what the code finds of it
-used_tested : (c : After-lacks) → used-pass (at.After-lacks c).Start ≡ c.lacks.result
+used_tested : (c : After-lacks) → used-pass (goal.at.After-lacks c).Start ≡ c.lacks.result
 used_tested c =
     let given = c.requires in
-    sym (c.lacks.ensures ∙ ap (lacks 0) (words_take c.args.n c.args.l.now ∙ from_first_lem (at.After-lacks c).Start c.if-b-ne0.false (take c.args.n)))
+    sym (c.lacks.ensures ∙ ap (lacks 0) (words_take c.args.n c.args.l.now ∙ from_first_lem (goal.at.After-lacks c).Start c.if-b-ne0.false (take c.args.n)))
 
 pub returns-then-b-ne0 : goal.returns-then-b-ne0
 returns-then-b-ne0 c = c.sound_around.ensures
@@ -48,9 +47,9 @@ slice_bounds-lacks-end c =
     sym (length-take-le (2 * c.args.n) c.args.l.now (omega arith))
 
 pub returns-then-not-lacks : goal.returns-then-not-lacks
-returns-then-not-lacks c = sym (ap (λ (passed : Bool). passed && rest-pass (at.returns-then-not-lacks c).Start) (used_tested (at.returns-then-not-lacks c).After-lacks ∙ c.if-not-lacks.true))
+returns-then-not-lacks c = sym (ap (λ (passed : Bool). passed && rest-pass (goal.at.returns-then-not-lacks c).Start) (used_tested (goal.at.returns-then-not-lacks c).After-lacks ∙ c.if-not-lacks.true))
 
 pub returns : goal.returns
 returns c =
-    c.all_zero.ensures ∙ ap all_zero (rest_words (at.returns c).Start ∙ from_first_lem (at.returns c).Start c.if-b-ne0.false (drop c.args.n))
-    ∙ sym (ap (λ (passed : Bool). passed && rest-pass (at.returns c).Start) (used_tested (at.returns c).After-lacks ∙ c.if-not-lacks.false))
+    c.all_zero.ensures ∙ ap all_zero (rest_words (goal.at.returns c).Start ∙ from_first_lem (goal.at.returns c).Start c.if-b-ne0.false (drop c.args.n))
+    ∙ sym (ap (λ (passed : Bool). passed && rest-pass (goal.at.returns c).Start) (used_tested (goal.at.returns c).After-lacks ∙ c.if-not-lacks.false))
