@@ -1,5 +1,5 @@
 -- What reading an input to its end gives. No contract can say which bytes a system gives, nor whether a read fails.
-use Rattle.std.specs.Prelude.{◌≡◌, ℕ, ◌≤◌, ◌<◌, List, Option, length, take}
+use Rattle.std.specs.Prelude.{◌≡◌, ℕ, ◌≤◌, ◌<◌, List, Option, IfSome, length, take}
 use Rattle.std.specs.Io.KnownBytes.{Consumes, IsAtEnd}
 use Rattle.input.specs.declared.Input.{Input as Answer}
 use Rattle.input.specs.declared.Input.TheVariants.{Bytes, Failed}
@@ -18,3 +18,8 @@ ReadInto (Failed why) buffer = Unit {0}
 abbrev pub ReadsKnown : Answer → Option (List ℕ) → Option (List ℕ) → List ℕ → Type 0
 ReadsKnown (Bytes n) before after buffer = Consumes before after (take n buffer) × (n < length buffer → IsAtEnd after)
 ReadsKnown (Failed why) before after buffer = (n : ℕ) × (n ≤ length buffer) × Consumes before after (take n buffer)
+
+-- Those that were read are then all of them, or as many as the buffer has room for.
+abbrev pub ReadsFront : Answer → Option (List ℕ) → List ℕ → Type 0
+ReadsFront (Bytes n) known buffer = IfSome known (λ bytes. take n buffer ≡ take (length buffer) bytes)
+ReadsFront (Failed why) known buffer = Unit {0}

@@ -1,7 +1,7 @@
 // Reads an input to its end, and distinguishes a failed read from the end.
 #![tactic(auto)]
 
-ghost use Rattle.input.specs.Input.{ReadInto, ReadsKnown};
+ghost use Rattle.input.specs.Input.{ReadInto, ReadsFront, ReadsKnown};
 
 use std::io::{Error, Read};
 
@@ -16,6 +16,7 @@ pub enum Input {
 pub fn read_to_end<R: Read>(from: &mut R, buffer: &mut [u8]) -> Input
     ensures within { ReadInto result buffer.new }
     ensures known { ReadsKnown result (R.remaining from.old) (R.remaining from.new) buffer.new }
+    ensures front { ReadsFront result (R.remaining from.old) buffer.new }
 {
     let mut done = 0;
     while done < buffer.len() {
