@@ -1,6 +1,6 @@
 """Trials of changed crates: copies of the repository in which one crate at a time is changed and checked anew.
 
-A trial starts from what the crate's library holds of its proof, so only the modules that a change reaches are checked.
+A trial starts from what the crate's last check kept, so only the modules that a change reaches are checked.
 """
 import concurrent.futures
 import contextlib
@@ -15,99 +15,174 @@ import tempfile
 ROOT = pathlib.Path(__file__).resolve().parent.parent
 
 # A check takes seconds; one that takes so long is given up.
-LONGEST = 300
+LONGEST = 600
+
+
+def workers():
+    """How many checks run at a time."""
+    return int(os.environ.get('RT_JOBS') or min(os.cpu_count() or 1, 4))
+
+
+def crates_below(crates):
+    """These crates and all that they stand on, lowest first."""
+    lines = [line.split('#')[0].partition(':') for line in (ROOT / 'crates.txt').read_text().splitlines()]
+    needs = {head.split()[0]: names.split() for head, colon, names in lines if colon}
+    found = []
+
+    def visit(crate):
+        if crate in needs and crate not in found:
+            for below in needs[crate]:
+                visit(below)
+            found.append(crate)
+
+    for crate in crates:
+        visit(crate)
+    return found
 
 
 def prove(crates):
-    """Proves these crates in this tree, where they have changed since they were last proved."""
+    """Proves these crates in this tree, where they have changed since they were last proved; what it said if one is not proved."""
     (ROOT / 'build').mkdir(exist_ok=True)
-    return subprocess.run(['flock', 'build/rt.lock', 'rt', 'check', *crates], cwd=ROOT, capture_output=True, text=True)
+    for crate in crates_below(crates):
+        if crate in crates:
+            command = ['flock', ROOT / 'build' / 'rt.lock', 'rt', 'check']
+            run = subprocess.run(command, cwd=ROOT / 'crates' / crate, capture_output=True, text=True)
+            if run.returncode != 0:
+                return run
+    return None
 
 
-def develop(copy, crate):
-    """Checks a crate over an incremental folder with the modules of its library: those that have not changed are loaded."""
-    library = ROOT / 'target' / 'rlib' / f'{crate}.rlib'
-    # the library's second line has the version under which the prover looks for modules
-    version = (library / 'format').read_text().split('\n')[1].removeprefix('rattle-build ').replace('/', '_')
-    folder = copy / 'target' / 'inc' / crate
-    shutil.rmtree(folder, ignore_errors=True)
-    shutil.copytree(library / 'toolchain' / 'checked', folder / version)
-    words = ['timeout', str(LONGEST), 'rt', 'dev', crate]
-    return subprocess.run(words, cwd=copy, capture_output=True, text=True)
+def linked(one, other):
+    """Copies a file; what was proved by a link: a check replaces such a file, and changes none."""
+    if one.endswith('.oantt'):
+        os.link(one, other)
+    else:
+        shutil.copy2(one, other)
+
+
+def kept(crate):
+    """The folder of what the crate's last check in this tree kept."""
+    return ROOT / 'crates' / crate / 'out' / 'incremental'
+
+
+def develop(copy, crate, functions=()):
+    """Checks a crate over what its last check kept: all of it, or these functions with what they call."""
+    folder = copy / 'crates' / crate
+    shutil.rmtree(folder / 'out' / 'incremental', ignore_errors=True)
+    shutil.copytree(kept(crate), folder / 'out' / 'incremental', copy_function=linked)
+    only = [word for function in functions for word in ('--only', function)]
+    words = ['timeout', str(LONGEST), 'rt', 'check', '--jobs', '1', *only]
+    return subprocess.run(words, cwd=folder, stdin=subprocess.DEVNULL, stdout=subprocess.PIPE, stderr=subprocess.STDOUT, text=True)
 
 
 def judged(run):
     """What the prover said: 'proved', 'refused', or 'stopped' where the text did not reach it."""
     if run.returncode == 0:
         return 'proved'
-    if run.returncode == 1 and 'logic=not-proved' in run.stdout + run.stderr:
+    if run.returncode == 1 and re.search(r'^(logic=not-proved|only=\d+ proved=\d+)$', run.stdout, re.M):
         return 'refused'
     return 'stopped'
 
 
-REFUSAL = re.compile(r'(?:note: )?(\S+?):\d+:\d+: (error|it is not proved)')
+REFUSAL = re.compile(r'(?:\./)?(\S+?):\d+:\d+: error: ')
+# The prover's words where something that is cited was refused elsewhere, or stands behind that.
+NOT_ADMITTED = re.compile(r'was not (?:admitted|checked)|were not checked')
+# Its words where a name, a field or a case is not there: nothing was asked of a fact.
+NO_NAME = re.compile(r'that can be named from here|is not in scope|has no field|is not a field of record|has no `|is no name')
 
 
-def first_refusal(run, folder):
+def refusals(run):
+    """For each file of the crate with a refusal what the prover says there, in its order."""
+    found = {}
+    for line in run.stdout.splitlines():
+        if refusal := REFUSAL.match(line):
+            found.setdefault(refusal[1], []).append(line)
+    return found
+
+
+def first_refusal(run):
     """The file of the crate in which the first refusal falls, and what the prover says there."""
-    for file, said in refusals(run, folder).items():
+    for file, said in refusals(run).items():
         return file, said[0]
     return None, ''
 
 
 def declaration_of(said):
     """The declaration that a refusal is about."""
-    found = re.search(r'`([^`]+)`', said)
+    found = re.search(r': error: `([^`]+)`: ', said)
     return found and found[1]
 
 
-def refusals(run, folder):
-    """For each file of the crate with a refusal what the prover says there, in its order."""
-    found = {}
-    for line in (run.stdout + run.stderr).splitlines():
-        if refusal := REFUSAL.match(line):
-            found.setdefault(refusal[1].removeprefix(f'{folder}/'), []).append(line)
-    return found
+def is_about_a_fact(said):
+    """Whether a refusal says that a fact does not hold, and not that something it names is missing or refused itself."""
+    return not NOT_ADMITTED.search(said) and not NO_NAME.search(re.sub(r': error: `[^`]*`:', ':', said, count=1))
 
 
-# The prover's words where something that is cited was refused elsewhere.
-NOT_ADMITTED = 'was not admitted'
+# ---- Functions.
+
+LEFT = re.compile(r'`search` did not prove ((?:`[^`]+`(?:, | and )?)+)')
 
 
-# ---- Parts of a crate of specs.
+def file_of(function):
+    """The folder of a function's proof: of words::put_word proofs/put_word."""
+    return 'proofs/' + '/'.join(function.split('::')[1:])
 
-USE = re.compile(r'^use Rattle·(\w+)·specs\.specs\.([\w.]+)\.\{', re.M)
-MODULE = re.compile(r'^pub mod (\w+)$', re.M)
+
+def goals_refused(run, function):
+    """The goals of a function that are refused themselves: by its answers, or because nothing was found for them; and what else was said of it."""
+    said = [line for file, lines in refusals(run).items() if file.startswith(file_of(function) + '/') for line in lines]
+    verdict = re.search(rf'^fn {re.escape(function)}: (not proved|no proof)(.*)$', run.stdout, re.M)
+    if not verdict:
+        return [], said
+    goals = [declaration_of(line) for line in said if is_about_a_fact(line)]
+    # an answer to a goal that is not there: the goal that took its place has none, which says nothing of the program
+    if not any(NO_NAME.search(line) for line in said):
+        goals += [goal for found in LEFT.findall(verdict[2]) for goal in re.findall(r'`([^`]+)`', found)]
+    return [goal for goal in goals if goal], said + [verdict[0]]
 
 
-def used_by(text, crate):
-    """The files of a crate's specs that a text of it uses; what its code declares has no file."""
-    used = [module for owner, module in USE.findall(text) if owner == crate and not module.startswith('declared.')]
-    return [f'specs/{module.replace(".", "/")}.antt' for module in used]
+REFUTED = re.compile(r'^note: .*\(`([^`]+)`\); the facts known there allow values at which this goal is false', re.M)
+
+
+def goals_refuted(run):
+    """The goals that are false at values which the prover gives."""
+    return list(dict.fromkeys(REFUTED.findall(run.stdout)))
+
+
+# ---- Parts of a crate of definitions and facts alone.
+
+USE = re.compile(r'^use Rattle\.(\w+)\.(specs|proofs)\.([\w.]+)\.\{', re.M)
+MODULE = re.compile(r'^(?:pub )?mod (\w+)$', re.M)
+
+
+def used_by(text, folder):
+    """The files of a crate's specs and proofs that a text of it uses; what its code declares has no file."""
+    used = [f'{part}/{module.replace(".", "/")}.antt' for owner, part, module in USE.findall(text) if owner == folder.name]
+    return [path for path in used if (folder / path).is_file()]
 
 
 def closure(folder, wanted, texts):
-    """These files of a crate's specs and all that they use; `texts` has what is changed already."""
-    kept, todo = set(), list(wanted)
+    """These files of a crate and all that they use; `texts` has what is changed already."""
+    found, todo = set(), list(wanted)
     while todo:
         path = todo.pop()
-        if path not in kept:
-            kept.add(path)
-            todo += used_by(text_of(folder / path, texts), folder.name)
-    return kept
+        if path not in found:
+            found.add(path)
+            todo += used_by(text_of(folder / path, texts), folder)
+    return found
 
 
 def part_of(folder, wanted, texts):
-    """The changes that leave of a crate only these files of its specs and what they use."""
-    kept, part = closure(folder, wanted, texts), {}
-    for file in (folder / 'specs').rglob('*.antt'):
+    """The changes that leave of a crate only these files and what they use."""
+    needed, part = closure(folder, wanted, texts), {}
+    for file in [*(folder / 'specs').rglob('*.antt'), *(folder / 'proofs').rglob('*.antt')]:
         path, text = str(file.relative_to(folder)), text_of(file, texts)
-        if path in kept:
+        if path in needed:
             continue
-        # a list of modules keeps those that are kept, and those with a file below them that is
-        below = 'specs/' if path == 'specs/Lib.antt' else path.removesuffix('.antt') + '/'
-        listed = [found for found in MODULE.findall(text) if any(k.startswith((f'{below}{found}.', f'{below}{found}/')) for k in kept)]
-        part[file] = ''.join(f'pub mod {module}\n' for module in listed) or None
+        # a list of modules keeps those that are needed, and those with a file below them that is
+        below = path.removesuffix('Lib.antt') if path in ('specs/Lib.antt', 'proofs/Lib.antt') else path.removesuffix('.antt') + '/'
+        lines = [found[0] for found in MODULE.finditer(text) if any(k.startswith((f'{below}{found[1]}.', f'{below}{found[1]}/')) for k in needed)]
+        part[file] = ''.join(f'{line}\n' for line in lines) or None
     return part
 
 
@@ -118,18 +193,18 @@ def text_of(file, texts):
 @contextlib.contextmanager
 def changed(texts):
     """Files with other texts, or without them, and afterwards with their own again."""
-    kept = {file: file.read_text() for file in texts}
+    before = {file: file.read_text() for file in texts}
     try:
         for file, text in texts.items():
             file.unlink() if text is None else file.write_text(text)
         yield
     finally:
-        for file, text in kept.items():
+        for file, text in before.items():
             file.write_text(text)
 
 
 # A top-level declaration that is no definition: a fact, or a law that facts may use.
-FACT = re.compile(r'^(?:pub )?(?!abbrev|unfoldable|record|data|module|use|infix)([^\s(){}]+) :', re.M)
+FACT = re.compile(r'^(?:pub )?(?!(?:abbrev|unfoldable|record|data|module|use|infix\w*)\s)([^\s(){}]+) :', re.M)
 
 
 def groups_of(text):
@@ -144,19 +219,19 @@ def groups_of(text):
 
 
 def alone(text, fact):
-    """A file of specs with no other fact than this one, and with what that uses: the definitions, and the laws that are named."""
+    """A file of facts with no other fact than this one, and with what that uses: the definitions, and the laws that are named."""
     groups = groups_of(text)
     while True:
         words = [set(re.split(r'[\s(){},]+', group)) for group in groups]
-        kept = []
+        kept_groups = []
         for at, group in enumerate(groups):
             found = FACT.search(group)
             others = (of for other, of in enumerate(words) if other != at)
             if not found or found[1] == fact or any(found[1] in of for of in others):
-                kept.append(group)
-        if len(kept) == len(groups):
+                kept_groups.append(group)
+        if len(kept_groups) == len(groups):
             return '\n\n'.join(groups)
-        groups = kept
+        groups = kept_groups
 
 
 # ---- Copies.
@@ -164,19 +239,19 @@ def alone(text, fact):
 def copied(space):
     """A copy of the crates and of what is proved of them."""
     copy = pathlib.Path(tempfile.mkdtemp(dir=space))
-    shutil.copytree(ROOT / 'crates', copy / 'crates')
+    ignored = shutil.ignore_patterns('incremental')
+    shutil.copytree(ROOT / 'crates', copy / 'crates', ignore=ignored, copy_function=linked)
     shutil.copy(ROOT / 'crates.txt', copy)
-    for part in ('rlib', 'stamp', 'log'):
-        shutil.copytree(ROOT / 'target' / part, copy / 'target' / part)
+    # rt looks for the repository's top at the nearest .git
+    (copy / '.git').mkdir()
     return copy
 
 
 def each(work, jobs):
-    """What work(copy, job) gives for each job; as many at a time as rt would run, each in a copy that nobody else uses."""
-    workers = int(os.environ.get('RT_JOBS') or min(os.cpu_count() or 1, 4))
+    """What work(copy, job) gives for each job; as many at a time as RT_JOBS says, each in a copy that nobody else uses."""
     with tempfile.TemporaryDirectory() as space:
         copies = queue.Queue()
-        for _ in range(workers):
+        for _ in range(min(workers(), len(jobs))):
             copies.put(copied(space))
 
         def in_a_copy(job):
@@ -186,5 +261,5 @@ def each(work, jobs):
             finally:
                 copies.put(copy)
 
-        with concurrent.futures.ThreadPoolExecutor(workers) as pool:
+        with concurrent.futures.ThreadPoolExecutor(workers()) as pool:
             return list(pool.map(in_a_copy, jobs))
