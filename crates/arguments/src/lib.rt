@@ -1,9 +1,13 @@
 // What a program's arguments ask for; the same for every program that reads a sheet from standard input.
 #![tactic(auto)]
 
+ghost use Rattle.std.specs.Prelude.{◌≤◌, length};
 ghost use Rattle.arguments.specs.Asks.{Asks};
 
-#[derive(Drop)]
+use std::env::FillError;
+use std::rt::Env;
+
+#[derive(Clone, Copy)]
 pub enum Request {
     // There are no arguments.
     Run,
@@ -23,8 +27,29 @@ pub fn request_for(arguments: usize, first: &[u8]) -> Request
     if 2 < arguments {
         return Request::Unknown;
     }
-    if check::same(first, b"--help") {
+    if first == b"--help".as_slice() {
         return Request::Help;
     }
     Request::Unknown
+}
+
+// How many arguments a program has, with its name.
+pub fn argument_count<E: Env>(env: &E) -> usize {
+    let mut byte = [0u8; 1];
+    for index in 0..usize::MAX {
+        if let Err(FillError::NotPresent) = env.arg(index, &mut byte) {
+            return index;
+        }
+    }
+    usize::MAX
+}
+
+// Puts an argument at the start of the buffer, and returns its length; or 0 where there is none, or it does not fit.
+pub fn argument<E: Env>(env: &E, index: usize, buffer: &mut [u8]) -> usize
+    ensures { result ≤ length buffer.new }
+{
+    match env.arg(index, buffer) {
+        Ok(n) => n,
+        Err(_) => 0,
+    }
 }

@@ -45,8 +45,8 @@ module _ {limits : Limits} {t : List ℕ} {message desk : ℕ} {p : Location} (a
 
 -- `move_on`, given the reply's number
 module _ (words : List ℕ) (next message : ℕ) (r : Reply) {number : ℕ} (is : number ≡ (answer_of r).number) where
-  pub moved_on : {word : ℕ} → number ≡ 0 → word ≡ advance message → table_result r (set words next word) ≡ moved_on next message (table_result r words)
-  moved_on accepted advanced = rw (eq-eqb (answer_of r).number 0 (sym is ∙ accepted), advanced)
+  pub moved_on_lem : {word : ℕ} → number ≡ 0 → word ≡ advance message → table_result r (set words next word) ≡ moved_on next message (table_result r words)
+  moved_on_lem accepted advanced = rw (eq-eqb (answer_of r).number 0 (sym is ∙ accepted), advanced)
 
   pub not-moved : (number ≡ 0 → ⊥) → table_result r words ≡ moved_on next message (table_result r words)
   not-moved refused = rw (ne_eqb (answer_of r).number 0 (λ none. refused (is ∙ none)))

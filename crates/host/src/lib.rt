@@ -134,7 +134,7 @@ pub extern "C" fn board_collect(message: u16, desk: u16, table: &mut [u8]) -> u3
 #[unsafe(no_mangle)]
 pub extern "C" fn board_run(steps: &[u8], replies: &mut [u8], table: &mut [u8]) -> u32
     ensures table_after { run_result result replies.new table.new ≡ run_bytes hall_limits steps.now (lent_of replies.old table.old) }
-    ensures unchanged { steps.now ≡ steps.now }
+    ensures unchanged { steps.exit.now ≡ steps.entry.now }
 {
     answer(run(steps, replies, table, Board::HALL))
 }

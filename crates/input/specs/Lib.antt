@@ -1,2 +1,2 @@
--- The definition that the contract of this crate cites.
+-- The definitions that the contract of this crate cites.
 pub mod Input

@@ -1,5 +1,6 @@
 -- How much of a sheet's output was handed over. Document 01, "The day sheet": "The sheet program reads standard input and prints".
-use Rattle.std.specs.Prelude.{ℕ, ◌≤◌, ◌≡◌, Bool, true, false, List, ◌++◌, ◌⊎◌, length, drop}
+use Rattle.std.specs.Prelude.{ℕ, ◌≤◌, ◌≡◌, Bool, true, false, List, ◌++◌, ◌⊎◌, Option, IfSome, length, drop}
+use Rattle.std.specs.Io.KnownBytes.{Appends}
 use Rattle.rules.specs.Messages.{send}
 use Rattle.rules.specs.Steps.{Call, end}
 use Rattle.sheet.specs.Batch.{calls_of, remaining_calls, remaining_output, start_table}
@@ -17,7 +18,7 @@ pub record Reached (edition : Edition) (sheet : List ℕ) (bytes : ℕ) (state :
   pub left : table ≡ end (send edition.limits) (start_table edition.limits (reading edition sheet)) calls
 
 -- So many bytes of a sheet's output were handed over: at least one, and those before such a state, so whole lines. If complete, all of them
--- (`Whole.complete-output`). No contract can say which bytes a system call wrote.
+-- (`Whole.complete_output`).
 pub record HandedOver (edition : Edition) (sheet : List ℕ) (complete : Bool) (bytes : ℕ) : Type 0 where
   pub some : 1 ≤ bytes
   pub state : State
@@ -28,3 +29,7 @@ pub record HandedOver (edition : Edition) (sheet : List ℕ) (complete : Bool) (
 -- What was handed over of the sheet on standard input, whichever it was; or nothing, because it could not be read.
 abbrev pub OfInput : Edition → Bool → ℕ → Type 0
 OfInput edition complete bytes = ((complete ≡ false) × (bytes ≡ 0)) ⊎ ((sheet : List ℕ) × HandedOver edition sheet complete bytes)
+
+-- The output holds all that the rules print for a sheet: for all of the input, if its bytes are known.
+abbrev pub PrintsKnown : Edition → Option (List ℕ) → Option (List ℕ) → Option (List ℕ) → Type 0
+PrintsKnown edition known before after = (sheet : List ℕ) × IfSome known (λ bytes. sheet ≡ bytes) × Appends before after (printed edition sheet)

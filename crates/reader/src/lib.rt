@@ -174,7 +174,7 @@ fn wide(byte: u8) -> u32
 }
 
 // Reads the number at an offset: groups of seven bits, lowest first; the top bit of a byte (128) says that another follows.
-pub fn read_number_lem(sheet: &[u8], at: usize, format: Format, limit: u16) -> Number
+pub fn read_number(sheet: &[u8], at: usize, format: Format, limit: u16) -> Number
     ensures { number_result result ≡ (format_of format).read_number limit sheet.now at }
 {
     let padding = format.padding;
@@ -230,7 +230,7 @@ fn read_field(
     ensures { number_result result ≡ decode_field (format_of format).read_number (follows_code code field) limit sheet.now at }
 {
     if follows(code, field) {
-        return read_number_lem(sheet, at, format, limit);
+        return read_number(sheet, at, format, limit);
     }
     Number::Value(0, at)
 }
@@ -334,7 +334,7 @@ fn read_fields(sheet: &[u8], at: usize, format: Format, code: u16) -> ParsedReco
 fn read_record_1(sheet: &[u8], at: usize, format: Format) -> ParsedRecord
     ensures { record_result result ≡ decode_record (format_of format) sheet.now at }
 {
-    match read_number_lem(sheet, at, format, MAX_NUMBER) {
+    match read_number(sheet, at, format, MAX_NUMBER) {
         Number::Refused(reason) => ParsedRecord::Refused(reason),
         Number::Value(code, after_code) => {
             if code < 1 {
@@ -412,7 +412,7 @@ fn read_coded(sheet: &[u8], at: usize, format: Format, carried: Carried, code: u
 fn read_record_2(sheet: &[u8], at: usize, format: Format, carried: Carried) -> ParsedRecord
     ensures { record_result result ≡ decode_record2 (format_of format) (carried_of carried) sheet.now at }
 {
-    match read_number_lem(sheet, at, format, MAX_NUMBER) {
+    match read_number(sheet, at, format, MAX_NUMBER) {
         Number::Refused(reason) => ParsedRecord::Refused(reason),
         Number::Value(code, after_code) => read_coded(sheet, after_code, format, carried, code),
     }
@@ -449,16 +449,16 @@ pub enum ParsedHeader {
 fn read_hall(sheet: &[u8], at: usize, format: Format) -> ParsedHeader
     ensures { header_result result ≡ decode_header (format_of format).read_number sheet.now at }
 {
-    match read_number_lem(sheet, at, format, MAX_NUMBER) {
+    match read_number(sheet, at, format, MAX_NUMBER) {
         Number::Refused(reason) => ParsedHeader::Refused(reason),
-        Number::Value(desks, after_desks) => match read_number_lem(
+        Number::Value(desks, after_desks) => match read_number(
             sheet,
             after_desks,
             format,
             MAX_NUMBER,
         ) {
             Number::Refused(reason) => ParsedHeader::Refused(reason),
-            Number::Value(screens, after_screens) => match read_number_lem(
+            Number::Value(screens, after_screens) => match read_number(
                 sheet,
                 after_screens,
                 format,
@@ -482,7 +482,7 @@ fn read_hall(sheet: &[u8], at: usize, format: Format) -> ParsedHeader
 fn expect_number(sheet: &[u8], at: usize, format: Format, expected: u16) -> Number
     ensures { number_result result ≡ expect_number (format_of format).read_number expected sheet.now at }
 {
-    match read_number_lem(sheet, at, format, MAX_NUMBER) {
+    match read_number(sheet, at, format, MAX_NUMBER) {
         Number::Refused(reason) => Number::Refused(reason),
         Number::Value(value, next) => {
             if value == expected {

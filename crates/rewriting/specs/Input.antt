@@ -1,8 +1,13 @@
 -- How many bytes were handed over for the sheet on standard input.
-use Rattle.std.specs.Prelude.{ℕ, ◌≡◌, Bool, false, List, ◌⊎◌, length}
+use Rattle.std.specs.Prelude.{ℕ, ◌≡◌, Bool, false, List, ◌⊎◌, Option, IfSome, length}
+use Rattle.std.specs.Io.KnownBytes.{Appends}
 use Rattle.sheet_rules.specs.Rewriting.{rewrite}
 use Rattle.sheet_rules.specs.Sheet.{Edition}
 
 -- Those of its output, whichever sheet it was; or none, because it could not be read, and then the output is not complete.
 abbrev pub OfInput : Edition → Edition → Bool → ℕ → Type 0
 OfInput from to complete bytes = ((complete ≡ false) × (bytes ≡ 0)) ⊎ ((sheet : List ℕ) × (bytes ≡ length (rewrite from to sheet)))
+
+-- The output holds all that is to be written for a sheet: for all of the input, if its bytes are known.
+abbrev pub RewritesKnown : Edition → Edition → Option (List ℕ) → Option (List ℕ) → Option (List ℕ) → Type 0
+RewritesKnown from to known before after = (sheet : List ℕ) × IfSome known (λ bytes. sheet ≡ bytes) × Appends before after (rewrite from to sheet)

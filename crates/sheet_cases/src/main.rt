@@ -3,9 +3,10 @@
 #![tactic(auto)]
 
 use board::hall_limits;
-use libc::{STDIN_FILENO, STDOUT_FILENO};
+use input::{Input, read_to_end};
 use printing::print;
 use reader::{Edition, READ_BYTES, edition_1, edition_2};
+use std::io::{Read, Write};
 
 // The most cases.
 const MAX_CASES: u64 = 1000;
@@ -24,17 +25,23 @@ fn edition_of(byte: u8) -> Edition {
 }
 
 // A line with the number of a case.
-fn print_title(case: u64) {
-    io::write_all(STDOUT_FILENO, b"case ");
-    io::print_decimal(STDOUT_FILENO, case);
-    io::write_all(STDOUT_FILENO, b"\n");
+fn print_title<W: Write>(case: u64, to: &mut W) {
+    let _ = write!(to, "case {case}\n");
+}
+
+// Fills the buffer, and returns whether the input had so many bytes.
+fn fill<R: Read>(from: &mut R, buffer: &mut [u8]) -> bool {
+    match read_to_end(from, buffer) {
+        Input::Bytes(n) => n == buffer.len(),
+        Input::Failed(_) => false,
+    }
 }
 
 // Reads the next sheet into a buffer and prints its lines. It returns false if the input has no further whole sheet, if the sheet does
 // not fit into the buffer, or if the lines could not be written.
-fn print_next(case: u64, bytes: &mut [u8]) -> bool {
+fn print_next<R: Read, W: Write>(from: &mut R, to: &mut W, case: u64, bytes: &mut [u8]) -> bool {
     let mut head = [0u8; 4];
-    if io::read_full(STDIN_FILENO, &mut head) < 4 {
+    if !fill(from, &mut head) {
         return false;
     }
     let edition = edition_of(head[0]);
@@ -42,18 +49,18 @@ fn print_next(case: u64, bytes: &mut [u8]) -> bool {
     if bytes.len() < n {
         return false;
     }
-    if io::read_full(STDIN_FILENO, &mut bytes[..n]) < n {
+    if !fill(from, &mut bytes[..n]) {
         return false;
     }
-    print_title(case);
-    let printed = print(&bytes[..n], edition);
+    print_title(case, to);
+    let printed = print(&bytes[..n], edition, to);
     printed.complete
 }
 
-fn main() {
+fn main(rt: HostRuntime) {
     let mut bytes = [0u8; READ_BYTES];
     for case in 1..=MAX_CASES {
-        if !print_next(case, &mut bytes) {
+        if !print_next(&mut rt.stdin(), &mut rt.stdout(), case, &mut bytes) {
             return;
         }
     }

@@ -1,40 +1,44 @@
 // Reads a sheet of the archive from standard input and writes it in shortest form to standard output, or, if it is refused, one line.
 #![tactic(auto)]
 
-use arguments::{Request, request_for};
+use arguments::{Request, argument, argument_count, request_for};
 use board::hall_limits;
-use libc::{STDERR_FILENO, STDOUT_FILENO};
+use output::{fail, write_all};
 use reader::{archive_edition, edition_1};
 use rewriting::rewrite_input;
+use std::io::{Result, Write};
 
-// Prints the help, and returns whether it could be written.
-fn print_help() -> bool {
-    io::write_all(STDOUT_FILENO, b"usage: shorten_sheet < SHEET\n\n")
-        && io::write_all(
-            STDOUT_FILENO,
-            b"Rewrites a day sheet of the archive: the same records, each number in its shortest form.\n",
-        )
-        && io::write_all(
-            STDOUT_FILENO,
-            b"A sheet that is refused gives one line instead: the reply number, a space, and the\n",
-        )
-        && io::write_all(
-            STDOUT_FILENO,
-            b"offset of the number that is refused (15 and 16), or 0.\n\n",
-        )
-        && io::write_all(
-            STDOUT_FILENO,
-            b"An error of reading or writing is a line on standard error; the exit status stays 0.\n",
-        )
+// Prints the help, or says why it could not be written.
+fn print_help<W: Write>(to: &mut W) -> Result<()> {
+    write_all(to, b"usage: shorten_sheet < SHEET\n\n")?;
+    write_all(
+        to,
+        b"Rewrites a day sheet of the archive: the same records, each number in its shortest form.\n",
+    )?;
+    write_all(
+        to,
+        b"A sheet that is refused gives one line instead: the reply number, a space, and the\n",
+    )?;
+    write_all(
+        to,
+        b"offset of the number that is refused (15 and 16), or 0.\n\n",
+    )?;
+    write_all(
+        to,
+        b"An error of reading or writing is a line on standard error; the exit status stays 0.\n",
+    )
 }
 
-fn main() {
+fn main(rt: HostRuntime) {
     // A longer argument does not fit, and is read as an empty one.
     let mut first = [0u8; 8];
-    let n = os::arg(1, &mut first);
-    match request_for(os::arg_count(), &first[..n]) {
+    let n = argument(&rt, 1, &mut first);
+    match request_for(argument_count(&rt), &first[..n]) {
         Request::Run => {
             rewrite_input(
+                &mut rt.stdin(),
+                &mut rt.stdout(),
+                &mut rt.stderr(),
                 archive_edition(hall_limits()),
                 edition_1(hall_limits()),
                 b"shorten_sheet: cannot read standard input",
@@ -42,13 +46,17 @@ fn main() {
             );
         }
         Request::Help => {
-            if !print_help() {
-                os::fail(b"shorten_sheet: cannot write standard output");
+            if let Err(why) = print_help(&mut rt.stdout()) {
+                fail(
+                    &mut rt.stderr(),
+                    b"shorten_sheet: cannot write standard output",
+                    why,
+                );
             }
         }
         Request::Unknown => {
-            io::write_all(
-                STDERR_FILENO,
+            let _ = write_all(
+                &mut rt.stderr(),
                 b"usage: shorten_sheet < SHEET, or shorten_sheet --help\n",
             );
         }

@@ -1,0 +1,19 @@
+-- `board::record_start` meets its contract.
+use Rattle.std.proofs.Common.{◌*◌, ◌≤◌, ap, mul-le-mul, arith}
+use Rattle.rules.specs.Hall.{max_all_screens, max_desks}
+use Rattle.rules.specs.Table.{width_for}
+use Rattle.board.proofs.record_start.Goals as goal
+use Rattle.board.proofs.record_start.Goals.{Start}
+
+-- the records before it, at most all those of the largest hall
+before : (c : Start) → c.args.d * width_for c.args.s ≤ max_desks * width_for max_all_screens
+before c = let h : width_for c.args.s ≤ width_for max_all_screens = omega arith in mul-le-mul c.requires.2 h
+
+pub overflow_mul-result : goal.overflow_mul-result
+overflow_mul-result c = omega (arith, ap (λ w. c.args.d * w) c.record_words.ensures, before (goal.at.overflow_mul-result c).Start)
+
+pub overflow_add-result-3 : goal.overflow_add-result-3
+overflow_add-result-3 c = omega (arith, ap (λ w. c.args.d * w) c.record_words.ensures, before (goal.at.overflow_add-result-3 c).Start)
+
+pub returns : goal.returns
+returns c = omega (arith, ap (λ w. c.args.d * w) c.record_words.ensures, before (goal.at.returns c).Start)

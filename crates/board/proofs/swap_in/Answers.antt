@@ -1,0 +1,24 @@
+-- `board::swap_in` meets its contract: each answer is that of `admit`, or the step was done and `move_on` followed.
+use Rattle.rules.specs.Steps.{Swap}
+use Rattle.board.proofs.AdmissionLaws.{admits, refused_desk, refused_number}
+use Rattle.board.proofs.MessageLaws.{number_in_bytes, stepped}
+use Rattle.board.proofs.ResultLaws.{matches_unchanged}
+use Rattle.board.proofs.swap_in.Goals as goal
+
+pub swap_at-r-requires : goal.swap_at-r-requires
+swap_at-r-requires c = (admits c.requires c.in-At.is c.admit-admission.ensures).admits_desk
+
+pub move_on-requires : goal.move_on-requires
+move_on-requires c = number_in_bytes c.args.t.now c.swap_at-r.new.t (admits c.requires c.in-At.is c.admit-admission.ensures) c.swap_at-r.auto.t
+
+pub returns-in-NoDesk : goal.returns-in-NoDesk
+returns-in-NoDesk c = search (matches_unchanged, refused_desk)
+
+pub returns-in-OtherMessage : goal.returns-in-OtherMessage
+returns-in-OtherMessage c = search (matches_unchanged, refused_number)
+
+pub returns-in-At : goal.returns-in-At
+returns-in-At c =
+    let admission = admits c.requires c.in-At.is c.admit-admission.ensures in
+    let done = c.swap_at-r in
+    stepped admission (Swap c.args.position c.args.session) done.ensures done.auto.t c.move_on.ensures

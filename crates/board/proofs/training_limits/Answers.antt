@@ -1,0 +1,6 @@
+-- `board::training_limits` meets its contract.
+use Rattle.std.proofs.Common.{refl}
+use Rattle.board.proofs.training_limits.Goals as goal
+
+pub returns : goal.returns
+returns c = refl

@@ -1,0 +1,3 @@
+-- The definitions that the contracts of this crate cite.
+pub mod Taken
+pub mod Line

@@ -1,0 +1,103 @@
+-- `ring::locate` meets its contract.
+use Prim.Native.Nat.{ℕ, ◌+◌, ◌-◌}
+use native.Mathlib.Omega.{arith}
+use mathlib.Core.Bool.{true}
+use mathlib.Core.List.{List}
+use mathlib.Core.Path.{◌≡◌, sym, ap, ap₂, ◌∙◌}
+use lib.ListN.{get_or}
+use borrow.Author.Tests.{eq-eqb, ne_eqb}
+use Rattle.rules.specs.Bytes.{words_of_bytes}
+use Rattle.rules.specs.Steps.{in_range}
+use Rattle.rules.specs.Table.{hall_in, tail_offset}
+use Rattle.ring_rules.specs.Ring.{ring_next_word, ring_start_for}
+use Rattle.rules.proofs.Laws.History.StepEffects.{in_range_lem}
+use Rattle.ring_rules.proofs.Laws.RingSteps.{RingKnown, ring_known}
+use Rattle.ring_rules.proofs.Laws.RingTables.{record_within}
+use Rattle.limits.specs.Room.{limits_of}
+use Rattle.words.proofs.Laws.{length-words}
+use Rattle.board.specs.declared.Hall.{Hall}
+use Rattle.ring.specs.RingAdmission.{admission_of}
+use Rattle.ring.specs.declared.Admission.TheVariants.{At}
+use Rattle.ring.proofs.AdmissionLaws.{Bounded, SoundHall, hall_bounded, sound-hall}
+use Rattle.board.proofs.SoundLaws.{said_no, said_yes}
+use Rattle.ring.proofs.locate.Goals as goal
+use Rattle.ring.proofs.locate.Goals.{Start, Else-not-in_range, After-tail_offset, After-word}
+
+-- the words, and the hall in them
+abbrev words : Start → List ℕ
+words o = words_of_bytes o.args.t.now
+
+numbers : (o : Start) → SoundHall (limits_of o.args.limits) (words o) o.args.hall
+numbers o = sound-hall o.requires
+
+facts : (o : Start) → RingKnown (limits_of o.args.limits) (words o)
+facts o = ring_known (limits_of o.args.limits) (words o) (numbers o).yes_sound
+
+within : (o : Start) → Bounded o.args.hall
+within o = hall_bounded (numbers o)
+
+-- the desk is one of the hall's
+own_desk : (c : Else-not-in_range) → in_range c.args.desk (hall_in (words (goal.at.Else-not-in_range c).Start)).desks ≡ true
+own_desk c =
+    said_yes (c.in_range.ensures ∙ ap (λ (h : Hall). in_range c.args.desk h.desks) (numbers (goal.at.Else-not-in_range c).Start).is) c.if-not-in_range.false
+
+-- the offset of the desk's next message number
+next_at : (c : After-tail_offset) →
+    c.ring_start-a.result + c.tail_offset.result ≡ ring_next_word (hall_in (words (goal.at.After-tail_offset c).Start)) c.args.desk
+next_at c =
+    ap₂ (λ (x y : ℕ). x + y) c.ring_start-a.ensures.0 c.tail_offset.ensures
+    ∙ ap (λ (h : Hall). ring_start_for h.positions h.all (c.args.desk - 1) + tail_offset h.all) (numbers (goal.at.After-tail_offset c).Start).is
+
+-- and what is read there
+next_read : (c : After-word) →
+    c.word.result ≡ get_or (words (goal.at.After-word c).Start) (ring_next_word (hall_in (words (goal.at.After-word c).Start)) c.args.desk) 0
+next_read c =
+    c.word.ensures ∙ ap (λ (k : ℕ). get_or (words (goal.at.After-word c).Start) k 0) (next_at (goal.at.After-word c).After-tail_offset)
+
+pub returns-then-not-in_range : goal.returns-then-not-in_range
+unfolding admission_of
+returns-then-not-in_range c = rw ((numbers (goal.at.returns-then-not-in_range c).Start).yes_sound, said_no (c.in_range.ensures ∙ ap (λ (h : Hall). in_range c.args.desk h.desks) (numbers (goal.at.returns-then-not-in_range c).Start).is) c.if-not-in_range.true)
+
+pub overflow_sub-d : goal.overflow_sub-d
+overflow_sub-d c = omega (arith, in_range_lem c.args.desk c.args.hall.desks (said_yes c.in_range.ensures c.if-not-in_range.false))
+
+pub ring_start-a-requires : goal.ring_start-a-requires
+ring_start-a-requires c =
+    let w = within (goal.at.ring_start-a-requires c).Start in
+    omega (arith, w.positions, w.all, w.desks, in_range_lem c.args.desk c.args.hall.desks (said_yes c.in_range.ensures c.if-not-in_range.false))
+
+pub ring_start-e-requires : goal.ring_start-e-requires
+ring_start-e-requires c =
+    let w = within (goal.at.ring_start-e-requires c).Start in
+    omega (arith, w.positions, w.all, w.desks, in_range_lem c.args.desk c.args.hall.desks (said_yes c.in_range.ensures c.if-not-in_range.false))
+
+pub tail_offset-requires : goal.tail_offset-requires
+tail_offset-requires c = omega (arith, (within (goal.at.tail_offset-requires c).Start).all)
+
+pub overflow_add-next : goal.overflow_add-next
+overflow_add-next c = omega (arith, c.ring_start-a.ensures.1, c.tail_offset.ensures, (within (goal.at.overflow_add-next c).Start).all)
+
+pub word-requires : goal.word-requires
+word-requires c =
+    let hall = hall_in (words (goal.at.word-requires c).Start) in
+    let range = in_range_lem c.args.desk hall.desks (own_desk (goal.at.word-requires c).Else-not-in_range) in
+    omega (arith, next_at (goal.at.word-requires c).After-tail_offset, record_within hall (words (goal.at.word-requires c).Start) (facts (goal.at.word-requires c).Start).long c.args.desk range.0 range.1, (facts (goal.at.word-requires c).Start).long, length-words c.args.t.now)
+
+pub returns-then-word-message : goal.returns-then-word-message
+unfolding admission_of
+returns-then-word-message c =
+    let next = get_or (words (goal.at.returns-then-word-message c).Start) (ring_next_word (hall_in (words (goal.at.returns-then-word-message c).Start)) c.args.desk) 0 in
+    rw ((numbers (goal.at.returns-then-word-message c).Start).yes_sound, own_desk (goal.at.returns-then-word-message c).Else-not-in_range, ne_eqb c.args.message next (λ same. c.if-word-message.true (next_read (goal.at.returns-then-word-message c).After-word ∙ sym same)))
+
+pub returns : goal.returns
+unfolding admission_of
+returns c =
+    let n = numbers (goal.at.returns c).Start in
+    let positions = ap (λ (h : Hall). h.positions) n.is in
+    let screens = ap (λ (h : Hall). h.screens) n.is in
+    let all = ap (λ (h : Hall). h.all) n.is in
+    let from = c.ring_start-a.ensures.0 ∙ ap₂ (λ (x y : ℕ). ring_start_for x y (c.args.desk - 1)) positions all in
+    let to = c.ring_start-e.ensures.0 ∙ ap₂ (λ (x y : ℕ). ring_start_for x y c.args.desk) positions all in
+    let next = get_or (words (goal.at.returns c).Start) (ring_next_word (hall_in (words (goal.at.returns c).Start)) c.args.desk) 0 in
+    rw ((numbers (goal.at.returns c).Start).yes_sound, own_desk (goal.at.returns c).Else-not-in_range, eq-eqb c.args.message next (sym c.if-word-message.false ∙ next_read (goal.at.returns c).After-word))
+    (λ i. At (record { positions = positions i; screens = screens i; all = all i; start = from i; end = to i; next = next_at (goal.at.returns c).After-tail_offset i }))

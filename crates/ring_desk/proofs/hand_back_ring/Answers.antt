@@ -1,0 +1,61 @@
+-- `ring_desk::hand_back_ring` meets its contract.
+use Prim.Native.Nat.{ℕ, ◌+◌, ◌-◌, ◌<◌}
+use native.Mathlib.Omega.{arith}
+use mathlib.Core.List.{List}
+use mathlib.Core.Path.{sym, ap, ap₂, ◌∙◌}
+use lib.ListN.{get_or, set}
+use Rattle.rules.specs.Bytes.{words_of_bytes}
+use Rattle.rules.specs.Table.{list_offset, width_for}
+use Rattle.ring_rules.specs.Ring.{slot_after}
+use Rattle.ring_desk.proofs.RingSettle.{first_session, hand_nothing, hand_stores, no_session}
+use Rattle.ring_desk.proofs.hand_back_ring.Goals as goal
+
+pub returns-then-n-eq0 : goal.returns-then-n-eq0
+returns-then-n-eq0 c =
+    let words = words_of_bytes c.args.r.now in
+    let none = sym c.word-n.ensures ∙ c.if-n-eq0.true in
+    (no_session c.args.s words c.requires.0 none, hand_nothing c.args.s words c.requires.0 none)
+
+pub beginning-b-requires : goal.beginning-b-requires
+beginning-b-requires c = (c.requires.0.reads.bounded, c.requires.1)
+
+pub slot_after-p-requires : goal.slot_after-p-requires
+slot_after-p-requires c = (c.requires.0.reads.bounded, omega (arith, c.beginning-b.ensures, c.requires.0.begins), omega (arith, c.requires.0.begins))
+
+pub overflow_add-b : goal.overflow_add-b
+overflow_add-b c = omega (arith, c.beginning-b.ensures)
+
+pub word-x-requires : goal.word-x-requires
+word-x-requires c = omega (arith, c.requires.1, c.beginning-b.ensures, c.requires.0.begins)
+
+pub overflow_add-b-2 : goal.overflow_add-b-2
+overflow_add-b-2 c = omega (arith, c.beginning-b.ensures)
+
+pub put_word-requires : goal.put_word-requires
+put_word-requires c = omega (arith, c.requires.1, c.beginning-b.ensures, c.requires.0.begins)
+
+pub record_words-requires : goal.record_words-requires
+record_words-requires c = omega (arith, c.requires.0.reads.bounded)
+
+pub overflow_cast-p : goal.overflow_cast-p
+overflow_cast-p c = omega (arith, c.slot_after-p.ensures, c.requires.0.reads.bounded)
+
+pub put_word-requires-2 : goal.put_word-requires-2
+put_word-requires-2 c = omega (arith, c.requires.1, c.record_words.ensures, c.put_word.auto.t)
+
+pub returns : goal.returns
+returns c =
+    let s = c.args.s in
+    let words = words_of_bytes c.args.r.now in
+    let b = c.beginning-b.result in
+    let p = c.slot_after-p.result in
+    let begins = c.beginning-b.ensures.0 in
+    let some : 0 < get_or words 2 0 = omega (arith, c.word-n.ensures, c.if-n-eq0.false) in
+    let next = c.slot_after-p.ensures.0 ∙ ap (λ (k : ℕ). slot_after s k 1) begins in
+    let emptied = c.put_word.ensures.holds in
+    let moved = c.put_word-2.ensures.holds ∙ ap₂ (λ (x : List ℕ) (k : ℕ). set x k p) emptied c.record_words.ensures in
+    let stored = c.put_word-3.ensures.holds ∙ ap₂ (λ (x : List ℕ) (k : ℕ). set x 2 (k - 1)) moved c.word-n.ensures in (
+      c.word-x.ensures ∙ ap (λ (k : ℕ). get_or words (list_offset + k) 0) begins ∙ first_session s words c.requires.0 some,
+      stored ∙ ap (λ (k : ℕ). set (set (set words (list_offset + k) 0) (width_for s) p) 2 (get_or words 2 0 - 1)) begins
+          ∙ hand_stores s words c.requires.0 some p next,
+    )
