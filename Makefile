@@ -8,8 +8,7 @@
 #                       against those in Rust
 #   make instructions   counts the instructions of the hall's calls at the largest hall; needs valgrind
 #   make proved         lists the theorems
-#   make edits          tries all wrong programs and rules in edits/: each must be refused where it says (more than 15 minutes);
-#                       the gate leaves out those beyond four in one function's proof
+#   make edits          tries the wrong programs and rules in edits/: each must be refused where it says
 #   make gallery        draws the example sheets again, in docs/gallery/
 #   make selftest       shows that the comparisons catch 153 wrong boards and 203 wrong sheet programs, and that the trace of
 #                       stores catches 26 stray ones (more than 40 minutes)
@@ -17,7 +16,7 @@
 #   make fuzz           fuzzes the calls, then the sheet programs, each for half of MINUTES; installs clang if missing
 #   make fuzz-selftest  shows that the fuzzing catches wrong boards, stray accesses and wrong programs (minutes)
 PROGRAMS = $(addprefix target/bin/,day_sheet shorten_sheet day_sheet_2 to_edition_2 to_edition_1 training_sheet)
-.PHONY: run host test lib bench instructions proved edits gallery selftest soak fuzz fuzz-selftest help $(PROGRAMS)
+.PHONY: run host test lib programs bench instructions proved edits gallery selftest soak fuzz fuzz-selftest help $(PROGRAMS)
 
 CARGO = cargo run --quiet --offline --release --manifest-path
 export CARGO_TARGET_DIR = $(CURDIR)/target/outside
@@ -52,6 +51,8 @@ test:
 
 lib:
 	@tools/build lib
+
+programs: $(PROGRAMS)
 
 $(PROGRAMS):
 	@tools/build $(@F)

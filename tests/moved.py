@@ -13,21 +13,21 @@ TOOL = pathlib.Path(__file__).resolve().parent.parent / 'tools' / 'moved'
 BEFORE = {
     'crates/rules/specs/Steps.antt': '''
 -- The steps.
-use Prim.Native.Nat.{ℕ, suc}
+use Rattle.std.specs.Prelude.{ℕ, suc}
 pub data Step : Type 0 where
   Take : ℕ → Step
   Drop : Step
 
-infix 69 _sends_
-abbrev pub _sends_ : ℕ → Step → Call
+infix 69 ◌sends◌
+abbrev pub ◌sends◌ : ℕ → Step → Call
 desk sends step = record { desk = desk; step = step }
 
 -- one more
-abbrev pub oneMore : ℕ → ℕ
-oneMore n = suc n
+abbrev pub one_more : ℕ → ℕ
+one_more n = suc n
 
-abbrev pub twoMore : ℕ → ℕ
-twoMore n = suc (suc n)
+abbrev pub two_more : ℕ → ℕ
+two_more n = suc (suc n)
 
 abbrev pub unused : ℕ
 unused = 0
@@ -38,26 +38,26 @@ travels = 7
 unfoldable pub same : ℕ → ℕ
 same n = n
 ''',
-    'crates/rules/specs/Theorems.antt': '''
-use Rattle·rules·specs.specs.Steps.{oneMore, twoMore}
+    'crates/rules/proofs/Theorems.antt': '''
+use Rattle.rules.specs.Steps.{one_more, two_more}
 pub first-fact : (n : ℕ) → same n ≡ n
 first-fact n = refl
 
-pub second-fact : (n : ℕ) → oneMore (oneMore n) ≡ twoMore n
-unfolding oneMore
+pub second-fact : (n : ℕ) → one_more (one_more n) ≡ two_more n
+unfolding one_more
 second-fact n = refl
 
 module _ (limit : ℕ) where
   pub third-fact : limit ≤ suc limit
-  third-fact = by-arith limit
+  third-fact = omega arith
 
   pub fourth-fact : (n : ℕ) → n ≤ n + limit
-  fourth-fact n = by-arith n
+  fourth-fact n = omega arith
 
 helper : ℕ
 helper = 3
 ''',
-    'crates/rules/specs/laws/Lists.antt': '''
+    'crates/rules/proofs/Laws/Lists.antt': '''
 pub length-map : (l : List ℕ) → length (map f l) ≡ length l
 length-map [] = refl
 length-map (x ∷ l) = ap suc (length-map l)
@@ -67,7 +67,7 @@ old-law = 1
 ''',
     'crates/board/src/lib.rt': '''
 use words::word;
-ghost use Rattle·rules.specs.Steps.{oneMore};
+ghost use Rattle.rules.specs.Steps.{one_more};
 
 // The size.
 pub const SIZE: usize = 3; // words
@@ -76,32 +76,32 @@ pub struct Board;
 
 impl Board {
     pub fn need(n: u16) -> usize
-        ensures { λ r. ⌜ r ≡ oneMore n ⌝ }
+        ensures { result ≡ one_more n }
     {
         n as usize + 1
     }
 }
 
 // Adds one.
-#[no_mangle]
+#[unsafe(no_mangle)]
 pub extern "C" fn add(n: u16, table: &mut [u8]) -> u32
-    requires { ⌜ n < 10 ⌝ }
-    ensures { λ r. ⌜ r ≡ oneMore n ⌝ }
+    requires { n < 10 }
+    ensures { result ≡ one_more n }
 {
     // a comment {
     helper(n, "} //")
 }
 
 pub fn stays(n: u16) -> u16
-    ensures { λ r. ⌜ r ≡ n ⌝ }
+    ensures { result ≡ n }
 {
     n
 }
 
 // Two named clauses.
 pub fn copy(n: u16) -> u16
-    ensures value { λ r. ⌜ r ≡ n ⌝ }
-    ensures bound { λ r. ⌜ r ≤ n ⌝ }
+    ensures value { result ≡ n }
+    ensures bound { result ≤ n }
 {
     n
 }
@@ -110,12 +110,12 @@ fn helper(n: u16, s: &str) -> u32 {
     n as u32 + 1
 }
 ''',
-    'crates/board/proofs/add/Proof.antt': '''
-use Rattle·board·proofs.proofs.add.Tie as tie
-returns : tie.Need-returns
+    'crates/board/proofs/add/Answers.antt': '''
+use Rattle.board.proofs.add.Goals as goal
+pub returns : goal.returns
 returns c = refl
 ''',
-    'crates/board/proofs/stays/Proof.antt': 'returns : tie.Need-returns\nreturns c = refl\n',
+    'crates/board/proofs/stays/Answers.antt': 'pub returns : goal.returns\nreturns c = refl\n',
     'crates/board/proofs/Laws.antt': 'pub board-law : ℕ\nboard-law = 1\n\nlocal : ℕ\nlocal = 2\n\nopen-law : ℕ\nopen-law = 3\n',
     'crates/quiet/specs/Nothing.antt': 'abbrev pub nothing : ℕ\nnothing = 0\n',
 }
@@ -124,7 +124,7 @@ AFTER = {
     **BEFORE,
     'crates/rules/specs/Steps.antt': '''
 -- The steps, in other words, and more imports.
-use Prim.Native.Nat.{ℕ, suc, zero}
+use Rattle.std.specs.Prelude.{ℕ, suc, zero}
 use lib.Dec.{eqb}
 pub data Step : Type 0 where
   -- a comment
@@ -132,19 +132,19 @@ pub data Step : Type 0 where
   Drop : Step
   Swap : Step
 
-infix 70 _sends_
-abbrev pub _sends_ : ℕ → Step → Call
+infix 70 ◌sends◌
+abbrev pub ◌sends◌ : ℕ → Step → Call
 desk sends step = record { desk = desk; step = step }
 
-abbrev pub oneMore : ℕ → ℕ
-oneMore n =
+abbrev pub one_more : ℕ → ℕ
+one_more n =
     suc n
 
-abbrev pub twoMore : ℕ → ℕ
-twoMore n = suc (oneMore n)
+abbrev pub two_more : ℕ → ℕ
+two_more n = suc (one_more n)
 
-abbrev pub threeMore : ℕ → ℕ
-threeMore n = suc (twoMore n)
+abbrev pub three_more : ℕ → ℕ
+three_more n = suc (two_more n)
 
 unfoldable pub same : ℕ → ℕ
 same n = n
@@ -153,28 +153,28 @@ same n = n
 abbrev pub travels : ℕ
 travels = 7
 ''',
-    'crates/rules/specs/Theorems.antt': '''
-use Rattle·rules·specs.specs.Steps.{oneMore, twoMore, threeMore}
+    'crates/rules/proofs/Theorems.antt': '''
+use Rattle.rules.specs.Steps.{one_more, two_more, three_more}
 pub first-fact : (n : ℕ)
     → same n ≡ n
 first-fact n = refl
 
-pub second-fact : (n : ℕ) → oneMore (oneMore n) ≡ twoMore n
-unfolding oneMore
+pub second-fact : (n : ℕ) → one_more (one_more n) ≡ two_more n
+unfolding one_more
 second-fact n = sym refl
 
 module _ (limit : ℕ) (positive : 1 ≤ limit) where
   pub third-fact : limit ≤ suc limit
-  third-fact = by-arith limit
+  third-fact = omega arith
 
 module _ (limit : ℕ) where
   pub fourth-fact : (n : ℕ) → n ≤ n + limit
-  fourth-fact n = by-arith n
+  fourth-fact n = omega arith
 
 helper : ℕ
 helper = 3
 ''',
-    'crates/rules/specs/laws/lists/Lists.antt': '''
+    'crates/rules/proofs/Laws/Lists/Lists.antt': '''
 pub length-map : (l : List ℕ) → length (map f l) ≡ length l
 length-map [] = refl
 length-map (x ∷ l) = ap suc (length-map l)
@@ -182,21 +182,21 @@ length-map (x ∷ l) = ap suc (length-map l)
     'crates/board/src/lib.rt': BEFORE['crates/board/src/lib.rt']
         .replace('n < 10', 'n < 20')
         .replace('n as usize + 1', '1 + n as usize')
-        .replace('r ≤ n', 'r < n + 1')
+        .replace('result ≤ n', 'result < n + 1')
         .replace('{\n    n\n}\n\nfn helper', '{\n    n + 0\n}\n\nfn helper')
         .replace('pub fn need(n: u16) -> usize', 'pub fn need(\n        n: u16,\n    ) -> usize')
         .replace('fn helper(n: u16, s: &str)', '// private\nfn helper(n: u16, text: &str)'),
-    'crates/board/proofs/add/Proof.antt': '''
-use Rattle·board·proofs.proofs.add.Tie as tie
-use mathlib.Core.Path.{refl}
-returns : tie.Need-returns
+    'crates/board/proofs/add/Answers.antt': '''
+use Rattle.board.proofs.add.Goals as goal
+use Rattle.std.specs.Prelude.{refl}
+pub returns : goal.returns
 returns c = sym refl
 ''',
-    'crates/board/proofs/stays/Proof.antt': '-- by definition\nreturns : tie.Need-returns\nreturns c =\n    refl\n',
+    'crates/board/proofs/stays/Answers.antt': '-- by definition\npub returns : goal.returns\nreturns c =\n    refl\n',
     'crates/board/proofs/Laws.antt': BEFORE['crates/board/proofs/Laws.antt'].replace('open-law = 3', 'open-law = 4'),
     'crates/board/specs/Results.antt': 'pub record Result : Type 0 where\n  pub number : ℕ\n',
 }
-del AFTER['crates/rules/specs/laws/Lists.antt']
+del AFTER['crates/rules/proofs/Laws/Lists.antt']
 
 EXPECTED = '''
 board
@@ -223,10 +223,10 @@ rules
   proofs: 1 changed, 1 gone, 1 in another file, 4 stayed
   definitions changed:
     Steps.Step
-    Steps._sends_
-    Steps.twoMore
+    Steps.two_more
+    Steps.◌sends◌
   definitions new:
-    Steps.threeMore
+    Steps.three_more
   definitions gone:
     Steps.unused
   definitions in another file:
@@ -253,7 +253,7 @@ MARKDOWN = [
     '| `rules` | proofs | 1 | 0 | 1 | 1 | 4 |',
     '| all | promises | 3 | 0 | 0 | 0 | 5 |',
     'Nothing moved in `quiet`.',
-    '- definitions, changed: `Steps.Step`, `Steps._sends_`, `Steps.twoMore`',
+    '- definitions, changed: `Steps.Step`, `Steps.two_more`, `Steps.◌sends◌`',
     '- promises, changed: `board::add`, `board::copy`',
 ]
 

@@ -123,14 +123,15 @@ def is_about_a_fact(said):
 LEFT = re.compile(r'`search` did not prove ((?:`[^`]+`(?:, | and )?)+)')
 
 
-def file_of(function):
-    """The folder of a function's proof: of words::put_word proofs/put_word."""
-    return 'proofs/' + '/'.join(function.split('::')[1:])
+def folders_of(function):
+    """Where a function's proof may stand: of words::put_word proofs/put_word, and proofs/+put_word if it calls itself."""
+    *path, name = function.split('::')[1:]
+    return ['/'.join(['proofs', *path, word]) for word in (name, '+' + name)]
 
 
 def goals_refused(run, function):
     """The goals of a function that are refused themselves: by its answers, or because nothing was found for them; and what else was said of it."""
-    said = [line for file, lines in refusals(run).items() if file.startswith(file_of(function) + '/') for line in lines]
+    said = [line for file, lines in refusals(run).items() if os.path.dirname(file) in folders_of(function) for line in lines]
     verdict = re.search(rf'^fn {re.escape(function)}: (not proved|no proof)(.*)$', run.stdout, re.M)
     if not verdict:
         return [], said

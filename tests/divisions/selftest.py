@@ -39,7 +39,7 @@ SMALL = [
     ("is(b'/') + is(b'%')", 'fn is(a: u8) -> usize { a as usize }', PASSES),
     ('length(b"/ %")', 'fn length(a: &[u8]) -> usize { a.len() }', PASSES),
     ('a', 'pub fn not_called(a: usize) -> usize { a / 2 }', PASSES),
-    ('a', 'fn not_called(a: usize) -> [u8; 2]\n    ghost { n : ℕ }\n    ensures { ⌜ n / 2 ⌝ }\n{ [0; 2] }', PASSES),
+    ('a', 'fn not_called(a: usize) -> [u8; 2]\n    ghost { n : ℕ }\n    ensures { n / 2 }\n{ [0; 2] }', PASSES),
     ('u64::count_ones(std::num::wrapping_add_u64(a, 1))', '', PASSES),
     ('if (a) < 1 { return (a); } while (a) < 2 { match (a) { } } for b in (a)..3 { } Size(a)', '', PASSES),
     ('a / 16', '', DIVIDES),
@@ -47,8 +47,8 @@ SMALL = [
     ('let mut b = a; b /= 16; b', '', DIVIDES),
     ('half(a)', 'fn half(a: usize) -> usize { a / 2 }', DIVIDES),
     ('(half)(a)', 'fn half(a: usize) -> usize { a / 2 }', DIVIDES),
-    ('half(a)', 'fn half(a: usize) -> usize\n    ghost { n : ℕ }\n    ensures { ⌜ n / 2 ⌝ }\n{ a / 2 }', DIVIDES),
-    ('half(a)', "fn half(a: usize)\n    ensures { ⌜ b' ⌝ }\n{ a / 2 }\nfn last()\n    ensures { ⌜ b' ⌝ }\n{ }", DIVIDES),
+    ('half(a)', 'fn half(a: usize) -> usize\n    ghost { n : ℕ }\n    ensures { n / 2 }\n{ a / 2 }', DIVIDES),
+    ('half(a)', "fn half(a: usize)\n    ensures { b' }\n{ a / 2 }\nfn last()\n    ensures { b' }\n{ }", DIVIDES),
     ('first(a)', 'fn first(a: usize) -> usize { second(a) }\nfn second(a: usize) -> usize { a % 3 }', DIVIDES),
     ('other::third(a)', '', DIVIDES),
     ('depth.quarter()', '', DIVIDES),
@@ -62,18 +62,18 @@ SMALL = [
 ]
 # The same, of all that the crate exports.
 EXPORTING = [
-    ('a', '#[no_mangle]\npub extern "C" fn call(a: usize) -> usize { a }\n\nfn not_called(a: usize) -> usize { a / 2 }', PASSES),
-    ('a', '#[no_mangle] pub extern "C" fn call(a: usize) -> usize { a / 2 }', DIVIDES),
+    ('a', '#[unsafe(no_mangle)]\npub extern "C" fn call(a: usize) -> usize { a }\n\nfn not_called(a: usize) -> usize { a / 2 }', PASSES),
+    ('a', '#[unsafe(no_mangle)] pub extern "C" fn call(a: usize) -> usize { a / 2 }', DIVIDES),
     ('a / 2', '', 'no function small::*'),
 ]
 SMALL_CRATE = '''
 use other::twice;
-ghost use Prim.Native.Nat.{{_/_, _%_}};
+ghost use Rattle.std.specs.Prelude.{{◌/◌, ◌%◌}};
 
 // a / b
 pub fn all(a: usize) -> usize
-    requires named {{ ⌜ a / 2 ≡ a % 2 ⌝ }}
-    ensures {{ λ r. ⌜ r ≡ a / 16 ⌝ }}
+    requires named {{ a / 2 ≡ a % 2 }}
+    ensures {{ result ≡ a / 16 }}
 {{
     {}
 }}

@@ -4,7 +4,7 @@
 usage: tests/divisions/source.py FUNCTION ...
 
 A FUNCTION is named with its crate, as marks::mark_position; CRATE::* means every function that a crate exports to C. The
-sources are crates/ and the toolchain's library std. Comments and contracts may divide: they are not run. A function
+sources are crates/ and the toolchain's std::num. Comments and contracts may divide: they are not run. A function
 counts as called where its name is a word of the text, in the same crate or one above it (crates.txt), so more may be read
 than is called; a call of a function that is not found is an error. The last line is 'divisions in the source: N functions, M
 divide', and the exit status is 0 only if M is 0.
@@ -18,7 +18,7 @@ import sys
 
 ROOT = pathlib.Path(__file__).resolve().parent.parent.parent
 
-COMMENT_OR_LITERAL = re.compile(r"""//[^\n]*|(?<!\w)b'(?:\\x..|\\.|[^'\\\n])'|(?<!\w)b"(?:\\.|[^"\\])*\"""")
+COMMENT_OR_LITERAL = re.compile(r"""//[^\n]*|#!?\[[^\]]*\]|(?<!\w)b'(?:\\x..|\\.|[^'\\\n])'|(?<!\w)b"(?:\\.|[^"\\])*\"""")
 RENAMED = re.compile(r'^\s*(?:pub )?use\b[^;]*\sas\s', re.M)
 CLAUSE = re.compile(r'\b(?:requires|ensures)(?:\s+\w+)?\s*(?=\{)')
 FUNCTION = re.compile(r'\b(extern\s+"C"\s+)?fn\s+(\w+)')
@@ -26,6 +26,7 @@ CALL = re.compile(r'(\.?)\b(?:(\w+)::)?(\w+)\s*\(')
 KEYWORDS = {'if', 'while', 'match', 'return', 'in'}
 NUMBERS = {'u8', 'u16', 'u32', 'u64', 'usize', 'i8', 'i16', 'i32', 'i64', 'isize'}
 BITS = {'count_ones', 'leading_zeros', 'trailing_zeros'}
+METHODS = {'len', 'wrapping_add'}
 
 # A function: its crate, its name, its text from the name to the next function, and whether it is exported to C.
 Function = collections.namedtuple('Function', 'crate name text exported')
@@ -66,7 +67,7 @@ def functions_of(crate, text):
 def dependencies_of(lines):
     """Each crate of crates.txt with the crates that it depends on."""
     pairs = [line.split('#')[0].split(':') for line in lines if ':' in line.split('#')[0]]
-    return {crate.strip(): names.split() for crate, names in pairs}
+    return {crate.split()[0]: names.split() for crate, names in pairs}
 
 
 class Sources:
@@ -74,9 +75,10 @@ class Sources:
 
     def __init__(self, root, std):
         self.functions = []
-        for folder in [*sorted(root.glob('crates/*/src')), std / 'src']:
+        for folder in sorted(root.glob('crates/*/src')):
             for file in sorted(folder.rglob('*.rt')):
                 self.functions += functions_of(folder.parent.name, file.read_text())
+        self.functions += functions_of('std', std.read_text())
         self.dependencies = dependencies_of((root / 'crates.txt').read_text().splitlines())
 
     @functools.cache
@@ -106,7 +108,7 @@ class Sources:
         """Every function that this one may call: those whose name is a word of its text."""
         visible = self.visible(function.crate)
         for dot, owner, name in CALL.findall(function.text):
-            built_in = name in KEYWORDS or name[0].isupper() or dot and name == 'len' or owner in NUMBERS and name in BITS
+            built_in = name in KEYWORDS or name[0].isupper() or dot and name in METHODS or owner in NUMBERS and name in BITS
             if name not in visible and not built_in:
                 sys.exit(f'divisions: {function.crate}::{function.name} calls {name}, which is not found')
         for word in re.findall(r'\w+', function.text):
@@ -126,9 +128,9 @@ class Sources:
 
 
 def std():
-    """The folder of the library std: beside the toolchain's guides."""
-    guide = subprocess.run(['rt', 'doc'], capture_output=True, text=True, check=True).stdout.strip()
-    return pathlib.Path(guide).parent.parent / 'libs' / 'std'
+    """The sources of std::num: among the toolchain's libraries, beside the page to read first. No other of std is read."""
+    page = subprocess.run(['rt', 'doc'], capture_output=True, text=True, check=True).stdout.strip()
+    return pathlib.Path(page).parent / 'rattle' / 'core' / 'src' / 'num.rt'
 
 
 def check(sources, words):
