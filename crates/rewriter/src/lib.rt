@@ -124,7 +124,8 @@ fn write_bytes(out: &mut [u8], bytes: &[u8]) -> Written
     if out.len() < bytes.len() {
         return Written::NoRoom;
     }
-    Written::Bytes(bytes::copy(bytes, out))
+    out[..bytes.len()].copy_from_slice(bytes);
+    Written::Bytes(bytes.len())
 }
 
 // Writes a sheet whose header was read, if the buffer has room for it; or the line of a refused sheet.
