@@ -7,7 +7,7 @@ premise dropped. What is made so may be ill-typed: the prover says that.
 import collections
 import re
 
-TOKEN = re.compile(r"\s+|--[^\n]*|[(){};,]|\[\]|(?<=\s)\.[\w']+|[^\s(){};,.]+|\.")
+TOKEN = re.compile(r"\s+|--[^\n]*|[(){};,]|\[\]|(?<=[\w')])\.[\w']+|[^\s(){};,.]+|\.")
 CLOSING = {'(': ')', '{': '}'}
 # from those that bind least; λ and let reach to the end
 LEVELS = [{'→'}, {'×'}, {'≡', '≤', '<'}, {'||'}, {'&&'}, {'∷', '++'}, {'sends', 'by'}, {'+', '-'}, {'*', '/', '%'}]
@@ -18,7 +18,7 @@ EXCHANGED = {'-', '/', '%', '++', '∷', '<', '≤'}
 FAMILIES = [['ltb', 'leb', 'eqb'], ['take', 'drop'], ['true', 'false'], ['allowed', 'barred']]
 # what the kit's library takes, as far as two of its arguments may have one type
 LIBRARY = {
-    'getD': 'List A → ℕ → ℕ → ℕ', 'set': 'List A → ℕ → ℕ → List A', 'replicate': 'ℕ → ℕ → List ℕ', 'ltb': 'ℕ → ℕ → Bool', 'leb': 'ℕ → ℕ → Bool',
+    'get_or': 'List A → ℕ → ℕ → ℕ', 'set': 'List A → ℕ → ℕ → List A', 'replicate': 'ℕ → ℕ → List ℕ', 'ltb': 'ℕ → ℕ → Bool', 'leb': 'ℕ → ℕ → Bool',
     'cond': 'Bool → A → A → A', 'suc': 'ℕ → ℕ', 'not': 'Bool → Bool', 'zero': 'ℕ', 'true': 'Bool',
     'false': 'Bool',
 }
@@ -215,17 +215,15 @@ class Expression:
                 stop = hi
             elif self.tokens[i][0] == 'record' and i + 1 in self.match:
                 stop = self.match[i + 1] + 1
+            # a projection belongs to the atom before it
+            while stop < hi and self.is_projection(stop):
+                stop += 1
             atoms.append((i, stop))
             i = stop
         for a, b in atoms:
             self.atom(a, b, sign)
-        # what comes before a projection is projected as a whole
-        arguments = [atom for atom in atoms[1:]]
-        for n, (a, b) in enumerate(arguments):
-            if self.tokens[a][0].startswith('.'):
-                arguments = arguments[:n]
-                break
-        head = self.tokens[lo][0]
+        arguments = atoms[1:]
+        head = self.of(*atoms[0])
         types = self.names.types.get(head, [])
         for n, (a, b) in enumerate(arguments):
             for m, (c, d) in enumerate(arguments[n + 1:], n + 1):
@@ -238,8 +236,15 @@ class Expression:
         elif len(arguments) == 1 and len(atoms) == 2 and len(types) == 2 and types[0] == types[1]:
             self.put(lo, hi, self.of(*arguments[0]), f'{head} left out')
 
+    def is_projection(self, i):
+        return re.fullmatch(r"\.[\w']+", self.tokens[i][0]) is not None
+
     def atom(self, lo, hi, sign):
         token = self.tokens[lo][0]
+        while hi - 1 > lo and self.is_projection(hi - 1):
+            hi -= 1
+            for other in dict.fromkeys(self.names.fields[self.tokens[hi][0][1:]]):
+                self.put(hi, hi + 1, '.' + other, f'{other} for {self.tokens[hi][0][1:]}')
         if token == '(':
             self.visit(lo + 1, hi - 1, sign)
         elif token == 'record':
@@ -250,9 +255,6 @@ class Expression:
             for other in (int(token) + 1, int(token) - 1):
                 if other >= 0:
                     self.put(lo, hi, str(other), f'{token} is {other}')
-        elif token.startswith('.'):
-            for other in dict.fromkeys(self.names.fields[token[1:]]):
-                self.put(lo, hi, '.' + other, f'{other} for {token[1:]}')
         elif token in self.variables:
             alike = [name for name, of_type in self.variables.items() if of_type == self.variables[token]]
             at = alike.index(token)
@@ -315,7 +317,7 @@ def of_clauses(text, clauses, names):
         name, _, patterns = item[:equals.start()].partition(' ')
         # an operation's name stands between its arguments
         if name not in names.types:
-            name, patterns = next((f'_{op}_', f'{name} {rest}') for op, rest in [patterns.split(' ', 1)])
+            name, patterns = next((f'◌{op}◌', f'{name} {rest}') for op, rest in [patterns.split(' ', 1)])
         variables = variables_of(patterns, names.types.get(name, [])[:-1], names)
         sides.append((start + equals.end(), start + len(item), variables))
         expression = Expression(text, *sides[-1][:2], names, variables)

@@ -120,6 +120,16 @@ def is_about_a_fact(said):
 
 # ---- Functions.
 
+def source(folder):
+    """The text of a crate's code; those that are changed here have one file."""
+    return next((folder / 'src').glob('*.rt')).read_text()
+
+
+def only_facts(folder):
+    """Whether a crate is one of definitions and facts alone: it has no function."""
+    return not re.search(r'^ *(pub )?(extern "C" )?fn ', source(folder), re.M)
+
+
 LEFT = re.compile(r'`search` did not prove ((?:`[^`]+`(?:, | and )?)+)')
 
 
