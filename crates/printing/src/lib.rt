@@ -1,7 +1,7 @@
 // Prints the lines of a sheet, for the sheet programs and `sheet_cases`.
 #![tactic(auto)]
 
-ghost use Rattle.std.specs.Prelude.{◌≡◌, true, take};
+ghost use Rattle.std.specs.Prelude.{◌≡◌, ◌↔◌, true, take, IsNone};
 ghost use Rattle.std.specs.Io.KnownBytes.{Appends};
 ghost use Rattle.output.specs.Taken.{TakesFront};
 ghost use Rattle.reader.specs.Results.{edition_of};
@@ -32,6 +32,7 @@ pub fn print<W: Write>(sheet: &[u8], edition: Edition, to: &mut W) -> Printed
     ensures handed { HandedOver (edition_of edition) sheet.now result.complete result.bytes }
     ensures all { result.complete ≡ true → Appends (W.contents to.old) (W.contents to.new) (printed (edition_of edition) sheet.now) }
     ensures front { TakesFront (W.contents to.old) (W.contents to.new) (take result.bytes (printed (edition_of edition) sheet.now)) }
+    ensures why { (result.complete ≡ true) ↔ IsNone result.failure }
 {
     let mut table = [0u8; Board::MAX_BYTES];
     let mut out = [0u8; BATCH_BYTES];
@@ -41,7 +42,8 @@ pub fn print<W: Write>(sheet: &[u8], edition: Edition, to: &mut W) -> Printed
     let mut bytes = put;
     let mut taken = write_all(to, &out[..put]);
     while taken.is_ok() {
-        if state.finished {
+        let ended = state.finished;
+        if ended {
             return Printed {
                 complete: true,
                 bytes: bytes,
@@ -73,6 +75,7 @@ pub fn print_input<R: Read, W: Write, E: Write>(
 ) -> Printed
     ensures handed { OfInput (edition_of edition) result.complete result.bytes }
     ensures all { result.complete ≡ true → PrintsKnown (edition_of edition) (R.remaining from.old) (W.contents to.old) (W.contents to.new) }
+    ensures why { (result.complete ≡ true) ↔ IsNone result.failure }
     ensures unread { result.bytes ≡ 0 → to.new ≡ to.old }
     ensures quiet { result.complete ≡ true → errors.new ≡ errors.old }
 {
