@@ -4,18 +4,19 @@ use native.Mathlib.Omega.{arith}
 use mathlib.Core.Path.{◌≡◌, refl, sym, ap, ◌∙◌, subst}
 use mathlib.Core.Bool.{Bool, true, false}
 use mathlib.Core.List.{List, [], ◌++◌, append_assoc, append-nil}
+use mathlib.Core.Option.{some}
 use lib.ListN.{length, length-append}
 use lib.Dec.{leb}
 use borrow.Author.Tests.{leb-false, leb-true}
 use Rattle.buffer.specs.Put.{Put}
 use Rattle.buffer.proofs.Laws.Put.{put_none, put_on}
-use Rattle.rules.specs.Numbers.{parsed}
+use Rattle.rules.specs.Numbers.{Refusal, parsed, refused}
 use Rattle.rules.proofs.Laws.History.StepEffects.{in_range_lem}
 use Rattle.sheet_rules.specs.Lawful.{Lawful}
 use Rattle.sheet_rules.specs.Offsets.{ending_in}
 use Rattle.sheet_rules.specs.Rewriting.{entries_in}
 use Rattle.sheet_rules.specs.Sheet.{Carried, Edition, Record, Records, carried_after, complete, decode_records, encode_records, max_bytes, more, no_desk}
-use Rattle.sheet_rules.proofs.Laws.Sheet.{records_end, records_more}
+use Rattle.sheet_rules.proofs.Laws.Sheet.{records_end, records_more, records_stop}
 use Rattle.rewriter.specs.Build.{PutRecords, PutUnlessLong, records_from, written_for}
 
 module _ (from to : Edition) (sheet : List ℕ) where
@@ -113,6 +114,11 @@ module _ {from to : Edition} (lawful : Lawful from) {sheet : List ℕ} where
               let unchanged = put.long long in
               subst (λ (n : ℕ). Building from to sheet out first start next (carried_after entry) out_next n) (sym unchanged.1)
               (subst (λ (buffer : List ℕ). Building from to sheet out first start next (carried_after entry) buffer at) (sym unchanged.0) (building_long long))
+
+    -- a record is refused
+    pub building_stopped : {reason : Refusal} → offset < length sheet → from.decode_record carried sheet offset ≡ refused reason
+        → ending_in (records_from from sheet first) ≡ some reason
+    building_stopped {reason} inside read = sym was.ends ∙ ap ending_in (records_stop lawful carried sheet offset reason inside read)
 
     -- no record is left
     pub building_ended : length sheet ≤ offset → PutRecords to (records_from from sheet first) out start out_now at

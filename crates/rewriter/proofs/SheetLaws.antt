@@ -3,7 +3,7 @@ use Prim.Native.Nat.{ℕ, zero, suc, ◌≤◌, ◌<◌}
 use native.Mathlib.Omega.{arith}
 use mathlib.Core.Path.{◌≡◌, refl, sym, ap, ◌∙◌}
 use mathlib.Core.List.{List, ◌++◌}
-use mathlib.Core.Option.{Option}
+use mathlib.Core.Option.{Option, some}
 use lib.ListN.{length, length-append, length-replicate, take}
 use borrow.Author.Tests.{le-leb, lt-leb}
 use Rattle.board.specs.Opening.{OpeningAnswer}
@@ -13,6 +13,7 @@ use Rattle.rules.specs.Hall.{Hall, Limits}
 use Rattle.rules.specs.Numbers.{Refusal, parsed, refusal_of, refused}
 use Rattle.rules.specs.Steps.{Answer}
 use Rattle.rules.specs.Table.{max_words}
+use Rattle.sheet_rules.specs.Offsets.{ending_in}
 use Rattle.sheet_rules.specs.Rewriting.{meaning_of, refused_sheet_line, rewrite, unless_too_long, write_reading, write_unless}
 use Rattle.sheet_rules.specs.Sheet.{Edition, Records, begin_sheet, encode_sheet, if_opens, lent_table, max_bytes, open_sheet, opened, opening_number}
 use Rattle.sheet_rules.proofs.Laws.Sheet.{begun, opening_answer, reading-opens}
@@ -51,6 +52,10 @@ writes_opened from to sheet is = sym (ap (write_reading to) (reading-opens from 
 
 -- ---- A sheet that was built: its header and its records, or what ended its reading.
 module _ (to : Edition) (hall : Hall) (records : Records) where
+  pub writes_later_refusal : {reason : Refusal} → ending_in records ≡ some reason
+      → refused_sheet_line reason.number reason.offset ≡ write_reading to (opened hall records)
+  writes_later_refusal end = sym (ap (λ (e : Option Refusal). write_unless to e (meaning_of hall records)) end)
+
   -- the header was put at the start of a buffer, and the records after it
   module _ {empty headed built : List ℕ} {start end : ℕ} (header : Put empty headed 0 (to.encode_header hall) start) (put : PutRecords to records headed start built end) where
     abbrev bytes : List ℕ

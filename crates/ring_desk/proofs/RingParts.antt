@@ -128,6 +128,6 @@ linear-small s r small =
     let b = beginning_in s r in
     let slots = slots_in s r in
     let in_slots = small-take (2 * s) (drop list_offset r) (small-drop list_offset r small) in
-    let in_Tail = small-take tail_words (tail_in s r) (small-drop (list_offset + 2 * s) r small) in
+    let in_tail = small-take tail_words (tail_in s r) (small-drop (list_offset + 2 * s) r small) in
     below-append (2 ^ 16) (take list_offset r) (rotate b slots ++ take tail_words (tail_in s r)) (small-take list_offset r small)
-    (below-append (2 ^ 16) (rotate b slots) (take tail_words (tail_in s r)) (below-append (2 ^ 16) (drop b slots) (take b slots) (small-drop b slots in_slots) (small-take b slots in_slots)) in_Tail)
+    (below-append (2 ^ 16) (rotate b slots) (take tail_words (tail_in s r)) (below-append (2 ^ 16) (drop b slots) (take b slots) (small-drop b slots in_slots) (small-take b slots in_slots)) in_tail)

@@ -18,7 +18,7 @@ use Rattle.words.specs.Words.{all_zero, lacks}
 use Rattle.desk.proofs.WordDesk.{mark_words_in}
 use Rattle.ring_rules.specs.Ring.{beginning_in, ring_record_sound, ring_width_for, rotate}
 use Rattle.ring_desk.proofs.RingParts.{lent_words}
-use Rattle.ring_desk.proofs.RingSound.{ring_tests}
+use Rattle.ring_desk.proofs.RingSound.{ring_tests_list_last}
 use Rattle.ring_desk.proofs.sound_ring.Goals as goal
 use Rattle.ring_desk.proofs.sound_ring.Goals.{Start, After-count-k, After-marks_sound, Else-not-marks_sound, Else-s-b}
 
@@ -48,7 +48,7 @@ all_tests : (c : After-count-k) (n : ℕ) →
     → ring_record_sound c.args.s (words (goal.at.After-count-k c).Start)
     ≡ scan_sound c.args.s c.count-tested.result c.count-k.result && (marks-pass (goal.at.After-count-k c).Start c.count-tested.result c.count-k.result && rest-passes (goal.at.After-count-k c).Start n)
 all_tests c n used =
-    ring_tests c.args.s (words (goal.at.After-count-k c).Start) n c.count-tested.result c.count-k.result (long (goal.at.After-count-k c).Start) used c.count-tested.ensures.0 c.count-k.ensures.0
+    ring_tests_list_last c.args.s (words (goal.at.After-count-k c).Start) n c.count-tested.result c.count-k.result (long (goal.at.After-count-k c).Start) used c.count-tested.ensures.0 c.count-k.ensures.0
     (words_are_16 c.args.r.now (search rules))
 
 -- what the code finds of the marks

@@ -54,8 +54,8 @@ module _ (S : ℕ) (r r' : List ℕ) (long : length r ≡ ring_width_for S) (lon
           subst (λ (k : ℕ). get_or (linear S x) k 0 ≡ get_or x k 0) z (linear_tail S x e 0 (omega arith))
 
       by_place : Dec (j < list_offset) → Dec (j < tail_offset S) → Dec (j < width_for S) → get_or r' j 0 ≡ get_or r j 0
-      by_place (yes l) in_List in_Tail = sym (linear-head S r' long' j l) ∙ head l ∙ linear-head S r long j l
-      by_place (no l) (yes m) in_Tail =
+      by_place (yes l) in_list in_tail = sym (linear-head S r' long' j l) ∙ head l ∙ linear-head S r long j l
+      by_place (no l) (yes m) in_tail =
           let e : list_offset + (j - list_offset) ≡ j = omega arith in
           subst (λ (k : ℕ). get_or r' k 0 ≡ get_or r k 0) e
           (sym (slot_word r' long' (j - list_offset) (omega arith)) ∙ slots (j - list_offset) e (omega arith) ∙ slot_word r long (j - list_offset) (omega arith))
