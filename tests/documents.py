@@ -5,7 +5,7 @@ usage: tests/documents.py [DOCUMENT ...]        by default README.md, tests/READ
 
 - `Table.need`: the file Table.antt declares `need`, or a record or a struct `Table` has the field.
 - `board::open`, `board::Board::need`: the crate's source declares it. A path of no crate (`u64::count_ones`) must occur in a source.
-- `laws/table/EncodedStep`, `tests/host`: a file or a folder has this path, or ends with it; CRATE, NAME and NN match any name.
+- `Laws/Table/EncodedStep`, `tests/host`: a file or a folder has this path, or ends with it; CRATE, NAME and NN match any name.
 - `need`: a definition, a field, a constructor, a function, a constant, a type, an edit, a file or a folder, or a word of a test, a
   tool, the header or the Makefile. No word of a Markdown file is one: a document would declare its own names.
 A phrase, an option, an extension and a path outside the repository (../) are ignored.
@@ -25,7 +25,7 @@ CLAUSES = {'requires', 'ensures'}
 NAME = r"[\w'′-]+"
 WORD = re.compile(NAME)
 # A declaration of a definition, a record, a field or a constructor; of an item or a field of the code.
-ANTT = re.compile(rf"^\s*(?:abbrev |unfoldable |pub |data |record |infix\w* \d+ )*({NAME}|_\S+_)(?=[ ]*[:({{]| [a-zA-Z({{])", re.M)
+ANTT = re.compile(rf"^\s*(?:abbrev |unfoldable |pub |data |record |infix\w* \d+ )*({NAME}|◌\S+◌)(?=[ ]*[:({{]| [a-zA-Z({{])", re.M)
 RATTLE = re.compile(r'\b(?:fn|const|struct|enum|let|impl) (?:mut )?(\w+)|^\s*(?:pub )?(\w+)\s*[:(,]', re.M)
 RECORD = re.compile(rf'^( *)(?:pub )?(?:record|data) ({NAME})', re.M)
 
