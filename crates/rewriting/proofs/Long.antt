@@ -15,10 +15,10 @@ over edition a b long_a long_b = simp (lt-leb (length a) max_bytes long_a, lt-le
 pub read_as_all : (edition : Edition) (n : ℕ) (bytes : List ℕ) → max_bytes < n → reading edition (take n bytes) ≡ reading edition bytes
 read_as_all edition n bytes large =
     elim (leb_tells (length bytes) n) [
-      inl short ↦ ap (reading edition) (take_all n bytes short.1)
-    | inr long ↦
-        let front = length-take-le n bytes (omega (arith, long.1)) in
-        over edition (take n bytes) bytes (omega (arith, front, large)) (omega (arith, long.1, large))
+      | inl short ↦ ap (reading edition) (take_all n bytes short.1)
+      | inr long ↦
+          let front = length-take-le n bytes (omega (arith, long.1)) in
+          over edition (take n bytes) bytes (omega (arith, front, large)) (omega (arith, long.1, large))
     ]
 
 rewritten_as_all : (from to : Edition) (n : ℕ) (bytes : List ℕ) → max_bytes < n → rewrite from to (take n bytes) ≡ rewrite from to bytes

@@ -1,7 +1,7 @@
 // Writes a sheet in another edition, for `shorten_sheet` and the converters.
 #![tactic(auto)]
 
-ghost use Rattle.std.specs.Prelude.{◌≡◌, true, length};
+ghost use Rattle.std.specs.Prelude.{◌≡◌, ◌↔◌, true, length, IsNone};
 ghost use Rattle.std.specs.Io.KnownBytes.{Appends};
 ghost use Rattle.output.specs.Taken.{TakesFront};
 ghost use Rattle.reader.specs.Results.{edition_of};
@@ -31,6 +31,7 @@ pub fn write_rewritten<W: Write>(sheet: &[u8], from: Edition, to: Edition, outpu
     ensures handed { result.bytes ≡ length (rewritten (edition_of from) (edition_of to) sheet.now) }
     ensures all { result.complete ≡ true → Appends (W.contents output.old) (W.contents output.new) (rewritten (edition_of from) (edition_of to) sheet.now) }
     ensures front { TakesFront (W.contents output.old) (W.contents output.new) (rewritten (edition_of from) (edition_of to) sheet.now) }
+    ensures why { (result.complete ≡ true) ↔ IsNone result.failure }
 {
     let mut out = [0u8; OUTPUT_BYTES];
     match rewrite(sheet, from, to, &mut out) {
@@ -63,6 +64,7 @@ pub fn rewrite_input<R: Read, W: Write, E: Write>(
 ) -> Handed
     ensures handed { OfInput (edition_of from) (edition_of to) result.complete result.bytes }
     ensures all { result.complete ≡ true → RewritesKnown (edition_of from) (edition_of to) (R.remaining input.old) (W.contents output.old) (W.contents output.new) }
+    ensures why { (result.complete ≡ true) ↔ IsNone result.failure }
     ensures quiet { result.complete ≡ true → errors.new ≡ errors.old }
 {
     let mut bytes = [0u8; READ_BYTES];
