@@ -253,8 +253,6 @@ def copied(space):
     ignored = shutil.ignore_patterns('incremental')
     shutil.copytree(ROOT / 'crates', copy / 'crates', ignore=ignored, copy_function=linked)
     shutil.copy(ROOT / 'crates.txt', copy)
-    # rt looks for the repository's top at the nearest .git
-    (copy / '.git').mkdir()
     return copy
 
 
