@@ -100,10 +100,13 @@ def refusals(run):
     return found
 
 
-def first_refusal(run):
-    """The file of the crate in which the first refusal falls, and what the prover says there."""
+def first_refusal(run, name=''):
+    """The file of the crate in which the first refusal falls, and what the prover says there; of several ways at once that of this name."""
     for file, said in refusals(run).items():
-        return file, said[0]
+        if not name:
+            return file, said[0]
+        if f'/{name}/' in file:
+            return file.replace(f'{name}/', '', 1), said[0]
     return None, ''
 
 
@@ -183,9 +186,9 @@ def closure(folder, wanted, texts):
     return found
 
 
-def part_of(folder, wanted, texts):
-    """The changes that leave of a crate only these files and what they use."""
-    needed, part = closure(folder, wanted, texts), {}
+def part_of(folder, needed, texts):
+    """The changes that leave of a crate only these files and the lists of modules that lead to them."""
+    part = {}
     for file in [*(folder / 'specs').rglob('*.antt'), *(folder / 'proofs').rglob('*.antt')]:
         path, text = str(file.relative_to(folder)), text_of(file, texts)
         if path in needed:
@@ -197,6 +200,52 @@ def part_of(folder, wanted, texts):
     return part
 
 
+def affected(folder, needed, texts):
+    """Of the files that are needed those that are changed, and those that use such a file."""
+    found = {path for path in needed if folder / path in texts}
+    while True:
+        more = {path for path in needed - found if found & set(used_by(text_of(folder / path, texts), folder))}
+        if not more:
+            return found
+        found |= more
+
+
+def below(name, path):
+    """The place of a file of specs/ or proofs/ in a folder of this name there."""
+    part, _, rest = path.partition('/')
+    return f'{part}/{name}/{rest}'
+
+
+def beside(folder, many):
+    """The changes that leave of a crate what some of its files use, changed in several ways at once; `many` has a name for each way, the
+    files and the texts that are changed. What one of these reaches stands in a folder of that name, and the rest as it is."""
+    kept_files, made = set(), {}
+    for name, (wanted, texts) in many.items():
+        needed = closure(folder, wanted, texts)
+        moved = affected(folder, needed, texts)
+        kept_files |= needed - moved
+        module = re.compile(rf'(?<=Rattle\.{folder.name}\.)(specs|proofs)\.([\w.]+)(?=\.\{{)')
+
+        def place(found):
+            path = f'{found[1]}/{found[2].replace(".", "/")}.antt'
+            return f'{found[1]}.{name}.{found[2]}' if path in moved else found[0]
+
+        for path in moved:
+            made[below(name, path)] = module.sub(place, text_of(folder / path, texts))
+    changes = part_of(folder, kept_files, {})
+    # the lists of modules of the new folders
+    lists = {}
+    for path in made:
+        part, *names = path.removesuffix('.antt').split('/')
+        for end in range(1, len(names)):
+            lists.setdefault('/'.join([part, *names[:end]]) + '.antt', set()).add(names[end])
+        lists.setdefault(f'{part}/Lib.antt', set()).add(names[0])
+    for path, names in lists.items():
+        before = changes.get(folder / path) or '' if path.endswith('/Lib.antt') else made.get(path, '')
+        made[path] = before + ''.join(f'pub mod {name}\n' for name in sorted(names))
+    return changes | {folder / path: text for path, text in made.items()}
+
+
 def text_of(file, texts):
     return texts.get(file) or file.read_text()
 
@@ -204,13 +253,20 @@ def text_of(file, texts):
 @contextlib.contextmanager
 def changed(texts):
     """Files with other texts, or without them, and afterwards with their own again."""
-    before = {file: file.read_text() for file in texts}
+    before = {file: file.read_text() if file.is_file() else None for file in texts}
     try:
-        for file, text in texts.items():
-            file.unlink() if text is None else file.write_text(text)
+        put(texts)
         yield
     finally:
-        for file, text in before.items():
+        put(before)
+
+
+def put(texts):
+    for file, text in texts.items():
+        if text is None:
+            file.unlink(missing_ok=True)
+        else:
+            file.parent.mkdir(parents=True, exist_ok=True)
             file.write_text(text)
 
 
@@ -253,8 +309,6 @@ def copied(space):
     ignored = shutil.ignore_patterns('incremental')
     shutil.copytree(ROOT / 'crates', copy / 'crates', ignore=ignored, copy_function=linked)
     shutil.copy(ROOT / 'crates.txt', copy)
-    # rt looks for the repository's top at the nearest .git
-    (copy / '.git').mkdir()
     return copy
 
 
