@@ -4,6 +4,7 @@ A trial starts from what the crate's last check kept, so only the modules that a
 """
 import concurrent.futures
 import contextlib
+import difflib
 import os
 import pathlib
 import queue
@@ -153,6 +154,30 @@ def goals_refused(run, function):
     if not any(NO_NAME.search(line) for line in said):
         goals += [goal for found in LEFT.findall(verdict[2]) for goal in re.findall(r'`([^`]+)`', found)]
     return [goal for goal in goals if goal], said + [verdict[0]]
+
+
+NAME = re.compile(r"[\w'◌+-]+")
+
+
+def goals_text(copy, crate, function):
+    """The lines of what rt generates of a function's goals and of the facts that are known at each."""
+    with tempfile.TemporaryDirectory() as space:
+        words = ['timeout', str(LONGEST), 'rt', 'check', '--jobs', '1', '--start', function, '--generated', space]
+        subprocess.run(words, cwd=copy / 'crates' / crate, stdin=subprocess.DEVNULL, stdout=subprocess.DEVNULL, stderr=subprocess.DEVNULL)
+        places = [pathlib.Path(space) / folder.replace('proofs', f'Rattle-{crate}-proofs', 1) for folder in folders_of(function)]
+        files = sorted(file for place in places for file in place.rglob('*.antt') if 'Code' not in file.parts)
+        return [line for file in files for line in file.read_text().splitlines()]
+
+
+def respelled(before, after):
+    """The names that stand in other lines' places, of two programs that have as many steps."""
+    found = {}
+    for tag, i, j, k, m in difflib.SequenceMatcher(None, before, after, autojunk=False).get_opcodes():
+        for line, other in zip(before[i:j], after[k:m]) if tag == 'replace' and j - i == m - k else ():
+            names, others = NAME.findall(line), NAME.findall(other)
+            if len(names) == len(others):
+                found |= {name: told for name, told in zip(names, others) if name != told and '-' in name}
+    return found
 
 
 REFUTED = re.compile(r'^note: .*\(`([^`]+)`\); the facts known there allow values at which this goal is false', re.M)
