@@ -12,6 +12,7 @@ A phrase, an option, an extension and a path outside the repository (../) are ig
 """
 import collections
 import fnmatch
+import os
 import pathlib
 import re
 import sys
@@ -19,6 +20,7 @@ import sys
 ROOT = pathlib.Path(__file__).resolve().parent.parent
 PLACES = ['crates', 'edits', 'tests', 'tools', 'include', 'examples', 'bench', 'docs', 'Makefile', '.ci']
 BUILT = ('build', 'target')
+MADE = ('out', '__pycache__')  # folders below these places that are no part of the repository
 WIDTH = 120           # columns
 KIT = ('io', 'libc')  # crates of the toolchain
 CLAUSES = {'requires', 'ensures'}
@@ -33,7 +35,11 @@ RECORD = re.compile(rf'^( *)(?:pub )?(?:record|data) ({NAME})', re.M)
 def files():
     for place in PLACES:
         path = ROOT / place
-        yield from [path] if path.is_file() else (file for file in path.rglob('*') if file.is_file())
+        if path.is_file():
+            yield path
+        for folder, folders, names in os.walk(path):
+            folders[:] = sorted(name for name in folders if name not in MADE)
+            yield from (pathlib.Path(folder, name) for name in names)
 
 
 def fields_of(text):

@@ -42,15 +42,14 @@ def crates_below(crates):
 
 
 def prove(crates):
-    """Proves these crates in this tree, where they have changed since they were last proved; what it said if one is not proved."""
+    """Proves these crates in this tree, where they have changed since they were last proved; the run of one that is not proved, or None."""
+    def proved(crate):
+        return subprocess.run(['rt', 'check', '--jobs', '1'], cwd=ROOT / 'crates' / crate, stdin=subprocess.DEVNULL, capture_output=True, text=True)
+
     (ROOT / 'build').mkdir(exist_ok=True)
-    for crate in crates_below(crates):
-        if crate in crates:
-            command = ['flock', ROOT / 'build' / 'rt.lock', 'rt', 'check']
-            run = subprocess.run(command, cwd=ROOT / 'crates' / crate, capture_output=True, text=True)
-            if run.returncode != 0:
-                return run
-    return None
+    with concurrent.futures.ThreadPoolExecutor(workers()) as pool:
+        runs = list(pool.map(proved, [crate for crate in crates_below(crates) if crate in crates]))
+    return next((run for run in runs if run.returncode != 0), None)
 
 
 def linked(one, other):
