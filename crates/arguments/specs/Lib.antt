@@ -1,2 +1,2 @@
--- The definition that the contract of this crate cites, and computed cases of it.
+-- The definition that the contract of this crate cites.
 pub mod Asks

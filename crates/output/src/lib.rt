@@ -4,7 +4,7 @@
 ghost use Rattle.std.specs.Prelude.{◌≡◌, true, OnErr, OnOk};
 ghost use Rattle.std.specs.Io.{StartsWith};
 ghost use Rattle.std.specs.Io.KnownBytes.{Appends};
-ghost use Rattle.output.specs.Line.{SaysWhy, line};
+ghost use Rattle.output.specs.Line.{BeginsToSay, SaysWhy, line};
 ghost use Rattle.output.specs.Taken.{TakesFront};
 
 use std::fmt::InlineText;
@@ -45,14 +45,16 @@ fn without_number(text: &str) -> &str
 // Writes a line: what failed, as the caller names it, a colon and the reason, without the system's number of it. It returns whether
 // the line was written.
 pub fn fail<W: Write>(to: &mut W, what: &[u8], why: Error) -> bool
-    ensures { result ≡ true → SaysWhy (W.contents to.old) (W.contents to.new) what.now }
+    ensures whole { result ≡ true → SaysWhy (W.contents to.old) (W.contents to.new) what.now }
+    ensures front { BeginsToSay (W.contents to.old) (W.contents to.new) what.now }
 {
     let text = InlineText::<{ MOST_TEXT }>::of(why);
     write_line(to, what, without_number(text.as_str()).as_bytes()).is_ok()
 }
 
 fn write_line<W: Write>(to: &mut W, what: &[u8], reason: &[u8]) -> Result<()>
-    ensures { OnOk result (Appends (W.contents to.old) (W.contents to.new) (line what.now reason.now)) }
+    ensures all { OnOk result (Appends (W.contents to.old) (W.contents to.new) (line what.now reason.now)) }
+    ensures front { OnErr result (TakesFront (W.contents to.old) (W.contents to.new) (line what.now reason.now)) }
 {
     write_all(to, what)?;
     write_all(to, b": ")?;

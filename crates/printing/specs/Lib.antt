@@ -1,2 +1,2 @@
--- The definitions that the contract of this crate cites, beside those of the sheet, and what follows from it.
+-- The definitions that the contracts of this crate cite, beside those of the sheet.
 pub mod Output

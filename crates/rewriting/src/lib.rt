@@ -1,8 +1,9 @@
 // Writes a sheet in another edition, for `shorten_sheet` and the converters.
 #![tactic(auto)]
 
-ghost use Rattle.std.specs.Prelude.{◌≡◌, ◌↔◌, true, length, IsNone};
+ghost use Rattle.std.specs.Prelude.{◌≡◌, ◌↔◌, ◌⊎◌, true, false, length, IsNone};
 ghost use Rattle.std.specs.Io.KnownBytes.{Appends};
+ghost use Rattle.output.specs.Line.{BeginsToSay};
 ghost use Rattle.output.specs.Taken.{TakesFront};
 ghost use Rattle.reader.specs.Results.{edition_of};
 ghost use Rattle.sheet_rules.specs.Rewriting.{rewrite as rewritten};
@@ -65,6 +66,8 @@ pub fn rewrite_input<R: Read, W: Write, E: Write>(
     ensures handed { OfInput (edition_of from) (edition_of to) result.complete result.bytes }
     ensures all { result.complete ≡ true → RewritesKnown (edition_of from) (edition_of to) (R.remaining input.old) (W.contents output.old) (W.contents output.new) }
     ensures why { (result.complete ≡ true) ↔ IsNone result.failure }
+    ensures said { result.complete ≡ false → ((result.bytes ≡ 0) × BeginsToSay (E.contents errors.old) (E.contents errors.new) cannot_read.now)
+        ⊎ BeginsToSay (E.contents errors.old) (E.contents errors.new) cannot_write.now }
     ensures quiet { result.complete ≡ true → errors.new ≡ errors.old }
 {
     let mut bytes = [0u8; READ_BYTES];

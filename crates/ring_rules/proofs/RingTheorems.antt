@@ -1,5 +1,5 @@
 -- The theorems about the board whose list is a ring. The statements are defined in RingDemands and in the rules of the first board; the proofs are in
--- laws/. They hold for any limits; the exported calls use those of the hall. Document 02, "A list that turns".
+-- Laws/. They hold for any limits; the exported calls use those of the hall. Document 02, "A list that turns".
 use Rattle.std.specs.Prelude.{ℕ, ◌*◌, ◌%◌, ◌≤◌, ◌≡◌, refl, true, false, List, ◌++◌, drop, get_or, length, take}
 use Rattle.rules.specs.Bytes.{Agrees, Call16, Calls16, IsBytes, Words16, step_bytes, words_of_bytes}
 use Rattle.rules.specs.Closing.{ClosingRule, HandBackCloses}

@@ -1,4 +1,4 @@
--- The theorems. The statements are defined in Locality, Demands, Closing, Messages, Rooms, Runs, History, Table and Bytes; the proofs are in laws/.
+-- The theorems. The statements are defined in Locality, Demands, Closing, Messages, Rooms, Runs, History, Table and Bytes; the proofs are in Laws/.
 -- They hold for any limits; the exported calls use those of the hall and of the training room, `hall_limits` and `training_limits`.
 use Rattle.std.specs.Prelude.{ℕ, ◌≤◌, ◌≡◌, true, List, ◌++◌, drop, get_or, length, set, take}
 use Rattle.std.proofs.Common.{arith, ap, subst}

@@ -17,7 +17,7 @@ use Rattle.sheet_rules.specs.Sheet.{Edition, Reading, Records, decode_records, l
 use Rattle.tally.specs.Counts.{to_tally}
 use Rattle.sheet.specs.declared.State.{State}
 
--- Room for the longest last line, and for the longest line with the last line after it (`laws.Longest` of `sheet_rules`).
+-- Room for the longest last line, and for the longest line with the last line after it (`proofs/Laws/Longest` of `sheet_rules`).
 abbrev pub end_room : ℕ
 end_room = 67
 

@@ -9,7 +9,7 @@ use Rattle.sheet_rules.specs.OtherEdition.{HeaderNumberRefused}
 use Rattle.sheet_rules.specs.Edition1.{decode_header, encode_header, encode_number, encode_record, hall_edition, hall_format}
 use Rattle.sheet_rules.specs.Edition2.{decode_header2, decode_record2, encode_header2, encode_record2, hall_edition2, stands_for, version2}
 use Rattle.sheet_rules.proofs.Edition2Cases.{sheet_d2}
-use Rattle.sheet_rules.specs.Lines.{line, printed}
+use Rattle.sheet_rules.specs.Lines.{printed}
 use Rattle.sheet_rules.specs.Offsets.{ShowsByte}
 use Rattle.sheet_rules.proofs.ReadingCases.{records_d, small}
 use Rattle.sheet_rules.specs.Rewriting.{Rewritten, TooLong, refused_sheet_line, rewrite, to_edition1, to_edition2}

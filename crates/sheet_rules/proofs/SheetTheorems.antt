@@ -1,4 +1,4 @@
--- The theorems about day sheets. Their proofs are in laws/ and, for the demands, in the rules.
+-- The theorems about day sheets. Their proofs are in Laws/ and, for the demands, in the rules.
 use Rattle.std.specs.Prelude.{ℕ, ◌≤◌, ◌<◌, ◌≡◌, refl, true, false, List, ◌∷◌, ◌++◌, ◌⊎◌, length, take}
 use Rattle.std.proofs.Common.{arith, ap, ◌∙◌, subst}
 use Rattle.std.proofs.Math.Option.{some}

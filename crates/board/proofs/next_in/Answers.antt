@@ -9,7 +9,7 @@ use Rattle.words.proofs.Laws.{length-words}
 use Rattle.board.specs.declared.Hall.{Hall}
 use Rattle.board.proofs.AdmissionLaws.{SoundHall, hall_bounded, sound-hall}
 use Rattle.board.proofs.MessageLaws.{next_of_desk, next_of_no_desk}
-use Rattle.board.proofs.SoundLaws.{said_no, said_yes}
+use Rattle.board.proofs.SoundLaws.{said_false, said_true}
 use Rattle.board.proofs.next_in.Goals as goal
 use Rattle.board.proofs.next_in.Goals.{Start, After-tail_offset}
 
@@ -28,15 +28,15 @@ next_at c =
     ∙ ap (λ (h : Hall). start_for h.positions h.all (c.args.desk - 1) + tail_offset h.all) (sound-hall c.requires).is
 
 pub returns-then-not-in_range : goal.returns-then-not-in_range
-returns-then-not-in_range c = next_of_no_desk (numbers (goal.at.returns-then-not-in_range c).Start) c.args.desk (said_no c.in_range.ensures c.if-not-in_range.true)
+returns-then-not-in_range c = next_of_no_desk (numbers (goal.at.returns-then-not-in_range c).Start) c.args.desk (said_false c.in_range.ensures c.if-not-in_range.true)
 
 pub overflow_sub-desk : goal.overflow_sub-desk
-overflow_sub-desk c = omega (arith, in_range_lem c.args.desk c.args.hall.desks (said_yes c.in_range.ensures c.if-not-in_range.false))
+overflow_sub-desk c = omega (arith, in_range_lem c.args.desk c.args.hall.desks (said_true c.in_range.ensures c.if-not-in_range.false))
 
 pub record_start-a-requires : goal.record_start-a-requires
 record_start-a-requires c =
     let b = hall_bounded (numbers (goal.at.record_start-a-requires c).Start) in
-    omega (arith, b.positions, b.all, b.desks, in_range_lem c.args.desk c.args.hall.desks (said_yes c.in_range.ensures c.if-not-in_range.false))
+    omega (arith, b.positions, b.all, b.desks, in_range_lem c.args.desk c.args.hall.desks (said_true c.in_range.ensures c.if-not-in_range.false))
 
 pub tail_offset-requires : goal.tail_offset-requires
 tail_offset-requires c = omega (arith, (hall_bounded (numbers (goal.at.tail_offset-requires c).Start)).all)
@@ -48,8 +48,8 @@ pub word-requires : goal.word-requires
 word-requires c =
     let hall = hall_in (words (goal.at.word-requires c).Start) in
     let desks = ap (λ (h : Hall). h.desks) (numbers (goal.at.word-requires c).Start).is in
-    let range = in_range_lem c.args.desk c.args.hall.desks (said_yes c.in_range.ensures c.if-not-in_range.false) in
+    let range = in_range_lem c.args.desk c.args.hall.desks (said_true c.in_range.ensures c.if-not-in_range.false) in
     omega (arith, next_at c, record_within hall c.args.desk range.0 (omega (arith, range.1, desks)), (known (limits_of c.args.limits) (words (goal.at.word-requires c).Start) (numbers (goal.at.word-requires c).Start).yes_sound).long, length-words c.args.t.now)
 
 pub returns : goal.returns
-returns c = c.word.ensures ∙ next_of_desk (numbers (goal.at.returns c).Start) c.args.desk (said_yes c.in_range.ensures c.if-not-in_range.false) (next_at (goal.at.returns c).After-tail_offset)
+returns c = c.word.ensures ∙ next_of_desk (numbers (goal.at.returns c).Start) c.args.desk (said_true c.in_range.ensures c.if-not-in_range.false) (next_at (goal.at.returns c).After-tail_offset)

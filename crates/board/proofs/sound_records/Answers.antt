@@ -4,7 +4,7 @@ use borrow.Rule.Slice.PartMut.{mid_len}
 use Rattle.rules.specs.Bytes.{words_of_bytes}
 use Rattle.rules.specs.Table.{header_words, record_sound, width_for}
 use Rattle.words.proofs.Laws.{words-part}
-use Rattle.board.proofs.SoundLaws.{one_bad, one_more, record_at, said_no, said_yes}
+use Rattle.board.proofs.SoundLaws.{one_bad, one_more, record_at, said_false, said_true}
 use Rattle.board.proofs.sound_records.Goals as goal
 use Rattle.board.proofs.sound_records.Goals.{After-sound_record}
 
@@ -39,10 +39,10 @@ sound_record-requires c =
     (omega (arith, c.requires), omega (arith, long, c.record_words-size.ensures))
 
 pub returns-then-not-sound_record : goal.returns-then-not-sound_record
-returns-then-not-sound_record c = sym (one_bad (record_sound c.args.s) (width_for c.args.s) c.args.p c.loop-d.d (records (goal.at.returns-then-not-sound_record c).After-sound_record) (omega arith) (said_no (answer (goal.at.returns-then-not-sound_record c).After-sound_record) c.if-not-sound_record.true))
+returns-then-not-sound_record c = sym (one_bad (record_sound c.args.s) (width_for c.args.s) c.args.p c.loop-d.d (records (goal.at.returns-then-not-sound_record c).After-sound_record) (omega arith) (said_false (answer (goal.at.returns-then-not-sound_record c).After-sound_record) c.if-not-sound_record.true))
 
 pub loop-d-preserved : goal.loop-d-preserved
-loop-d-preserved c = (omega arith, rw add-one (one_more (record_sound c.args.s) (width_for c.args.s) c.loop-d.d (records (goal.at.loop-d-preserved c).After-sound_record) c.loop-d.invariant.1 (said_yes (answer (goal.at.loop-d-preserved c).After-sound_record) c.if-not-sound_record.false)))
+loop-d-preserved c = (omega arith, rw add-one (one_more (record_sound c.args.s) (width_for c.args.s) c.loop-d.d (records (goal.at.loop-d-preserved c).After-sound_record) c.loop-d.invariant.1 (said_true (answer (goal.at.loop-d-preserved c).After-sound_record) c.if-not-sound_record.false)))
 
 pub returns : goal.returns
 returns c =

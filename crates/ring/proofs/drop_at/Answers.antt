@@ -9,7 +9,7 @@ use Rattle.reply.specs.declared.Reply.TheVariants.{Accepted}
 use Rattle.ring.proofs.AdmissionLaws.{admitted}
 use Rattle.ring.proofs.LocationLaws.{AtScreen, at_screen}
 use Rattle.board.proofs.ResultLaws.{matches, matches_unchanged}
-use Rattle.board.proofs.SoundLaws.{said_no, said_yes}
+use Rattle.board.proofs.SoundLaws.{said_false, said_true}
 use Rattle.ring.proofs.StepLaws.{drop_accepted, drop_no_screen, drop_screen_empty}
 use Rattle.ring.proofs.drop_at.Goals as goal
 use Rattle.ring.proofs.drop_at.Goals.{After-screen_at-at}
@@ -18,14 +18,14 @@ use Rattle.ring.proofs.drop_at.Goals.{After-screen_at-at}
 screen : (c : After-screen_at-at) →
     AtScreen (words_of_bytes c.args.t.now) c.args.desk c.args.screen c.screen_at-at.result
 screen c =
-    at_screen (admitted c.requires) (said_yes c.in_range.ensures c.if-not-in_range.false) c.screen_at-at.ensures
+    at_screen (admitted c.requires) (said_true c.in_range.ensures c.if-not-in_range.false) c.screen_at-at.ensures
 
 pub returns-then-not-in_range : goal.returns-then-not-in_range
-returns-then-not-in_range c = matches_unchanged (drop_no_screen (admitted c.requires) c.args.screen (said_no c.in_range.ensures c.if-not-in_range.true))
+returns-then-not-in_range c = matches_unchanged (drop_no_screen (admitted c.requires) c.args.screen (said_false c.in_range.ensures c.if-not-in_range.true))
 
 pub screen_at-at-requires : goal.screen_at-at-requires
 screen_at-at-requires c =
-    let s = at_screen (admitted c.requires) (said_yes c.in_range.ensures c.if-not-in_range.false) refl in
+    let s = at_screen (admitted c.requires) (said_true c.in_range.ensures c.if-not-in_range.false) refl in
     (s.desk, s.first, s.bounded)
 
 pub word-shown-requires : goal.word-shown-requires

@@ -19,7 +19,7 @@ use Rattle.board.specs.declared.Hall.{Hall}
 use Rattle.ring.specs.RingAdmission.{admission_of}
 use Rattle.ring.specs.declared.Admission.TheVariants.{At}
 use Rattle.ring.proofs.AdmissionLaws.{Bounded, SoundHall, hall_bounded, sound-hall}
-use Rattle.board.proofs.SoundLaws.{said_no, said_yes}
+use Rattle.board.proofs.SoundLaws.{said_false, said_true}
 use Rattle.ring.proofs.locate.Goals as goal
 use Rattle.ring.proofs.locate.Goals.{Start, Else-not-in_range, After-tail_offset, After-word}
 
@@ -39,7 +39,7 @@ within o = hall_bounded (numbers o)
 -- the desk is one of the hall's
 own_desk : (c : Else-not-in_range) → in_range c.args.desk (hall_in (words (goal.at.Else-not-in_range c).Start)).desks ≡ true
 own_desk c =
-    said_yes (c.in_range.ensures ∙ ap (λ (h : Hall). in_range c.args.desk h.desks) (numbers (goal.at.Else-not-in_range c).Start).is) c.if-not-in_range.false
+    said_true (c.in_range.ensures ∙ ap (λ (h : Hall). in_range c.args.desk h.desks) (numbers (goal.at.Else-not-in_range c).Start).is) c.if-not-in_range.false
 
 -- the offset of the desk's next message number
 next_at : (c : After-tail_offset) →
@@ -56,20 +56,20 @@ next_read c =
 
 pub returns-then-not-in_range : goal.returns-then-not-in_range
 unfolding admission_of
-returns-then-not-in_range c = rw ((numbers (goal.at.returns-then-not-in_range c).Start).yes_sound, said_no (c.in_range.ensures ∙ ap (λ (h : Hall). in_range c.args.desk h.desks) (numbers (goal.at.returns-then-not-in_range c).Start).is) c.if-not-in_range.true)
+returns-then-not-in_range c = rw ((numbers (goal.at.returns-then-not-in_range c).Start).yes_sound, said_false (c.in_range.ensures ∙ ap (λ (h : Hall). in_range c.args.desk h.desks) (numbers (goal.at.returns-then-not-in_range c).Start).is) c.if-not-in_range.true)
 
 pub overflow_sub-d : goal.overflow_sub-d
-overflow_sub-d c = omega (arith, in_range_lem c.args.desk c.args.hall.desks (said_yes c.in_range.ensures c.if-not-in_range.false))
+overflow_sub-d c = omega (arith, in_range_lem c.args.desk c.args.hall.desks (said_true c.in_range.ensures c.if-not-in_range.false))
 
 pub ring_start-a-requires : goal.ring_start-a-requires
 ring_start-a-requires c =
     let w = within (goal.at.ring_start-a-requires c).Start in
-    omega (arith, w.positions, w.all, w.desks, in_range_lem c.args.desk c.args.hall.desks (said_yes c.in_range.ensures c.if-not-in_range.false))
+    omega (arith, w.positions, w.all, w.desks, in_range_lem c.args.desk c.args.hall.desks (said_true c.in_range.ensures c.if-not-in_range.false))
 
 pub ring_start-e-requires : goal.ring_start-e-requires
 ring_start-e-requires c =
     let w = within (goal.at.ring_start-e-requires c).Start in
-    omega (arith, w.positions, w.all, w.desks, in_range_lem c.args.desk c.args.hall.desks (said_yes c.in_range.ensures c.if-not-in_range.false))
+    omega (arith, w.positions, w.all, w.desks, in_range_lem c.args.desk c.args.hall.desks (said_true c.in_range.ensures c.if-not-in_range.false))
 
 pub tail_offset-requires : goal.tail_offset-requires
 tail_offset-requires c = omega (arith, (within (goal.at.tail_offset-requires c).Start).all)

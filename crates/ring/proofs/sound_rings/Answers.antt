@@ -11,7 +11,7 @@ use Rattle.rules.specs.Bytes.{words_of_bytes}
 use Rattle.rules.specs.Table.{header_words}
 use Rattle.ring_rules.specs.Ring.{ring_record_sound, ring_width_for}
 use Rattle.words.proofs.Laws.{words-part}
-use Rattle.board.proofs.SoundLaws.{one_bad, one_more, record_at, said_no, said_yes}
+use Rattle.board.proofs.SoundLaws.{one_bad, one_more, record_at, said_false, said_true}
 use Rattle.ring.proofs.sound_rings.Goals as goal
 use Rattle.ring.proofs.sound_rings.Goals.{After-sound_ring}
 
@@ -46,10 +46,10 @@ sound_ring-requires c =
     (omega (arith, c.requires), omega (arith, long, c.ring_record_words-size.ensures))
 
 pub returns-then-not-sound_ring : goal.returns-then-not-sound_ring
-returns-then-not-sound_ring c = sym (one_bad (ring_record_sound c.args.s) (ring_width_for c.args.s) c.args.p c.loop-d.d (records (goal.at.returns-then-not-sound_ring c).After-sound_ring) (omega arith) (said_no (answer (goal.at.returns-then-not-sound_ring c).After-sound_ring) c.if-not-sound_ring.true))
+returns-then-not-sound_ring c = sym (one_bad (ring_record_sound c.args.s) (ring_width_for c.args.s) c.args.p c.loop-d.d (records (goal.at.returns-then-not-sound_ring c).After-sound_ring) (omega arith) (said_false (answer (goal.at.returns-then-not-sound_ring c).After-sound_ring) c.if-not-sound_ring.true))
 
 pub loop-d-preserved : goal.loop-d-preserved
-loop-d-preserved c = (omega arith, rw (add-one c.loop-d.d) (one_more (ring_record_sound c.args.s) (ring_width_for c.args.s) c.loop-d.d (records (goal.at.loop-d-preserved c).After-sound_ring) c.loop-d.invariant.1 (said_yes (answer (goal.at.loop-d-preserved c).After-sound_ring) c.if-not-sound_ring.false)))
+loop-d-preserved c = (omega arith, rw (add-one c.loop-d.d) (one_more (ring_record_sound c.args.s) (ring_width_for c.args.s) c.loop-d.d (records (goal.at.loop-d-preserved c).After-sound_ring) c.loop-d.invariant.1 (said_true (answer (goal.at.loop-d-preserved c).After-sound_ring) c.if-not-sound_ring.false)))
 
 pub returns : goal.returns
 returns c =

@@ -10,7 +10,7 @@ use Rattle.words.proofs.Laws.{length-words, written_as, written_then}
 use Rattle.ring.proofs.AdmissionLaws.{Admitted, admitted}
 use Rattle.ring.proofs.LocationLaws.{AtPosition, at_position}
 use Rattle.board.proofs.ResultLaws.{matches, matches_unchanged}
-use Rattle.board.proofs.SoundLaws.{said_no, said_yes}
+use Rattle.board.proofs.SoundLaws.{said_false, said_true}
 use Rattle.ring.proofs.StepLaws.{swap_accepted, swap_accepted_none, swap_no_position, swap_over_limits, swap_owing, swap_repeated}
 use Rattle.ring.proofs.swap_at.Goals as goal
 use Rattle.ring.proofs.swap_at.Goals.{Else-session-limits}
@@ -20,20 +20,20 @@ here : (c : Else-session-limits) → let o = c.args in Admitted (limits_of o.lim
 here c = admitted c.requires
 
 position : (c : Else-session-limits) → let o = c.args in AtPosition (words_of_bytes o.t.now) o.desk o.position
-position c = search (at_position, admitted, said_yes)
+position c = search (at_position, admitted, said_true)
 
 -- ---- the answers that write nothing: the three refusals, and a repeat
 pub returns-then-not-in_range : goal.returns-then-not-in_range
-returns-then-not-in_range c = matches_unchanged (search (swap_no_position, admitted, said_no))
+returns-then-not-in_range c = matches_unchanged (search (swap_no_position, admitted, said_false))
 
 pub returns-then-session-limits : goal.returns-then-session-limits
-returns-then-session-limits c = matches_unchanged (search (swap_over_limits, admitted, at_position, said_yes))
+returns-then-session-limits c = matches_unchanged (search (swap_over_limits, admitted, at_position, said_true))
 
 pub returns-then-word-ne0 : goal.returns-then-word-ne0
-returns-then-word-ne0 c = matches_unchanged (search (swap_owing, admitted, at_position, said_yes))
+returns-then-word-ne0 c = matches_unchanged (search (swap_owing, admitted, at_position, said_true))
 
 pub returns-then-old-session : goal.returns-then-old-session
-returns-then-old-session c = matches_unchanged (search (swap_repeated, admitted, at_position, said_yes))
+returns-then-old-session c = matches_unchanged (search (swap_repeated, admitted, at_position, said_true))
 
 pub overflow_add-owed : goal.overflow_add-owed
 overflow_add-owed c = let e = here (goal.at.overflow_add-owed c).Else-session-limits in omega (arith, e.room, e.end_is, length-words c.args.t.now)

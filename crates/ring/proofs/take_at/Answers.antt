@@ -10,7 +10,7 @@ use Rattle.reply.specs.declared.Reply.TheVariants.{Accepted}
 use Rattle.ring.proofs.AdmissionLaws.{admitted}
 use Rattle.ring.proofs.LocationLaws.{AtPosition, AtScreen, at_position, at_screen}
 use Rattle.board.proofs.ResultLaws.{matches, matches_unchanged}
-use Rattle.board.proofs.SoundLaws.{said_no, said_yes}
+use Rattle.board.proofs.SoundLaws.{said_false, said_true}
 use Rattle.ring.proofs.StepLaws.{take_accepted, take_no_position, take_no_screen, take_position_empty, take_screen_full}
 use Rattle.ring.proofs.take_at.Goals as goal
 use Rattle.ring.proofs.take_at.Goals.{Else-not-in_range-2, After-screen_at-at}
@@ -19,24 +19,24 @@ use Rattle.ring.proofs.take_at.Goals.{Else-not-in_range-2, After-screen_at-at}
 position : (c : Else-not-in_range-2) →
     AtPosition (words_of_bytes c.args.t.now) c.args.desk c.args.position
 position c =
-    at_position (admitted c.requires) (said_yes c.in_range-2.ensures c.if-not-in_range-2.false)
+    at_position (admitted c.requires) (said_true c.in_range-2.ensures c.if-not-in_range-2.false)
 
 screen : (c : After-screen_at-at) →
     AtScreen (words_of_bytes c.args.t.now) c.args.desk c.args.screen c.screen_at-at.result
 screen c =
-    at_screen (admitted c.requires) (said_yes c.in_range.ensures c.if-not-in_range.false) c.screen_at-at.ensures
+    at_screen (admitted c.requires) (said_true c.in_range.ensures c.if-not-in_range.false) c.screen_at-at.ensures
 
 pub returns-then-not-in_range : goal.returns-then-not-in_range
-returns-then-not-in_range c = matches_unchanged (take_no_screen (admitted c.requires) c.args.screen c.args.position (said_no c.in_range.ensures c.if-not-in_range.true))
+returns-then-not-in_range c = matches_unchanged (take_no_screen (admitted c.requires) c.args.screen c.args.position (said_false c.in_range.ensures c.if-not-in_range.true))
 
 pub returns-then-not-in_range-2 : goal.returns-then-not-in_range-2
 returns-then-not-in_range-2 c =
-    let s = at_screen (admitted c.requires) (said_yes c.in_range.ensures c.if-not-in_range.false) refl in
-    matches_unchanged (take_no_position (admitted c.requires) s c.args.position (said_no c.in_range-2.ensures c.if-not-in_range-2.true))
+    let s = at_screen (admitted c.requires) (said_true c.in_range.ensures c.if-not-in_range.false) refl in
+    matches_unchanged (take_no_position (admitted c.requires) s c.args.position (said_false c.in_range-2.ensures c.if-not-in_range-2.true))
 
 pub screen_at-at-requires : goal.screen_at-at-requires
 screen_at-at-requires c =
-    let s = at_screen (admitted c.requires) (said_yes c.in_range.ensures c.if-not-in_range.false) refl in
+    let s = at_screen (admitted c.requires) (said_true c.in_range.ensures c.if-not-in_range.false) refl in
     (s.desk, s.first, s.bounded)
 
 pub word-requires : goal.word-requires
