@@ -55,9 +55,12 @@ def prove(crates):
 def linked(one, other):
     """Copies a file; what was proved by a link: a check replaces such a file, and changes none."""
     if one.endswith('.oantt'):
-        os.link(one, other)
-    else:
-        shutil.copy2(one, other)
+        try:
+            os.link(one, other)
+            return
+        except OSError:  # on another file system
+            pass
+    shutil.copy2(one, other)
 
 
 def kept(crate):
@@ -88,7 +91,8 @@ REFUSAL = re.compile(r'(?:\./)?(\S+?):\d+:\d+: error: ')
 # The prover's words where something that is cited was refused elsewhere, or stands behind that.
 NOT_ADMITTED = re.compile(r'was not (?:admitted|checked)|were not checked')
 # Its words where a name, a field or a case is not there: nothing was asked of a fact.
-NO_NAME = re.compile(r'that can be named from here|is not in scope|has no field|is not a field of record|has no `|is no name')
+NO_NAME = re.compile(r'that can be named from here|is not in scope|has no field|has no such field|is not a field of record|has no `|is no name|is private|is not declared'
+                     r'|explicit arguments more than')
 
 
 def refusals(run):
@@ -150,7 +154,7 @@ def goals_refused(run, function):
         return [], said
     goals = [declaration_of(line) for line in said if is_about_a_fact(line)]
     # an answer to a goal that is not there: the goal that took its place has none, which says nothing of the program
-    if not any(NO_NAME.search(line) for line in said):
+    if not any(NO_NAME.search(line) or NOT_ADMITTED.search(line) for line in said):
         goals += [goal for found in LEFT.findall(verdict[2]) for goal in re.findall(r'`([^`]+)`', found)]
     return [goal for goal in goals if goal], said + [verdict[0]]
 
