@@ -16,7 +16,8 @@ import subprocess
 import sys
 
 ROOT = pathlib.Path(__file__).resolve().parent.parent
-PORT = '/opt/rattle/port/port.py'
+# beside the toolchain's first page
+PORT = pathlib.Path(subprocess.run(['rt', 'doc'], capture_output=True, text=True).stdout.strip()).parent / 'port' / 'port.py'
 
 # respell.py as a module: its last line runs it
 respell = {'__file__': str(ROOT / 'tools' / 'respell.py')}
