@@ -1,5 +1,5 @@
 pub mod Examples
 pub mod Laws
-pub mod Long
+pub mod KnownInput
 pub mod Taken
 pub mod Whole

@@ -1,7 +1,7 @@
 // Prints the lines of a sheet, for the sheet programs and `sheet_cases`.
 #![tactic(auto)]
 
-ghost use Rattle.std.specs.Prelude.{◌≡◌, ◌↔◌, ◌⊎◌, true, false, take, IsNone};
+ghost use Rattle.std.specs.Prelude.{◌≡◌, ◌↔◌, ◌⊎◌, ◌≤◌, true, false, take, IsNone};
 ghost use Rattle.std.specs.Io.KnownBytes.{Appends};
 ghost use Rattle.output.specs.Line.{BeginsToSay};
 ghost use Rattle.output.specs.Taken.{TakesFront};
@@ -79,7 +79,7 @@ pub fn print_input<R: Read, W: Write, E: Write>(
     ensures why { (result.complete ≡ true) ↔ IsNone result.failure }
     ensures unread { result.bytes ≡ 0 → to.new ≡ to.old }
     ensures said { result.complete ≡ false → ((result.bytes ≡ 0) × BeginsToSay (E.contents errors.old) (E.contents errors.new) cannot_read.now)
-        ⊎ BeginsToSay (E.contents errors.old) (E.contents errors.new) cannot_write.now }
+        ⊎ ((1 ≤ result.bytes) × BeginsToSay (E.contents errors.old) (E.contents errors.new) cannot_write.now) }
     ensures quiet { result.complete ≡ true → errors.new ≡ errors.old }
 {
     let mut bytes = [0u8; READ_BYTES];

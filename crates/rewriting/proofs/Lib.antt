@@ -1,1 +1,1 @@
-pub mod Long
+pub mod KnownInput

@@ -7,7 +7,7 @@ ghost use Rattle.output.specs.Line.{BeginsToSay};
 ghost use Rattle.output.specs.Taken.{TakesFront};
 ghost use Rattle.reader.specs.Results.{edition_of};
 ghost use Rattle.sheet_rules.specs.Rewriting.{rewrite as rewritten};
-ghost use Rattle.rewriting.specs.Input.{OfInput, RewritesKnown};
+ghost use Rattle.rewriting.specs.Input.{OfInput, OfSheet, RewritesKnown};
 
 use input::{Input, read_to_end};
 use output::{fail, write_all};
@@ -67,7 +67,7 @@ pub fn rewrite_input<R: Read, W: Write, E: Write>(
     ensures all { result.complete ≡ true → RewritesKnown (edition_of from) (edition_of to) (R.remaining input.old) (W.contents output.old) (W.contents output.new) }
     ensures why { (result.complete ≡ true) ↔ IsNone result.failure }
     ensures said { result.complete ≡ false → ((result.bytes ≡ 0) × BeginsToSay (E.contents errors.old) (E.contents errors.new) cannot_read.now)
-        ⊎ BeginsToSay (E.contents errors.old) (E.contents errors.new) cannot_write.now }
+        ⊎ (OfSheet (edition_of from) (edition_of to) result.bytes × BeginsToSay (E.contents errors.old) (E.contents errors.new) cannot_write.now) }
     ensures quiet { result.complete ≡ true → errors.new ≡ errors.old }
 {
     let mut bytes = [0u8; READ_BYTES];

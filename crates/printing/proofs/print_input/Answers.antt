@@ -1,7 +1,7 @@
 use Rattle.std.proofs.Common.{rules, ◌<◌, take, length}
 use Rattle.reader.specs.Results.{edition_of}
 use Rattle.sheet_rules.specs.Sheet.{max_bytes}
-use Rattle.printing.proofs.Long.{prints_known}
+use Rattle.printing.proofs.KnownInput.{prints_known}
 use Rattle.printing.proofs.print_input.Goals as goal
 
 -- all of the input, if its bytes are known

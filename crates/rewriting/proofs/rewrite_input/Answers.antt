@@ -1,7 +1,7 @@
 use Rattle.std.proofs.Common.{rules, ◌<◌, take, length}
 use Rattle.reader.specs.Results.{edition_of}
 use Rattle.sheet_rules.specs.Sheet.{max_bytes}
-use Rattle.rewriting.proofs.Long.{rewrites_known}
+use Rattle.rewriting.proofs.KnownInput.{rewrites_known}
 use Rattle.rewriting.proofs.rewrite_input.Goals as goal
 
 -- all of the input, if its bytes are known

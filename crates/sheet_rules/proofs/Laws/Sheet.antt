@@ -1,6 +1,6 @@
 -- Laws of the day sheet in any lawful edition: the reading goes record by record, and what is written is read back.
 use Prim.Native.Nat.{ℕ, zero, suc, ◌+◌, ◌*◌, ◌≤◌, ◌<◌}
-use Rattle.std.proofs.Common.{arith, sym, ◌∙◌, subst, inl, inr, length-append, leb-true, lt-ltb, le-ltb, le-leb}
+use Rattle.std.proofs.Common.{arith, sym, ◌∙◌, subst, inl, inr, take, length-append, length-take-le, leb-true, lt-ltb, le-ltb, le-leb}
 use Rattle.std.specs.Prelude.{◌≡◌, refl, Bool, true, false, cond, ◌⊎◌, replicate, leb, ltb}
 use Rattle.std.proofs.Math.Path.{ap}
 use mathlib.Core.List.{List, [], ◌∷◌, ◌++◌}
@@ -8,6 +8,8 @@ use Rattle.std.proofs.Math.Option.{some}
 use Rattle.std.proofs.Math.ListN.{length}
 use Rattle.std.proofs.Math.Seq.{drop-append_seam}
 use Rattle.std.proofs.lemmas.Bool.{lt-leb}
+use Rattle.std.proofs.lemmas.Bool.Decides.{leb_tells}
+use Rattle.std.proofs.lemmas.List.{take_all}
 use Rattle.rules.specs.Bytes.{words_of_bytes}
 use Rattle.rules.specs.Hall.{Hall, Limits, max_desks, max_positions, max_screens}
 use Rattle.rules.specs.Numbers.{Parsed, Refusal, bind, max_number, parsed, refusal_of, refused}
@@ -87,6 +89,16 @@ module _ (edition : Edition) (sheet : List ℕ) where
 
   pub begun_header : {hall : Hall} {next : ℕ} → begin_sheet edition sheet ≡ parsed hall next → edition.decode_header sheet 0 ≡ parsed hall next
   begun_header {hall} {next} found = (asked_parsed (leb (length sheet) max_bytes) _ _ hall next found).1
+
+-- The first bytes of a sheet are read as all of it, if they are more than 65,536 bytes or all.
+pub front_read_as_all : (edition : Edition) (n : ℕ) (sheet : List ℕ) → max_bytes < n → reading edition (take n sheet) ≡ reading edition sheet
+front_read_as_all edition n sheet large =
+    elim (leb_tells (length sheet) n) [
+      | inl short ↦ ap (reading edition) (take_all n sheet short.1)
+      | inr long ↦
+          let front = length-take-le n sheet (omega (arith, long.1)) in
+          too_long edition (take n sheet) (omega (arith, front, large)) ∙ sym (too_long edition sheet (omega (arith, long.1, large)))
+    ]
 
 pub long_sheet : (edition : Edition) (sheet : List ℕ) → max_bytes < length sheet → printed edition sheet ≡ line 0 0 18 0 ++ end_line zeros
 unfolding printed
