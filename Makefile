@@ -1,7 +1,7 @@
 # 'make help' prints these lines.
 #   make run            runs the sheet program on an example sheet (SHEET=busy_desk names another) and explains its output
 #   make host           builds and runs the example host in C
-#   make test           the gate: all proofs from nothing, the edits that must be refused, the tests outside Rattle
+#   make test           the gate: all proofs, the edits that must be refused, the tests outside Rattle
 #   make lib            the archive and its header, in build/
 #   make bench          times the six calls against boards in Rust and in C, runs of steps against a program in Rust
 #                       without the soundness check, the board with rings against the first board, and the sheet programs

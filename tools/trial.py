@@ -91,8 +91,8 @@ REFUSAL = re.compile(r'(?:\./)?(\S+?):\d+:\d+: error: ')
 # The prover's words where something that is cited was refused elsewhere, or stands behind that.
 NOT_ADMITTED = re.compile(r'was not (?:admitted|checked)|were not checked')
 # Its words where a name, a field or a case is not there: nothing was asked of a fact.
-NO_NAME = re.compile(r'that can be named from here|is not in scope|has no field|has no such field|is not a field of record|has no `|is no name|is private|is not declared'
-                     r'|explicit arguments more than')
+NO_NAME = re.compile(r'that can be named from here|is not in scope|has no field|has no such field|is not a field of record|has no `'
+                     r'|is no name|is private|is not declared|explicit arguments more than')
 
 
 def refusals(run):
@@ -181,14 +181,6 @@ def respelled(before, after):
             if len(names) == len(others):
                 found |= {name: told for name, told in zip(names, others) if name != told and '-' in name}
     return found
-
-
-REFUTED = re.compile(r'^note: .*\(`([^`]+)`\); the facts known there allow values at which this goal is false', re.M)
-
-
-def goals_refuted(run):
-    """The goals that are false at values which the prover gives."""
-    return list(dict.fromkeys(REFUTED.findall(run.stdout)))
 
 
 # ---- Parts of a crate of definitions and facts alone.
