@@ -1,28 +1,24 @@
 -- Whether a table is sound, and its hall; what every step asks first of a sound table: is the desk 1 to P, is the message number the desk's next;
 -- and the location of the desk's words in the table.
-use Rattle.std.specs.Prelude.{◌≡◌, ℕ, ◌+◌, ◌-◌, ◌*◌, true, cond, ◌&&◌, List, length, ◌==◌, nat_le, slice_index}
+use Rattle.std.specs.Prelude.{◌≡◌, ℕ, ◌+◌, ◌-◌, ◌*◌, true, cond, ◌&&◌, List, length, ◌==◌, nat_le, slice_index, Option, Some, None, Result, Ok, Err}
 use Rattle.rules.specs.Hall.{Limits, all_screens}
 use Rattle.rules.specs.Steps.{in_range}
 use Rattle.rules.specs.Table.{hall_in, header_words, in_limits, need, next_word, record_start, sound, start_for}
+use Rattle.reply.specs.declared.Reason.{Reason}
+use Rattle.reply.specs.declared.Reason.TheVariants.{NoDesk, OtherMessage, Unsound}
 use Rattle.board.specs.declared.Hall.{Hall}
-use Rattle.board.specs.declared.Header.{Header}
-use Rattle.board.specs.declared.Header.TheVariants.{Broken, Of}
 use Rattle.board.specs.declared.Location.{Location}
-use Rattle.board.specs.declared.Admission.{Admission}
-use Rattle.board.specs.declared.Admission.TheVariants.{At, NoDesk, OtherMessage}
-use Rattle.board.specs.declared.Soundness.{Soundness}
-use Rattle.board.specs.declared.Soundness.TheVariants.{Sound, Unsound}
 
 abbrev pub numbers_in : List ℕ → Hall
 numbers_in t = let H = hall_in t in record { desks = H.desks; screens = H.screens; positions = H.positions; all = all_screens H }
 
--- "it is long enough, P, c and L are in range": the hall in the header, or `Broken`.
-unfoldable pub header_of : Limits → List ℕ → Header
-header_of limits t = cond (in_limits limits (hall_in t) && nat_le (need (hall_in t)) (length t)) (Of (numbers_in t)) Broken
+-- "it is long enough, P, c and L are in range": the hall in the header, or none.
+unfoldable pub header_of : Limits → List ℕ → Option Hall
+header_of limits t = cond (in_limits limits (hall_in t) && nat_le (need (hall_in t)) (length t)) (Some (numbers_in t)) None
 
 -- "Every step: is the table sound? 5." If it is, its hall.
-unfoldable pub soundness_of : Limits → List ℕ → Soundness
-soundness_of limits t = cond (sound limits t) (Sound (numbers_in t)) Unsound
+unfoldable pub soundness_of : Limits → List ℕ → Result Hall Reason
+soundness_of limits t = cond (sound limits t) (Ok (numbers_in t)) (Err Unsound)
 
 abbrev pub location_of : List ℕ → ℕ → Location
 location_of t desk =
@@ -36,9 +32,11 @@ location_of t desk =
       next = next_word H desk;
     }
 
-unfoldable pub admission_of : List ℕ → ℕ → ℕ → Admission
+unfoldable pub admission_of : List ℕ → ℕ → ℕ → Result Location Reason
 admission_of t message desk =
-    cond (in_range desk (hall_in t).desks) (cond (message == slice_index t (next_word (hall_in t) desk)) (At (location_of t desk)) OtherMessage) NoDesk
+    cond (in_range desk (hall_in t).desks)
+    (cond (message == slice_index t (next_word (hall_in t) desk)) (Ok (location_of t desk)) (Err OtherMessage))
+    (Err NoDesk)
 
 -- The table is sound and has the desk, and this is the desk's location.
 pub record Admits (limits : Limits) (t : List ℕ) (desk : ℕ) (location : Location) : Type 0 where

@@ -1,13 +1,16 @@
 -- A call on a table sent as bytes, compared with the rules on its words.
-use Rattle.std.specs.Prelude.{◌≡◌, ℕ, ◌*◌, cond, List, length, drop, ◌==◌, slice_set}
-use Rattle.std.proofs.Math.Option.{Option}
+use Rattle.std.specs.Prelude.{◌≡◌, ℕ, ◌*◌, List, length, drop, Result as OkOrErr, Ok, Err}
+use Rattle.std.proofs.Math.Option.{Option, none, some}
 use Rattle.rules.specs.Bytes.{words_of_bytes}
 use Rattle.rules.specs.Hall.{Hall, Limits}
-use Rattle.rules.specs.Runs.{answer_request}
-use Rattle.rules.specs.Steps.{Call, Result, Step, advance, decide, first_no, perform_step, step_questions}
+use Rattle.rules.specs.Runs.{answer_request, request_for}
+use Rattle.rules.specs.Steps.{Call, Collect, Drop, Result, Retire, Step, Swap, Take, ◌numbered◌, ◌sends◌, decide, first_no, perform_step, step_questions}
 use Rattle.rules.specs.Table.{decode, hall_in, open_table, step_table, table_after_step}
-use Rattle.reply.specs.Answer.{table_result}
-use Rattle.reply.specs.declared.Reply.{Reply}
+use Rattle.reply.specs.Answer.{Reply, table_result}
+use Rattle.reply.specs.declared.Reason.{Reason}
+use Rattle.reply.specs.declared.Reason.TheVariants.{NoCode}
+use Rattle.board.specs.declared.Step.{Step as Sent}
+use Rattle.board.specs.declared.Step.TheVariants.{Take as SentTake, Drop as SentDrop, Swap as SentSwap, Retire as SentRetire, Collect as SentCollect}
 
 -- The reply and the words after the call are this result of the rules, and an odd last byte is unchanged.
 pub record Matches (result : Result (List ℕ)) (before : List ℕ) (r : Reply) (after : List ℕ) : Type 0 where
@@ -35,9 +38,15 @@ admitted_step limits table d step =
 abbrev pub Performed : Limits → ℕ → Step → List ℕ → Reply → List ℕ → Type 0
 Performed limits d step before = Matches (admitted_step limits (words_of_bytes before) d step) before
 
--- The same result, but after an acceptance the word at this offset holds the message number after this one.
-abbrev pub moved_on : ℕ → ℕ → Result (List ℕ) → Result (List ℕ)
-moved_on next message result = record {
-  answer = result.answer;
-  after = cond (result.answer.number == 0) (slice_set result.after next (advance message)) result.after;
-}
+-- A step of the code, as one of the rules.
+abbrev pub step_of : Sent → Step
+step_of (SentTake c p) = Take c p
+step_of (SentDrop c) = Drop c
+step_of (SentSwap p session) = Swap p session
+step_of SentRetire = Retire
+step_of SentCollect = Collect
+
+-- The step that a code requests, as the rules say; or 17 where they have none.
+abbrev pub IsRequested : ℕ → ℕ → ℕ → ℕ → OkOrErr Sent Reason → Type 0
+IsRequested code screen position session (Ok step) = (message desk : ℕ) → request_for code message desk screen position session ≡ some (desk sends step_of step numbered message)
+IsRequested code screen position session (Err reason) = (reason ≡ NoCode) × ((message desk : ℕ) → request_for code message desk screen position session ≡ none)

@@ -1,23 +1,24 @@
 #![tactic(auto)]
 
-ghost use Rattle.std.specs.Prelude.{◌≡◌, ◌+◌, ◌-◌, ◌*◌, ◌<◌, ◌≤◌, length, drop as drop_words};
+ghost use Rattle.std.specs.Prelude.{◌≡◌, ◌+◌, ◌-◌, ◌*◌, ◌<◌, ◌≤◌, length, set, drop as drop_words};
 ghost use Rattle.rules.specs.Bytes.{words_of_bytes};
 ghost use Rattle.rules.specs.Hall.{hall_limits, hall_of, max_all_screens, max_desks, max_positions, training_limits};
 ghost use Rattle.rules.specs.Lists.{chunks, every};
 ghost use Rattle.rules.specs.Messages.{next_in};
 ghost use Rattle.rules.specs.Runs.{request_for};
-ghost use Rattle.rules.specs.Steps.{Collect, Drop, Retire, Swap, Take, ◌numbered◌, ◌sends◌, in_range};
+ghost use Rattle.rules.specs.Steps.{Collect, Drop, Retire, Swap, Take, ◌numbered◌, ◌sends◌, advance, in_range};
+ghost use Rattle.words.specs.Written.{Written};
 ghost use Rattle.rules.specs.Table.{header_words, in_hall, in_limits, max_words, need as hall_need, record_sound, start_for, width_for};
 ghost use Rattle.limits.specs.Room.{limits_of};
-ghost use Rattle.reply.specs.Answer.{answer_of, table_result};
+ghost use Rattle.reply.specs.Answer.{answer_of};
 ghost use Rattle.board.specs.Admission.{Admits, admission_of, header_of, screen_for, soundness_of};
-ghost use Rattle.board.specs.declared.Soundness.TheVariants.{Sound};
 ghost use Rattle.board.specs.Opening.{OpeningAnswer};
-ghost use Rattle.board.specs.Results.{Matches, Opened, Performed, Requested, Stepped, moved_on};
+ghost use Rattle.board.specs.Results.{IsRequested, Opened, Performed, Requested, Stepped, step_of};
 
+use codes::Code;
 use desk::{OWED, SCANNED, collect_record, record_words, retire_record, sound_record, tail_offset};
 use limits::{Limits, within};
-use reply::{Reply, number};
+use reply::{Reason, Reply};
 use words::{clear, count, put_word, word};
 
 // Offsets in a table: P, the desks.
@@ -109,13 +110,8 @@ pub fn in_range(n: u16, most: usize) -> bool
 fn in_hall(desks: u16, screens: u16, positions: u16) -> bool
     ensures { result ≡ in_hall (hall_of desks screens positions) }
 {
-    if !in_range(desks, Board::MAX_DESKS) {
-        return false;
-    }
-    if !in_range(screens, Board::MAX_SCREENS) {
-        return false;
-    }
-    in_range(positions, Board::MAX_POSITIONS)
+    in_range(desks, Board::MAX_DESKS)
+        && (in_range(screens, Board::MAX_SCREENS) && in_range(positions, Board::MAX_POSITIONS))
 }
 
 // Whether P, c and L are in range, in a room with these limits.
@@ -150,14 +146,12 @@ fn sound_records(t: &[u8], p: usize, l: usize, s: usize) -> bool
     ensures { result ≡ every (record_sound s) (chunks p (width_for s) (drop_words (header_words + l + s) (words_of_bytes t.now))) }
 {
     let size = record_words(s);
-    let mut d = 0;
-    while d < p {
+    for d in 0..p {
         let a = record_start(l, s, d);
         let e = a + size;
         if !sound_record(&t[2 * a..2 * e], s) {
             return false;
         }
-        d += 1;
     }
     true
 }
@@ -171,35 +165,28 @@ pub struct Hall {
     pub all: usize,
 }
 
-// The header of a table: its hall, or `Broken` if a number is out of range or the table is too short for the hall.
-#[derive(Clone, Copy)]
-enum Header {
-    Broken,
-    Of(Hall),
-}
-
-// Reads the header of a table.
-fn read_header(t: &[u8], limits: Limits) -> Header
+// Reads the header of a table: its hall, unless a number is out of range or the table is too short for the hall.
+fn read_header(t: &[u8], limits: Limits) -> Option<Hall>
     ensures { result ≡ header_of (limits_of limits) (words_of_bytes t.now) }
 {
     let n = t.len() >> 1;
     if n < HEADER {
-        return Header::Broken;
+        return None;
     }
     let desks = word(t, DESKS);
     let screens = word(t, SCREENS);
     let positions = word(t, POSITIONS);
     if !in_limits(limits, desks, screens, positions) {
-        return Header::Broken;
+        return None;
     }
     if n < Board::need(desks, screens, positions) {
-        return Header::Broken;
+        return None;
     }
     let p = desks as usize;
     let c = screens as usize;
     let l = positions as usize;
     let s = p * c;
-    Header::Of(Hall {
+    Some(Hall {
         desks: p,
         screens: c,
         positions: l,
@@ -207,29 +194,16 @@ fn read_header(t: &[u8], limits: Limits) -> Header
     })
 }
 
-// Whether a table is sound; if it is, its hall.
-#[derive(Clone, Copy)]
-pub enum Soundness {
-    Unsound,
-    Sound(Hall),
-}
-
-// Asks whether a table is sound, in a room with these limits: once for a call, and once for a run of steps or for a sheet, because every
-// step leaves a sound table sound, with the same hall.
-pub fn check(t: &[u8], limits: Limits) -> Soundness
+// Asks whether a table is sound, in a room with these limits, and finds its hall: once for a call, and once for a run of steps or for a sheet,
+// because every step leaves a sound table sound, with the same hall.
+pub fn check(t: &[u8], limits: Limits) -> Result<Hall, Reason>
     ensures { result ≡ soundness_of (limits_of limits) (words_of_bytes t.now) }
 {
-    let header = read_header(t, limits);
-    match header {
-        Header::Broken => Soundness::Unsound,
-        Header::Of(hall) => {
-            if sound_records(t, hall.desks, hall.positions, hall.all) {
-                Soundness::Sound(hall)
-            } else {
-                Soundness::Unsound
-            }
-        }
+    let hall = read_header(t, limits).ok_or(Reason::Unsound)?;
+    if !sound_records(t, hall.desks, hall.positions, hall.all) {
+        return Err(Reason::Unsound);
     }
+    Ok(hall)
 }
 
 // A desk's location in a sound table: the numbers of positions, of screens per desk and of all screens, the start and the end of the
@@ -244,34 +218,26 @@ struct Location {
     pub next: usize,
 }
 
-// The result of the first questions of a step in a sound table: one of their refusals, or the location of the desk.
-#[derive(Clone, Copy)]
-enum Admission {
-    NoDesk,
-    OtherMessage,
-    At(Location),
-}
-
 // What every step asks first of a sound table: is the desk 1 to P, is the message number the desk's next. Precondition, here, for each
 // function whose name ends in `_in` and for `request`: the table is sound in a room with these limits, and this is its hall.
-fn admit(t: &[u8], limits: Limits, hall: Hall, message: u16, desk: u16) -> Admission
-    requires { Sound hall ≡ soundness_of (limits_of limits) (words_of_bytes t.now) }
+fn admit(t: &[u8], limits: Limits, hall: Hall, message: u16, desk: u16) -> Result<Location, Reason>
+    requires { Ok hall ≡ soundness_of (limits_of limits) (words_of_bytes t.now) }
     ensures { result ≡ admission_of (words_of_bytes t.now) message desk }
 {
     let p = hall.desks;
     let l = hall.positions;
     let s = hall.all;
     if !in_range(desk, p) {
-        return Admission::NoDesk;
+        return Err(Reason::NoDesk);
     }
     let d = desk as usize;
     let a = record_start(l, s, d - 1);
     let e = record_start(l, s, d);
     let next = a + tail_offset(s);
     if word(t, next) != message {
-        return Admission::OtherMessage;
+        return Err(Reason::OtherMessage);
     }
-    Admission::At(Location {
+    Ok(Location {
         positions: l,
         screens: hall.screens,
         all: s,
@@ -283,7 +249,7 @@ fn admit(t: &[u8], limits: Limits, hall: Hall, message: u16, desk: u16) -> Admis
 
 // The next message number of a desk in a sound table; 0 for a desk that the hall does not have.
 pub fn next_in(t: &[u8], limits: Limits, hall: Hall, desk: u16) -> u16
-    requires { Sound hall ≡ soundness_of (limits_of limits) (words_of_bytes t.now) }
+    requires { Ok hall ≡ soundness_of (limits_of limits) (words_of_bytes t.now) }
     ensures { result ≡ next_in (words_of_bytes t.now) desk }
 {
     if !in_range(desk, hall.desks) {
@@ -299,49 +265,43 @@ pub fn opening(limits: Limits, desks: u16, screens: u16, positions: u16, words: 
     ensures { OpeningAnswer (limits_of limits) (hall_of desks screens positions) words (answer_of result) }
 {
     if !in_range(desks, Board::MAX_DESKS) {
-        return Reply::BadDesks;
+        return Err(Reason::BadDesks);
     }
     if !in_range(screens, Board::MAX_SCREENS) {
-        return Reply::BadScreens;
+        return Err(Reason::BadScreens);
     }
     if !in_range(positions, Board::MAX_POSITIONS) {
-        return Reply::BadPositions;
+        return Err(Reason::BadPositions);
     }
     if !within(limits, desks, screens, positions) {
-        return Reply::OverLimits;
+        return Err(Reason::OverLimits);
     }
     if words < Board::need(desks, screens, positions) {
-        return Reply::TableShort;
+        return Err(Reason::TableShort);
     }
-    Reply::Accepted(0)
+    Ok(0)
 }
 
 // Opening writes P, c, L and zeros up to the need.
 pub fn open(t: &mut [u8], limits: Limits, desks: u16, screens: u16, positions: u16) -> Reply
     ensures { Opened (limits_of limits) (hall_of desks screens positions) t.old result t.new }
 {
-    let r = opening(limits, desks, screens, positions, t.len() >> 1);
-    if number(r) != 0 {
-        return r;
-    }
+    opening(limits, desks, screens, positions, t.len() >> 1)?;
     let n = Board::need(desks, screens, positions);
     clear(&mut t[0..2 * n]);
     put_word(t, DESKS, desks);
     put_word(t, SCREENS, screens);
     put_word(t, POSITIONS, positions);
-    Reply::Accepted(0)
+    Ok(0)
 }
 
-// Ends an admitted step, given its reply: after an acceptance the desk's next message number, word `next`, is the one after the call's; 0
-// comes after 65,535. Precondition: the table has that word.
-pub fn move_on(t: &mut [u8], next: usize, message: u16, r: Reply) -> Reply
+// Ends an accepted step: the desk's next message number, word `next`, becomes the one after the step's; 0 comes after 65,535.
+// Precondition: the table has that word.
+pub fn move_on(t: &mut [u8], next: usize, message: u16)
     requires { 2 * next + 1 < length t.old }
-    ensures { Matches (moved_on next message (table_result r (words_of_bytes t.old))) t.old result t.new }
+    ensures { Written t.old (set (words_of_bytes t.old) next (advance message)) t.new }
 {
-    if number(r) == 0 {
-        put_word(t, next, std::num::wrapping_add_u16(message, 1));
-    }
-    r
+    put_word(t, next, message.wrapping_add(1));
 }
 
 // Take, of an admitted desk. Precondition, here and for the other steps: the table is sound in a room with these limits, it has the desk,
@@ -360,63 +320,21 @@ fn take_at(
     let c = location.screens;
     let l = location.positions;
     if !in_range(screen, c) {
-        return Reply::NoScreen;
+        return Err(Reason::NoScreen);
     }
     if !in_range(position, l) {
-        return Reply::NoPosition;
+        return Err(Reason::NoPosition);
     }
     let at = screen_at(l, c, desk, screen);
     if word(t, at) != 0 {
-        return Reply::ScreenFull;
+        return Err(Reason::ScreenFull);
     }
     let held = word(t, HEADER + (position as usize - 1));
     if held == 0 {
-        return Reply::PositionEmpty;
+        return Err(Reason::PositionEmpty);
     }
     put_word(t, at, held);
-    Reply::Accepted(held)
-}
-
-// Take, in a sound table.
-fn take_in(
-    t: &mut [u8],
-    limits: Limits,
-    hall: Hall,
-    message: u16,
-    desk: u16,
-    screen: u16,
-    position: u16,
-) -> Reply
-    requires { Sound hall ≡ soundness_of (limits_of limits) (words_of_bytes t.old) }
-    ensures { Stepped (limits_of limits) (desk sends Take screen position numbered message) t.old result t.new }
-{
-    let admission = admit(t, limits, hall, message, desk);
-    match admission {
-        Admission::NoDesk => Reply::NoDesk,
-        Admission::OtherMessage => Reply::OtherMessage,
-        Admission::At(location) => {
-            let r = take_at(t, limits, desk, location, screen, position);
-            move_on(t, location.next, message, r)
-        }
-    }
-}
-
-// Take: the screen shows the position's session; the reply is that session.
-pub fn take(
-    t: &mut [u8],
-    limits: Limits,
-    message: u16,
-    desk: u16,
-    screen: u16,
-    position: u16,
-) -> Reply
-    ensures { Stepped (limits_of limits) (desk sends Take screen position numbered message) t.old result t.new }
-{
-    let soundness = check(t, limits);
-    match soundness {
-        Soundness::Unsound => Reply::Unsound,
-        Soundness::Sound(hall) => take_in(t, limits, hall, message, desk, screen, position),
-    }
+    Ok(held)
 }
 
 // Drop, of an admitted desk.
@@ -427,42 +345,15 @@ fn drop_at(t: &mut [u8], limits: Limits, desk: u16, location: Location, screen: 
     let c = location.screens;
     let l = location.positions;
     if !in_range(screen, c) {
-        return Reply::NoScreen;
+        return Err(Reason::NoScreen);
     }
     let at = screen_at(l, c, desk, screen);
     let shown = word(t, at);
     if shown == 0 {
-        return Reply::ScreenEmpty;
+        return Err(Reason::ScreenEmpty);
     }
     put_word(t, at, 0);
-    Reply::Accepted(shown)
-}
-
-// Drop, in a sound table.
-fn drop_in(t: &mut [u8], limits: Limits, hall: Hall, message: u16, desk: u16, screen: u16) -> Reply
-    requires { Sound hall ≡ soundness_of (limits_of limits) (words_of_bytes t.old) }
-    ensures { Stepped (limits_of limits) (desk sends Drop screen numbered message) t.old result t.new }
-{
-    let admission = admit(t, limits, hall, message, desk);
-    match admission {
-        Admission::NoDesk => Reply::NoDesk,
-        Admission::OtherMessage => Reply::OtherMessage,
-        Admission::At(location) => {
-            let r = drop_at(t, limits, desk, location, screen);
-            move_on(t, location.next, message, r)
-        }
-    }
-}
-
-// Drop: the screen becomes 0; the reply is what it showed.
-pub fn drop(t: &mut [u8], limits: Limits, message: u16, desk: u16, screen: u16) -> Reply
-    ensures { Stepped (limits_of limits) (desk sends Drop screen numbered message) t.old result t.new }
-{
-    let soundness = check(t, limits);
-    match soundness {
-        Soundness::Unsound => Reply::Unsound,
-        Soundness::Sound(hall) => drop_in(t, limits, hall, message, desk, screen),
-    }
+    Ok(shown)
 }
 
 // Swap, of an admitted desk.
@@ -478,68 +369,25 @@ fn swap_at(
     ensures { Performed (limits_of limits) desk (Swap position session) t.old result t.new }
 {
     if !in_range(position, location.positions) {
-        return Reply::NoPosition;
+        return Err(Reason::NoPosition);
     }
     if session > limits.sessions {
-        return Reply::OverLimits;
+        return Err(Reason::OverLimits);
     }
     let owed = location.start + OWED;
     if word(t, owed) != 0 {
-        return Reply::Owing;
+        return Err(Reason::Owing);
     }
     let at = HEADER + (position as usize - 1);
     let old = word(t, at);
     if old == session {
-        return Reply::Accepted(old);
+        return Ok(old);
     }
     put_word(t, at, session);
     if old != 0 {
         put_word(t, owed, old);
     }
-    Reply::Accepted(old)
-}
-
-// Swap, in a sound table.
-fn swap_in(
-    t: &mut [u8],
-    limits: Limits,
-    hall: Hall,
-    message: u16,
-    desk: u16,
-    position: u16,
-    session: u16,
-) -> Reply
-    requires { Sound hall ≡ soundness_of (limits_of limits) (words_of_bytes t.old) }
-    ensures { Stepped (limits_of limits) (desk sends Swap position session numbered message) t.old result t.new }
-{
-    let admission = admit(t, limits, hall, message, desk);
-    match admission {
-        Admission::NoDesk => Reply::NoDesk,
-        Admission::OtherMessage => Reply::OtherMessage,
-        Admission::At(location) => {
-            let r = swap_at(t, limits, desk, location, position, session);
-            move_on(t, location.next, message, r)
-        }
-    }
-}
-
-// Swap: the position holds the new session or 0; the reply is the old one, and the desk owes it if it is not 0. A repeat, a swap to what
-// the position holds already, only moves the message number on.
-pub fn swap(
-    t: &mut [u8],
-    limits: Limits,
-    message: u16,
-    desk: u16,
-    position: u16,
-    session: u16,
-) -> Reply
-    ensures { Stepped (limits_of limits) (desk sends Swap position session numbered message) t.old result t.new }
-{
-    let soundness = check(t, limits);
-    match soundness {
-        Soundness::Unsound => Reply::Unsound,
-        Soundness::Sound(hall) => swap_in(t, limits, hall, message, desk, position, session),
-    }
+    Ok(old)
 }
 
 // Retire, of an admitted desk: on its record.
@@ -550,33 +398,6 @@ fn retire_at(t: &mut [u8], limits: Limits, desk: u16, location: Location) -> Rep
     let a = location.start;
     let e = location.end;
     retire_record(&mut t[2 * a..2 * e], location.all)
-}
-
-// Retire, in a sound table.
-fn retire_in(t: &mut [u8], limits: Limits, hall: Hall, message: u16, desk: u16) -> Reply
-    requires { Sound hall ≡ soundness_of (limits_of limits) (words_of_bytes t.old) }
-    ensures { Stepped (limits_of limits) (desk sends Retire numbered message) t.old result t.new }
-{
-    let admission = admit(t, limits, hall, message, desk);
-    match admission {
-        Admission::NoDesk => Reply::NoDesk,
-        Admission::OtherMessage => Reply::OtherMessage,
-        Admission::At(location) => {
-            let r = retire_at(t, limits, desk, location);
-            move_on(t, location.next, message, r)
-        }
-    }
-}
-
-// Retire: the owed session goes to the end of the list as waiting; nothing is owed; the reply is that session.
-pub fn retire(t: &mut [u8], limits: Limits, message: u16, desk: u16) -> Reply
-    ensures { Stepped (limits_of limits) (desk sends Retire numbered message) t.old result t.new }
-{
-    let soundness = check(t, limits);
-    match soundness {
-        Soundness::Unsound => Reply::Unsound,
-        Soundness::Sound(hall) => retire_in(t, limits, hall, message, desk),
-    }
 }
 
 // Collect, of an admitted desk: on its record, with the next two screens of the hall or the last one alone.
@@ -592,37 +413,72 @@ fn collect_at(t: &mut [u8], limits: Limits, desk: u16, location: Location) -> Re
     let x = word(t, at);
     if k + 1 < s {
         let y = word(t, at + 1);
-        Reply::Accepted(collect_record(&mut t[2 * a..2 * e], s, 2, x, y))
+        Ok(collect_record(&mut t[2 * a..2 * e], s, 2, x, y))
     } else {
-        Reply::Accepted(collect_record(&mut t[2 * a..2 * e], s, 1, x, 0))
+        Ok(collect_record(&mut t[2 * a..2 * e], s, 1, x, 0))
     }
 }
 
-// Collect, in a sound table.
-fn collect_in(t: &mut [u8], limits: Limits, hall: Hall, message: u16, desk: u16) -> Reply
-    requires { Sound hall ≡ soundness_of (limits_of limits) (words_of_bytes t.old) }
-    ensures { Stepped (limits_of limits) (desk sends Collect numbered message) t.old result t.new }
+// A step, as a desk sends it.
+#[derive(Clone, Copy, PartialEq, Eq)]
+pub enum Step {
+    // The screen shows the position's session; the reply is that session.
+    Take { screen: u16, position: u16 },
+    // The screen becomes 0; the reply is what it showed.
+    Drop { screen: u16 },
+    // The position holds the new session or 0; the reply is the old one, and the desk owes it if it is not 0. A repeat, a swap to what the
+    // position holds already, only moves the message number on.
+    Swap { position: u16, session: u16 },
+    // The owed session goes to the end of the list as waiting; nothing is owed; the reply is that session.
+    Retire,
+    // Its parts (a) to (d); the reply is the session that is handed back, or 0.
+    Collect,
+}
+
+// A step of an admitted desk.
+fn step_at(t: &mut [u8], limits: Limits, desk: u16, location: Location, step: Step) -> Reply
+    requires { Admits (limits_of limits) (words_of_bytes t.old) desk location }
+    ensures { Performed (limits_of limits) desk (step_of step) t.old result t.new }
 {
-    let admission = admit(t, limits, hall, message, desk);
-    match admission {
-        Admission::NoDesk => Reply::NoDesk,
-        Admission::OtherMessage => Reply::OtherMessage,
-        Admission::At(location) => {
-            let r = collect_at(t, limits, desk, location);
-            move_on(t, location.next, message, r)
-        }
+    match step {
+        Step::Take { screen, position } => take_at(t, limits, desk, location, screen, position),
+        Step::Drop { screen } => drop_at(t, limits, desk, location, screen),
+        Step::Swap { position, session } => swap_at(t, limits, desk, location, position, session),
+        Step::Retire => retire_at(t, limits, desk, location),
+        Step::Collect => collect_at(t, limits, desk, location),
     }
 }
 
-// Collect: (a) to (d); the reply is the session that is handed back, or 0.
-pub fn collect(t: &mut [u8], limits: Limits, message: u16, desk: u16) -> Reply
-    ensures { Stepped (limits_of limits) (desk sends Collect numbered message) t.old result t.new }
+// A step, in a sound table: its desk is admitted, it is done, and if it is accepted its message number moves on.
+fn step_in(t: &mut [u8], limits: Limits, hall: Hall, message: u16, desk: u16, step: Step) -> Reply
+    requires { Ok hall ≡ soundness_of (limits_of limits) (words_of_bytes t.old) }
+    ensures { Stepped (limits_of limits) (desk sends step_of step numbered message) t.old result t.new }
 {
-    let soundness = check(t, limits);
-    match soundness {
-        Soundness::Unsound => Reply::Unsound,
-        Soundness::Sound(hall) => collect_in(t, limits, hall, message, desk),
-    }
+    let location = admit(t, limits, hall, message, desk)?;
+    let session = step_at(t, limits, desk, location, step)?;
+    move_on(t, location.next, message);
+    Ok(session)
+}
+
+// A step: the table is asked whether it is sound, and the step is done in its hall.
+pub fn step(t: &mut [u8], limits: Limits, message: u16, desk: u16, step: Step) -> Reply
+    ensures { Stepped (limits_of limits) (desk sends step_of step numbered message) t.old result t.new }
+{
+    let hall = check(t, limits)?;
+    step_in(t, limits, hall, message, desk, step)
+}
+
+// The step that a code requests; the numbers that its code lacks are ignored. A code outside 1 to 5 is refused with 17.
+fn requested(code: u16, screen: u16, position: u16, session: u16) -> Result<Step, Reason>
+    ensures { IsRequested code screen position session result }
+{
+    Ok(match Code::try_from(code)? {
+        Code::Take => Step::Take { screen, position },
+        Code::Drop => Step::Drop { screen },
+        Code::Swap => Step::Swap { position, session },
+        Code::Retire => Step::Retire,
+        Code::Collect => Step::Collect,
+    })
 }
 
 // The step that a code requests, in a sound table; the numbers that its code lacks are ignored. A code outside 1 to 5 is answered 17, and
@@ -638,15 +494,9 @@ pub fn request(
     position: u16,
     session: u16,
 ) -> Reply
-    requires { Sound hall ≡ soundness_of (limits_of limits) (words_of_bytes t.old) }
+    requires { Ok hall ≡ soundness_of (limits_of limits) (words_of_bytes t.old) }
     ensures { Requested (limits_of limits) (request_for code message desk screen position session) t.old result t.new }
 {
-    match code {
-        1 => take_in(t, limits, hall, message, desk, screen, position),
-        2 => drop_in(t, limits, hall, message, desk, screen),
-        3 => swap_in(t, limits, hall, message, desk, position, session),
-        4 => retire_in(t, limits, hall, message, desk),
-        5 => collect_in(t, limits, hall, message, desk),
-        0 | 6..=65535 => Reply::NoCode,
-    }
+    let step = requested(code, screen, position, session)?;
+    step_in(t, limits, hall, message, desk, step)
 }

@@ -18,7 +18,7 @@ use desk::{
     used_slots,
 };
 use marks::{find_slot, mark_slot, marked, marks_sound, ones, partition};
-use reply::Reply;
+use reply::{Reason, Reply};
 use words::{all_zero, clear, count, lacks, put_word, word, zeros};
 
 // The number of words of a ring's record, in a hall of s screens: one more than the first board's, for the beginning.
@@ -130,19 +130,19 @@ pub fn retire_ring(r: &mut [u8], s: usize) -> Reply
 {
     let owed = word(r, OWED);
     if owed == 0 {
-        return Reply::OwesNothing;
+        return Err(Reason::OwesNothing);
     }
     let waiting = word(r, WAITING);
     let n = used_slots(r);
     if 2 * s <= n {
-        return Reply::NoRoom;
+        return Err(Reason::NoRoom);
     }
     let b = beginning(r, s);
     let p = slot_after(s, b, n);
     put_word(r, LIST + p, owed);
     put_word(r, WAITING, waiting + 1);
     put_word(r, OWED, 0);
-    Reply::Accepted(owed)
+    Ok(owed)
 }
 
 // Collect (a): if nothing is tested, all waiting become tested.
