@@ -4,8 +4,7 @@ use Rattle.rules.specs.Bytes.{IsBytes, on_bytes, words_of_bytes}
 use Rattle.rules.specs.Steps.{Result}
 use Rattle.words.specs.Written.{Written}
 use Rattle.words.proofs.Laws.{written_none, written_overwrites}
-use Rattle.reply.specs.Answer.{table_result}
-use Rattle.reply.specs.declared.Reply.{Reply}
+use Rattle.reply.specs.Answer.{Reply, table_result}
 use Rattle.board.specs.Results.{Matches}
 
 pub matches : {result : Result (List ℕ)} {before words after : List ℕ} {r : Reply} → table_result r words ≡ result → Written before words after → Matches result before r after

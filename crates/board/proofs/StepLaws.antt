@@ -11,9 +11,9 @@ use Rattle.rules.specs.Table.{decode, decode_desk, encode_desk, hall_in, header_
 use Rattle.rules.proofs.Laws.Table.EncodedStep.{some_screens}
 use Rattle.rules.proofs.Laws.Table.TableSteps.{collect-seeing, owed_word, shown_at}
 use Rattle.desk.specs.Record.{Retired}
-use Rattle.reply.specs.Answer.{answer_of, table_result}
-use Rattle.reply.specs.declared.Reply.{Reply}
-use Rattle.reply.specs.declared.Reply.TheVariants.{Accepted, NoPosition, NoScreen, OverLimits, Owing, PositionEmpty, ScreenEmpty, ScreenFull}
+use Rattle.reply.specs.Answer.{Reply, answer_of, table_result}
+use Rattle.std.specs.Prelude.{Ok, Err}
+use Rattle.reply.specs.declared.Reason.TheVariants.{NoPosition, NoScreen, OverLimits, Owing, PositionEmpty, ScreenEmpty, ScreenFull}
 use Rattle.words.proofs.Scan.{ended, rest}
 use Rattle.desk.proofs.DeskTie.{scanned-below}
 use Rattle.board.specs.Results.{admitted_step}
@@ -35,37 +35,37 @@ module _ {limits : Limits} {t : List ℕ} {d : ℕ} {p : Location} (e : Admitted
   accepted_as step q = sym (ap (λ (k : ℕ). decide k t (perform_step (hall_in t) (decode (hall_in t) t) d step).session (table_after_step t d step)) q)
 
   -- ---- drop
-  pub drop_no_screen : (i : ℕ) → in_range i p.screens ≡ false → table_result NoScreen t ≡ admitted_step limits t d (Drop i)
+  pub drop_no_screen : (i : ℕ) → in_range i p.screens ≡ false → table_result (Err NoScreen) t ≡ admitted_step limits t d (Drop i)
   drop_no_screen i out = refused_as 6 (Drop i) (rw (← e.screens_is, out))
 
   module _ {i a : ℕ} (s : AtScreen t d i a) where
-    pub drop_screen_empty : get_or t a 0 ≡ 0 → table_result ScreenEmpty t ≡ admitted_step limits t d (Drop i)
+    pub drop_screen_empty : get_or t a 0 ≡ 0 → table_result (Err ScreenEmpty) t ≡ admitted_step limits t d (Drop i)
     drop_screen_empty none = refused_as 10 (Drop i) (rw (s.yes_screen, s.shows, none))
 
     pub drop_accepted : (get_or t a 0 ≡ 0 → ⊥)
-        → table_result (Accepted (get_or t a 0)) (set t a 0) ≡ admitted_step limits t d (Drop i)
+        → table_result (Ok (get_or t a 0)) (set t a 0) ≡ admitted_step limits t d (Drop i)
     drop_accepted some =
         (λ j. record { answer = record { number = 0; session = sym s.shows j }; after = set t (s.is j) 0 })
         ∙ accepted_as (Drop i) (rw (s.yes_screen, s.shows, ne_eqb (get_or t a 0) 0 some))
 
   -- ---- take
-  pub take_no_screen : (i q : ℕ) → in_range i p.screens ≡ false → table_result NoScreen t ≡ admitted_step limits t d (Take i q)
+  pub take_no_screen : (i q : ℕ) → in_range i p.screens ≡ false → table_result (Err NoScreen) t ≡ admitted_step limits t d (Take i q)
   take_no_screen i q out = refused_as 6 (Take i q) (rw (← e.screens_is, out))
 
   module _ {i a : ℕ} (s : AtScreen t d i a) where
-    pub take_no_position : (q : ℕ) → in_range q p.positions ≡ false → table_result NoPosition t ≡ admitted_step limits t d (Take i q)
+    pub take_no_position : (q : ℕ) → in_range q p.positions ≡ false → table_result (Err NoPosition) t ≡ admitted_step limits t d (Take i q)
     take_no_position q out = refused_as 7 (Take i q) (rw (s.yes_screen, ← e.positions_is, out))
 
     module _ {q : ℕ} (h : AtPosition t d q) where
-      pub take_screen_full : (get_or t a 0 ≡ 0 → ⊥) → table_result ScreenFull t ≡ admitted_step limits t d (Take i q)
+      pub take_screen_full : (get_or t a 0 ≡ 0 → ⊥) → table_result (Err ScreenFull) t ≡ admitted_step limits t d (Take i q)
       take_screen_full some =
           refused_as 8 (Take i q) (rw (s.yes_screen, h.yes_position, s.shows, ne_eqb (get_or t a 0) 0 some))
 
-      pub take_position_empty : get_or t a 0 ≡ 0 → get_or t (position_word q) 0 ≡ 0 → table_result PositionEmpty t ≡ admitted_step limits t d (Take i q)
+      pub take_position_empty : get_or t a 0 ≡ 0 → get_or t (position_word q) 0 ≡ 0 → table_result (Err PositionEmpty) t ≡ admitted_step limits t d (Take i q)
       take_position_empty free none = refused_as 9 (Take i q) (rw (s.yes_screen, h.yes_position, s.shows, free, h.holds, none))
 
       pub take_accepted : get_or t a 0 ≡ 0 → (get_or t (position_word q) 0 ≡ 0 → ⊥)
-          → table_result (Accepted (get_or t (position_word q) 0)) (set t a (get_or t (position_word q) 0)) ≡ admitted_step limits t d (Take i q)
+          → table_result (Ok (get_or t (position_word q) 0)) (set t a (get_or t (position_word q) 0)) ≡ admitted_step limits t d (Take i q)
       take_accepted free some =
           (λ j. record { answer = record { number = 0; session = sym h.holds j }; after = set t (s.is j) (get_or t (position_word q) 0) })
           ∙ accepted_as (Take i q) (rw (s.yes_screen, h.yes_position, s.shows, free, h.holds, ne_eqb (get_or t (position_word q) 0) 0 some))
@@ -78,23 +78,23 @@ module _ {limits : Limits} {t : List ℕ} {d : ℕ} {p : Location} (e : Admitted
   owes = owed_word t d e.range.0 e.range.1 ∙ ap (λ (k : ℕ). get_or t k 0) (sym owed_at)
 
   module _ (q v : ℕ) where
-    pub swap_no_position : in_range q p.positions ≡ false → table_result NoPosition t ≡ admitted_step limits t d (Swap q v)
+    pub swap_no_position : in_range q p.positions ≡ false → table_result (Err NoPosition) t ≡ admitted_step limits t d (Swap q v)
     swap_no_position out = refused_as 7 (Swap q v) (rw (← e.positions_is, out))
 
-    pub swap_over_limits : AtPosition t d q → limits.sessions < v → table_result OverLimits t ≡ admitted_step limits t d (Swap q v)
+    pub swap_over_limits : AtPosition t d q → limits.sessions < v → table_result (Err OverLimits) t ≡ admitted_step limits t d (Swap q v)
     swap_over_limits h over = refused_as 21 (Swap q v) (rw (h.yes_position, lt-leb v limits.sessions over))
 
     module _ (h : AtPosition t d q) (in-limits : v ≤ limits.sessions) {owed : ℕ} (owed-is : owed ≡ get_or t (p.start + owed_offset) 0) where
       yes_session : leb v limits.sessions ≡ true
       yes_session = le-leb v limits.sessions in-limits
 
-      pub swap_owing : (owed ≡ 0 → ⊥) → table_result Owing t ≡ admitted_step limits t d (Swap q v)
+      pub swap_owing : (owed ≡ 0 → ⊥) → table_result (Err Owing) t ≡ admitted_step limits t d (Swap q v)
       swap_owing some = refused_as 11 (Swap q v) (rw (h.yes_position, yes_session, owes, ← owed-is, ne_eqb owed 0 some))
 
       module _ (none : owed ≡ 0) {old : ℕ} (old-is : old ≡ get_or t (position_word q) 0) where
         -- an accepted swap, given whether it is a repeat
         swap_accepted_as : (repeat : Bool) → is_repeat old v ≡ repeat
-            → table_result (Accepted old) (cond repeat t (set (set t (position_word q) v) (p.start + owed_offset) old)) ≡ admitted_step limits t d (Swap q v)
+            → table_result (Ok old) (cond repeat t (set (set t (position_word q) v) (p.start + owed_offset) old)) ≡ admitted_step limits t d (Swap q v)
         swap_accepted_as repeat is =
             (λ j. record {
               answer = record { number = 0; session = (old-is ∙ sym h.holds) j };
@@ -103,20 +103,20 @@ module _ {limits : Limits} {t : List ℕ} {d : ℕ} {p : Location} (e : Admitted
             ∙ accepted_as (Swap q v) (rw (h.yes_position, yes_session, owes, ← owed-is, none))
 
         -- the position holds it already: nothing is written
-        pub swap_repeated : old ≡ v → table_result (Accepted old) t ≡ admitted_step limits t d (Swap q v)
+        pub swap_repeated : old ≡ v → table_result (Ok old) t ≡ admitted_step limits t d (Swap q v)
         swap_repeated same = swap_accepted_as true (eq-eqb old v same)
 
         pub swap_accepted : (old ≡ v → ⊥)
-            → table_result (Accepted old) (set (set t (position_word q) v) (p.start + owed_offset) old) ≡ admitted_step limits t d (Swap q v)
+            → table_result (Ok old) (set (set t (position_word q) v) (p.start + owed_offset) old) ≡ admitted_step limits t d (Swap q v)
         swap_accepted other = swap_accepted_as false (ne_eqb old v other)
 
         -- nothing stood there: the owed word stays 0
-        pub swap_accepted_none : (old ≡ v → ⊥) → old ≡ 0 → table_result (Accepted old) (set t (position_word q) v) ≡ admitted_step limits t d (Swap q v)
+        pub swap_accepted_none : (old ≡ v → ⊥) → old ≡ 0 → table_result (Ok old) (set t (position_word q) v) ≡ admitted_step limits t d (Swap q v)
         swap_accepted_none other empty =
             let after : List ℕ = set t (position_word q) v in
             let at : ℕ = p.start + owed_offset in
             let stays : get_or after at 0 ≡ old = get_or-set_other t (position_word q) at v 0 (λ z. omega (arith, z, h.apart at owed_at)) ∙ sym owed-is ∙ none ∙ sym empty in
-            (λ j. table_result (Accepted old) ((sym (set-get_or after at 0) ∙ ap (set after at) stays) j)) ∙ swap_accepted other
+            (λ j. table_result (Ok old) ((sym (set-get_or after at 0) ∙ ap (set after at) stays) j)) ∙ swap_accepted other
 
   -- ---- retire
   module _ (l : Lent t d p) where
@@ -145,7 +145,7 @@ module _ {limits : Limits} {t : List ℕ} {d : ℕ} {p : Location} (e : Admitted
     pub collect_result : (vs : List ℕ) → vs ≡ next_screens (decode (hall_in t) t).shown (decode_desk p.all (lent_record t p)) → (x : ℕ) (ys : List ℕ)
         → x ≡ (collect_seeing p.all vs (decode_desk p.all (lent_record t p))).session
         → ys ≡ encode_desk p.all (collect_seeing p.all vs (decode_desk p.all (lent_record t p))).after
-        → table_result (Accepted x) (with_record t p ys) ≡ admitted_step limits t d Collect
+        → table_result (Ok x) (with_record t p ys) ≡ admitted_step limits t d Collect
     collect_result vs seen x ys ex ey =
         let H : Hall = hall_in t in
         let D : Desk = decode_desk p.all (lent_record t p) in

@@ -1,6 +1,6 @@
 -- Whether a table is sound, and its hall; what every step asks first of a sound table: is the desk 1 to P, is the message number the desk's next;
 -- and the location of the desk's words in the table.
-use Rattle.std.specs.Prelude.{◌≡◌, ℕ, ◌+◌, ◌-◌, ◌*◌, true, cond, ◌&&◌, List, length, ◌==◌, nat_le, slice_index, Option, Some, None, Result, Ok, Err}
+use Rattle.std.specs.Prelude.{◌≡◌, ℕ, ◌+◌, ◌-◌, ◌*◌, true, cond, ◌&&◌, List, length, ◌==◌, nat_le, slice_index, Result, Ok, Err}
 use Rattle.rules.specs.Hall.{Limits, all_screens}
 use Rattle.rules.specs.Steps.{in_range}
 use Rattle.rules.specs.Table.{hall_in, header_words, in_limits, need, next_word, record_start, sound, start_for}
@@ -12,9 +12,9 @@ use Rattle.board.specs.declared.Location.{Location}
 abbrev pub numbers_in : List ℕ → Hall
 numbers_in t = let H = hall_in t in record { desks = H.desks; screens = H.screens; positions = H.positions; all = all_screens H }
 
--- "it is long enough, P, c and L are in range": the hall in the header, or none.
-unfoldable pub header_of : Limits → List ℕ → Option Hall
-header_of limits t = cond (in_limits limits (hall_in t) && nat_le (need (hall_in t)) (length t)) (Some (numbers_in t)) None
+-- "it is long enough, P, c and L are in range": the hall in the header, or 5.
+unfoldable pub header_of : Limits → List ℕ → Result Hall Reason
+header_of limits t = cond (in_limits limits (hall_in t) && nat_le (need (hall_in t)) (length t)) (Ok (numbers_in t)) (Err Unsound)
 
 -- "Every step: is the table sound? 5." If it is, its hall.
 unfoldable pub soundness_of : Limits → List ℕ → Result Hall Reason

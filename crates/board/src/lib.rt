@@ -166,27 +166,27 @@ pub struct Hall {
 }
 
 // Reads the header of a table: its hall, unless a number is out of range or the table is too short for the hall.
-fn read_header(t: &[u8], limits: Limits) -> Option<Hall>
+fn read_header(t: &[u8], limits: Limits) -> Result<Hall, Reason>
     ensures { result ≡ header_of (limits_of limits) (words_of_bytes t.now) }
 {
     let n = t.len() >> 1;
     if n < HEADER {
-        return None;
+        return Err(Reason::Unsound);
     }
     let desks = word(t, DESKS);
     let screens = word(t, SCREENS);
     let positions = word(t, POSITIONS);
     if !in_limits(limits, desks, screens, positions) {
-        return None;
+        return Err(Reason::Unsound);
     }
     if n < Board::need(desks, screens, positions) {
-        return None;
+        return Err(Reason::Unsound);
     }
     let p = desks as usize;
     let c = screens as usize;
     let l = positions as usize;
     let s = p * c;
-    Some(Hall {
+    Ok(Hall {
         desks: p,
         screens: c,
         positions: l,
@@ -199,7 +199,7 @@ fn read_header(t: &[u8], limits: Limits) -> Option<Hall>
 pub fn check(t: &[u8], limits: Limits) -> Result<Hall, Reason>
     ensures { result ≡ soundness_of (limits_of limits) (words_of_bytes t.now) }
 {
-    let hall = read_header(t, limits).ok_or(Reason::Unsound)?;
+    let hall = read_header(t, limits)?;
     if !sound_records(t, hall.desks, hall.positions, hall.all) {
         return Err(Reason::Unsound);
     }
@@ -461,7 +461,7 @@ fn step_in(t: &mut [u8], limits: Limits, hall: Hall, message: u16, desk: u16, st
 }
 
 // A step: the table is asked whether it is sound, and the step is done in its hall.
-pub fn step(t: &mut [u8], limits: Limits, message: u16, desk: u16, step: Step) -> Reply
+pub fn do_step(t: &mut [u8], limits: Limits, message: u16, desk: u16, step: Step) -> Reply
     ensures { Stepped (limits_of limits) (desk sends step_of step numbered message) t.old result t.new }
 {
     let hall = check(t, limits)?;

@@ -8,7 +8,7 @@ use Rattle.rules.proofs.Laws.Table.TableSteps.{Known, known, record_within}
 use Rattle.limits.specs.Room.{limits_of}
 use Rattle.words.proofs.Laws.{length-words}
 use Rattle.board.specs.Admission.{admission_of}
-use Rattle.board.specs.declared.Admission.TheVariants.{At}
+use Rattle.std.specs.Prelude.{Ok}
 use Rattle.board.specs.declared.Hall.{Hall}
 use Rattle.board.proofs.AdmissionLaws.{Bounded, SoundHall, hall_bounded, sound-hall}
 use Rattle.board.proofs.SoundLaws.{said_false, said_true}
@@ -93,4 +93,4 @@ returns c =
     let to = c.record_start-e.ensures.0 ∙ ap₂ (λ (x y : ℕ). start_for x y c.args.desk) positions all in
     let next = get_or (words_of_bytes c.args.t.now) (next_word (hall_in (words_of_bytes c.args.t.now)) c.args.desk) 0 in
     rw (own_desk (goal.at.returns c).Else-not-in_range, eq-eqb c.args.message next (sym c.if-word-message.false ∙ next_read (goal.at.returns c).After-word))
-    (λ i. At (record { positions = positions i; screens = screens i; all = all i; start = from i; end = to i; next = next_at (goal.at.returns c).After-tail_offset i }))
+    (λ i. Ok (record { positions = positions i; screens = screens i; all = all i; start = from i; end = to i; next = next_at (goal.at.returns c).After-tail_offset i }))

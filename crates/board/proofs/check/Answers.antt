@@ -1,23 +1,24 @@
 -- `board::check` meets its contract: the header is broken, or the records decide.
-use Rattle.std.proofs.Common.{sym, ap, ◌∙◌, mul-le-mul, arith}
+use Rattle.std.proofs.lemmas.Result.{err_from_is_err_and}
+use Rattle.std.proofs.Common.{ap, mul-le-mul, arith}
 use Rattle.rules.specs.Bytes.{words_of_bytes}
 use Rattle.rules.specs.Table.{hall_in, start_for}
 use Rattle.rules.proofs.Laws.Table.EncodedStep.{limits_fit}
 use Rattle.limits.specs.Room.{limits_of}
 use Rattle.words.proofs.Laws.{length-words}
 use Rattle.board.specs.declared.Hall.{Hall}
-use Rattle.board.proofs.AdmissionLaws.{Named, broken_unsound, named, records-sound, records-unsound}
+use Rattle.board.proofs.AdmissionLaws.{header_broken, named, records-sound, records-unsound}
+use Rattle.board.proofs.SoundLaws.{said_false, said_true}
 use Rattle.board.proofs.check.Goals as goal
-use Rattle.board.proofs.check.Goals.{In-Of}
 
--- the hall that the header names
-hall-named : (c : In-Of) →
-    Named (limits_of c.args.limits) (words_of_bytes c.args.t.now) c.in-Of.hall
-hall-named c = named (sym c.in-Of.is ∙ c.read_header-header.ensures)
+pub returns-in_err-hall : goal.returns-in_err-hall
+returns-in_err-hall c =
+    let p = err_from_is_err_and c.from_residual.result c.from_residual.ensures.1 in
+    rw (p.1, p.2) (header_broken _ _ c.in_err-hall.ensures)
 
 pub sound_records-requires : goal.sound_records-requires
 sound_records-requires c =
-    let n = hall-named c in
+    let n = named c.in_ok-hall.ensures in
     let fits = limits_fit (limits_of c.args.limits) (hall_in (words_of_bytes c.args.t.now)) n.inside in
     let desks = ap (λ (h : Hall). h.desks) n.is in
     let positions = ap (λ (h : Hall). h.positions) n.is in
@@ -25,11 +26,8 @@ sound_records-requires c =
     let last = ap (λ (h : Hall). start_for h.positions h.all h.desks) n.is in
     (omega (arith, desks, fits.desks), omega (arith, positions, fits.positions), omega (arith, all, mul-le-mul fits.desks.1 fits.screens.1), omega (arith, last, n.long, length-words c.args.t.now))
 
-pub returns-in-Broken : goal.returns-in-Broken
-returns-in-Broken c = search broken_unsound
+pub returns-then-not-sound_records : goal.returns-then-not-sound_records
+returns-then-not-sound_records c = records-unsound (named c.in_ok-hall.ensures) (said_false c.sound_records.ensures c.if-not-sound_records.true)
 
-pub returns-then-sound_records : goal.returns-then-sound_records
-returns-then-sound_records c = records-sound (hall-named (goal.at.returns-then-sound_records c).In-Of) (sym c.sound_records.ensures ∙ c.if-sound_records.true)
-
-pub returns-else-sound_records : goal.returns-else-sound_records
-returns-else-sound_records c = records-unsound (hall-named (goal.at.returns-else-sound_records c).In-Of) (sym c.sound_records.ensures ∙ c.if-sound_records.false)
+pub returns : goal.returns
+returns c = records-sound (named c.in_ok-hall.ensures) (said_true c.sound_records.ensures c.if-not-sound_records.false)

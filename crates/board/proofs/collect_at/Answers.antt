@@ -8,7 +8,7 @@ use Rattle.rules.proofs.Laws.Bytes.Bytes.{words_are_16}
 use Rattle.limits.specs.Room.{limits_of}
 use Rattle.words.proofs.Laws.{length-words}
 use Rattle.reply.specs.Answer.{table_result}
-use Rattle.reply.specs.declared.Reply.TheVariants.{Accepted}
+use Rattle.std.specs.Prelude.{Ok}
 use Rattle.desk.specs.Record.{Encoded}
 use Rattle.board.specs.Results.{admitted_step}
 use Rattle.board.proofs.AdmissionLaws.{Admitted, admitted}
@@ -41,7 +41,7 @@ collected : (c : After-count-k) (shown : List ℕ) → let o = c.args in let s =
     let words = words_of_bytes (mid_of (2 * o.location.start) (2 * o.location.end - 2 * o.location.start) o.t.now) in
     shown ≡ next_screens (decode (hall_in (words_of_bytes o.t.now)) (words_of_bytes o.t.now)).shown (decode_desk s (lent_record (words_of_bytes o.t.now) o.location))
     → (x : ℕ) (part : List ℕ) → x ≡ (collect_seeing s shown (decode_desk s words)).session → words_of_bytes part ≡ encode_desk s (collect_seeing s shown (decode_desk s words)).after
-    → table_result (Accepted x) (with_record (words_of_bytes o.t.now) o.location (words_of_bytes part)) ≡ admitted_step (limits_of o.limits) (words_of_bytes o.t.now) o.desk Collect
+    → table_result (Ok x) (with_record (words_of_bytes o.t.now) o.location (words_of_bytes part)) ≡ admitted_step (limits_of o.limits) (words_of_bytes o.t.now) o.desk Collect
 collected c shown seen x part session after =
     let s = c.args.location.all in
     let words = lent_words c.args.t.now (here c) in

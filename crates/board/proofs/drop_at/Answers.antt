@@ -3,7 +3,7 @@ use Rattle.std.proofs.Common.{set, sym, refl, ap, ◌∙◌, arith}
 use Rattle.rules.specs.Bytes.{words_of_bytes}
 use Rattle.words.proofs.Laws.{length-words}
 use Rattle.reply.specs.Answer.{table_result}
-use Rattle.reply.specs.declared.Reply.TheVariants.{Accepted}
+use Rattle.std.specs.Prelude.{Ok}
 use Rattle.board.proofs.AdmissionLaws.{admitted}
 use Rattle.board.proofs.LocationLaws.{AtScreen, at_screen}
 use Rattle.board.proofs.ResultLaws.{matches, matches_unchanged}
@@ -36,4 +36,4 @@ pub put_word-requires : goal.put_word-requires
 put_word-requires c = omega (arith, (screen (goal.at.put_word-requires c).After-screen_at-at).there, length-words c.args.t.now)
 
 pub returns : goal.returns
-returns c = matches (ap (λ x. table_result (Accepted x) (set (words_of_bytes c.args.t.now) c.screen_at-at.result 0)) c.word-shown.ensures ∙ drop_accepted (admitted c.requires) (screen (goal.at.returns c).After-screen_at-at) (λ z. c.if-shown-eq0.false (c.word-shown.ensures ∙ z))) c.put_word.ensures
+returns c = matches (ap (λ x. table_result (Ok x) (set (words_of_bytes c.args.t.now) c.screen_at-at.result 0)) c.word-shown.ensures ∙ drop_accepted (admitted c.requires) (screen (goal.at.returns c).After-screen_at-at) (λ z. c.if-shown-eq0.false (c.word-shown.ensures ∙ z))) c.put_word.ensures

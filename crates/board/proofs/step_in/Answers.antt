@@ -1,0 +1,26 @@
+-- `board::step_in` meets its contract: each refusal is that of `admit` or of the step itself, or the step was done and `move_on` followed.
+use Rattle.std.proofs.lemmas.Result.{err_from_is_err_and}
+use Rattle.board.specs.Results.{step_of}
+use Rattle.board.proofs.AdmissionLaws.{admits, refused_desk}
+use Rattle.board.proofs.MessageLaws.{not_stepped, number_in_bytes, stepped}
+use Rattle.board.proofs.ResultLaws.{matches_unchanged}
+use Rattle.board.proofs.step_in.Goals as goal
+
+pub returns-in_err-location : goal.returns-in_err-location
+returns-in_err-location c =
+    let p = err_from_is_err_and c.from_residual.result c.from_residual.ensures.1 in
+    rw (p.1, p.2) (matches_unchanged (refused_desk _ _ _ c.requires c.in_err-location.ensures))
+
+pub step_at-requires : goal.step_at-requires
+step_at-requires c = (admits c.requires c.in_ok-location.ensures).admits_desk
+
+pub returns-in_err-session : goal.returns-in_err-session
+returns-in_err-session c =
+    let p = err_from_is_err_and c.from_residual-in_err-session.result c.from_residual-in_err-session.ensures.1 in
+    rw (p.1, p.2) (not_stepped (admits c.requires c.in_ok-location.ensures) (step_of c.args.step) c.in_err-session.ensures)
+
+pub move_on-requires : goal.move_on-requires
+move_on-requires c = number_in_bytes c.args.t.now c.step_at.new.t (admits c.requires c.in_ok-location.ensures) c.step_at.auto.t
+
+pub returns : goal.returns
+returns c = stepped (admits c.requires c.in_ok-location.ensures) (step_of c.args.step) c.in_ok-session.ensures c.step_at.auto.t c.move_on.ensures
