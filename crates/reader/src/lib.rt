@@ -1,10 +1,10 @@
 #![tactic(auto)]
 
 ghost use Rattle.std.specs.Prelude.{◌≡◌, ℕ, OnErr};
-ghost use Rattle.rules.specs.Numbers.{Parsed, allowed, allows as allows_padded, barred, bind, judge as judged, refusal, refusal_of};
-ghost use Rattle.sheet_rules.specs.Edition1.{decode_field, decode_fields, decode_header, decode_record, decode_rest, edition1, format_for, with_code};
+ghost use Rattle.rules.specs.Numbers.{allowed, allows as allows_padded, barred, judge as judged, refusal, refusal_of};
+ghost use Rattle.sheet_rules.specs.Edition1.{decode_field, decode_fields, decode_header, decode_record, decode_rest, edition1, format_for};
 ghost use Rattle.sheet_rules.specs.Edition2.{check_desk, decode_coded, decode_header2, decode_record2, decode_shorthand, decode_written_out, desk_before, edition2, edition_for, expect_number, repeats as repeats_desk};
-ghost use Rattle.sheet_rules.specs.Sheet.{begin_sheet, follows as follows_code, is_code};
+ghost use Rattle.sheet_rules.specs.Sheet.{begin_sheet, follows as follows_code};
 ghost use Rattle.codes.specs.Code.{code_of};
 ghost use Rattle.fields.specs.Field.{column_of};
 ghost use Rattle.limits.specs.Room.{limits_of};
