@@ -281,9 +281,8 @@ impl<'a> Cursor<'a> {
         ensures { parsed_at record_of result self.new.at ≡ decode_record (format_of self.old.format) self.old.sheet.now self.old.at }
     {
         let number = self.read_number(MAX_NUMBER)?;
-        let code = step(number)?;
-        self.read_fields(code)
-            .map_err(|refusal| refusal.in_record(number))
+        let fields = self.read_fields(step(number)?);
+        fields.map_err(|refusal| refusal.in_record(number))
     }
 
     // Reads the fields of a record with a shorthand code.
@@ -306,16 +305,16 @@ impl<'a> Cursor<'a> {
     fn read_coded(&mut self, carried: Option<u16>, number: u16) -> Result<Record, Refusal>
         ensures { parsed_at record_of result self.new.at ≡ decode_coded (format_of self.old.format) (carried_of carried) number self.old.sheet.now self.old.at }
     {
-        if 9 <= number && number <= 13 {
-            let stands_for = number - 8;
-            let code = step(stands_for)?;
-            return self
-                .read_shorthand(carried, code)
-                .map_err(|refusal| refusal.in_record(stands_for));
+        match number {
+            9..=13 => {
+                let stands_for = number - 8;
+                self.read_shorthand(carried, step(stands_for)?)
+                    .map_err(|refusal| refusal.in_record(stands_for))
+            }
+            _ => self
+                .read_written_out(carried, step(number)?)
+                .map_err(|refusal| refusal.in_record(number)),
         }
-        let code = step(number)?;
-        self.read_written_out(carried, code)
-            .map_err(|refusal| refusal.in_record(number))
     }
 
     // Reads a record of edition 2, given what the record before left: its code, and then its fields.
@@ -323,8 +322,8 @@ impl<'a> Cursor<'a> {
     fn read_record_2(&mut self, carried: Option<u16>) -> Result<Record, Refusal>
         ensures { parsed_at record_of result self.new.at ≡ decode_record2 (format_of self.old.format) (carried_of carried) self.old.sheet.now self.old.at }
     {
-        let number = self.read_number(MAX_NUMBER)?;
-        self.read_coded(carried, number)
+        let code = self.read_number(MAX_NUMBER)?;
+        self.read_coded(carried, code)
     }
 
     // Reads P, c and L: the header of edition 1, and the end of that of edition 2.

@@ -21,16 +21,13 @@ fn put_number(out: &mut [u8], at: usize, value: u16) -> usize
     requires { Fits out.old at (encode_number value) }
     ensures { Put out.old out.new at (encode_number value) result }
 {
-    if value < 128 {
-        return put_byte(out, at, value as u8);
+    let mut next = at;
+    let mut rest = value;
+    while 128 <= rest {
+        next = put_byte(out, next, (rest % 128 + 128) as u8);
+        rest /= 128;
     }
-    let second = put_byte(out, at, (value % 128 + 128) as u8);
-    let high = value / 128;
-    if high < 128 {
-        return put_byte(out, second, high as u8);
-    }
-    let third = put_byte(out, second, (high % 128 + 128) as u8);
-    put_byte(out, third, (high / 128) as u8)
+    put_byte(out, next, rest as u8)
 }
 
 // Puts a field if it follows the code.
