@@ -36,7 +36,3 @@ move_end l₀ l i h p =
 pub shift_some : (l : List ℕ) → 0 < length l → shift_left l ≡ drop 1 l ++ (0 ∷ [])
 shift_some [] h = absurd (omega arith)
 shift_some (x ∷ l) h = refl
-
-pub shift_none : (l : List ℕ) → length l ≡ 0 → l ≡ shift_left l
-shift_none [] e = refl
-shift_none (x ∷ l) e = absurd (omega (arith, e))

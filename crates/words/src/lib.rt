@@ -22,7 +22,7 @@ pub fn count(t: &[u8], i: usize) -> usize
     word(t, i) as usize
 }
 
-// Writes w to word i; no other byte is written.
+// Writes w to word i; no other byte is written. The library's `to_le_bytes` divides in its source, and no call from C may divide.
 // Precondition: both its bytes are in the table.
 pub fn put_word(t: &mut [u8], i: usize, w: u16)
     requires { 2 * i + 1 < length t.old }
