@@ -5,7 +5,7 @@ usage: tests/documents.py [DOCUMENT ...]        by default README.md, tests/READ
        docs/PORT.md, which names what has another name today
 
 - `Table.need`: the file Table.antt declares `need`, or a record or a struct `Table` has the field.
-- `board::open`, `board::Board::need`: the crate's source declares it. A path of no crate (`u64::count_ones`) must occur in a source.
+- `board::open`, `board::Board::need`: the crate's source declares it. A path of no crate (`u128::from_le_bytes`) must occur in a source.
 - `Laws/Table/EncodedStep`, `tests/host`: a file or a folder has this path, or ends with it; CRATE, NAME and NN match any name.
 - `need`: a definition, a field, a constructor, a function, a constant, a type, an edit, a file or a folder, or a word of a test, a
   tool, the header or the Makefile. No word of a Markdown file is one: a document would declare its own names.

@@ -3,8 +3,8 @@
 
 usage: tests/divisions/selftest.py ARCHIVE        the last line is 'divisions: N wrong ones, all caught'
 
-source.py reads this repository's sources with one line changed, and small sources of its own; archive.py reads the archive
-with a divide instruction in one of its functions, and the calls of tests/wrong/divisions.c.
+source.py reads this repository's sources and the toolchain's with one line changed, and small sources of its own;
+archive.py reads the archive with a divide instruction in one of its functions, and the calls of tests/wrong/divisions.c.
 """
 import contextlib
 import io
@@ -22,10 +22,17 @@ import source
 CHANGED = [
     ('marks', 'word: j >> 4,', 'word: j / 16,', 'marks::mark_position'),
     ('marks', 'bit: j & 15,', 'bit: j % 16,', 'marks::mark_position'),
-    ('marks', '>> b) & 1 == 1', '>> b) % 2 == 1', 'marks::marked'),
+    ('marks', '>> at.bit) & 1 == 1', '>> at.bit) % 2 == 1', 'marks::marked'),
     ('desk', 'if k & 1 != 0 {', 'if k % 2 != 0 {', 'desk::sound_scan'),
     ('words', '(w >> 8) as u8', '(w / 256) as u8', 'words::put_word'),
     ('board', 'positions, t.len() >> 1)', 'positions, t.len() / 2)', 'board::open'),
+]
+
+# The same of the toolchain's libraries: a file, a line, a line in its place, the function of the library, and one that calls it.
+CHANGED_LIBRARY = [
+    ('core/src/int/u16.rt', 'bytes[0] as u16 + bytes[1]', 'bytes[0] as u16 / 1 + bytes[1]', 'std::from_le_bytes', 'words::word'),
+    ('core/src/slice/edits.rt', 'self[n - 1] = value;', 'self[n - 1 / 1] = value;', 'std::fill', 'words::clear'),
+    ('std_alloc/src/shifts.rt', 'if dest <= start {', 'if dest / 1 <= start {', 'std::shift', 'words::shift_left'),
 ]
 
 # What a check says of a function that divides, and of one that does not.
@@ -42,6 +49,7 @@ SMALL = [
     ('a', 'fn not_called(a: usize) -> [u8; 2]\n    ghost { n : ℕ }\n    ensures { n / 2 }\n{ [0; 2] }', PASSES),
     ('u64::count_ones(std::num::wrapping_add_u64(a, 1))', '', PASSES),
     ('if (a) < 1 { return (a); } while (a) < 2 { match (a) { } } for b in (a)..3 { } Size(a)', '', PASSES),
+    ('(b)[0..a].fill(u16::from_le_bytes([1, 2]))', '', PASSES),
     ('a / 16', '', DIVIDES),
     ('a % 16', '', DIVIDES),
     ('let mut b = a; b /= 16; b', '', DIVIDES),
@@ -57,6 +65,7 @@ SMALL = [
     ('size.half()', f"impl<'a> Size<'a> {{{HALF}}}\nimpl Other {{\n    fn half(self) {{ }}\n}}", DIVIDES),
     ('absent(a)', '', 'small::all calls absent, which is not found'),
     ('usize::div_ceil(a, 2)', '', 'small::all calls div_ceil, which is not found'),
+    ('u64::to_le_bytes(a)', '', 'small::all calls to_le_bytes, which is not found'),
     ('(part)(a)', 'use other::third as part;', 'small renames what it imports'),
     ('quotient(a)', 'extern "C" { fn quotient(a: usize) -> usize; }', 'small::quotient has no body'),
 ]
@@ -112,8 +121,8 @@ def output_of(check):
     return printed.getvalue()
 
 
-def of_source(folder, std, function):
-    return output_of(lambda: source.check(source.Sources(folder, std), [function]))
+def of_source(folder, library, function):
+    return output_of(lambda: source.check(source.Sources(folder, library), [function]))
 
 
 def of_archive(library, *calls):
@@ -125,7 +134,7 @@ def expect(good, what, printed=''):
         sys.exit(f'{printed}\ndivisions: {what}')
 
 
-def changed_sources(folder, std):
+def changed_sources(folder, library):
     """Each changed line is found in its function and from the exported calls."""
     shutil.copytree(source.ROOT / 'crates', folder / 'crates', ignore=shutil.ignore_patterns('*.antt', '*.edit'))
     shutil.copy(source.ROOT / 'crates.txt', folder)
@@ -135,20 +144,36 @@ def changed_sources(folder, std):
         expect(text.count(old) == 1, f'{old!r} does not stand once in {crate}')
         file.write_text(text.replace(old, new))
         for start in function, 'host::*':
-            printed = of_source(folder, std, start)
+            printed = of_source(folder, library, start)
             expect(f'{function}, {DIVIDES}' in printed, f'{new!r} is not found from {start}', printed)
         file.write_text(text)
     return len(CHANGED)
 
 
-def small_sources(folder, std):
+def changed_libraries(folder, library):
+    """Each changed line of a library is found, from a function that calls it and from the exported calls."""
+    for name in ['core/src/num.rt', *source.LIBRARY]:
+        (folder / name).parent.mkdir(parents=True, exist_ok=True)
+        shutil.copyfile(library / name, folder / name)
+    for name, old, new, function, caller in CHANGED_LIBRARY:
+        text = (folder / name).read_text()
+        expect(text.count(old) == 1, f'{old!r} does not stand once in {name}')
+        (folder / name).write_text(text.replace(old, new))
+        for start in caller, 'host::*':
+            printed = of_source(source.ROOT, folder, start)
+            expect(f'{function}, {DIVIDES}' in printed, f'{new!r} is not found from {start}', printed)
+        (folder / name).write_text(text)
+    return len(CHANGED_LIBRARY)
+
+
+def small_sources(folder, library):
     (folder / 'crates.txt').write_text(SMALL_CRATES)
     rows = [('small::all', *row) for row in SMALL] + [('small::*', *row) for row in EXPORTING]
     for start, body, more, expected in rows:
         for crate, text in {**AROUND, 'small': SMALL_CRATE.format(body, more)}.items():
             (folder / 'crates' / crate / 'src').mkdir(parents=True, exist_ok=True)
             (folder / 'crates' / crate / 'src' / 'lib.rt').write_text(text)
-        printed = of_source(folder, std, start)
+        printed = of_source(folder, library, start)
         expect(expected in printed, f'wrong about {body!r} with {more!r}', printed)
     return sum(expected != PASSES for *_, expected in rows)
 
@@ -195,13 +220,13 @@ def wrong_calls(folder):
 def main():
     if len(sys.argv) != 2:
         sys.exit(__doc__)
-    std = source.std()
+    library = source.library()
     with tempfile.TemporaryDirectory() as made:
-        folders = [pathlib.Path(made) / name for name in ('changed', 'small', 'archive', 'calls')]
+        folders = [pathlib.Path(made) / name for name in ('changed', 'library', 'small', 'archive', 'calls')]
         for folder in folders:
             folder.mkdir()
-        caught = changed_sources(folders[0], std) + small_sources(folders[1], std)
-        caught += changed_functions(folders[2], sys.argv[1]) + wrong_calls(folders[3])
+        caught = changed_sources(folders[0], library) + changed_libraries(folders[1], library) + small_sources(folders[2], library)
+        caught += changed_functions(folders[3], sys.argv[1]) + wrong_calls(folders[4])
     print(f'divisions: {caught} wrong ones, all caught')
 
 

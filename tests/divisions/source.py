@@ -4,10 +4,10 @@
 usage: tests/divisions/source.py FUNCTION ...
 
 A FUNCTION is named with its crate, as marks::mark_position; CRATE::* means every function that a crate exports to C. The
-sources are crates/ and the toolchain's std::num. Comments and contracts may divide: they are not run. A function
-counts as called where its name is a word of the text, in the same crate or one above it (crates.txt), so more may be read
-than is called; a call of a function that is not found is an error. The last line is 'divisions in the source: N functions, M
-divide', and the exit status is 0 only if M is 0.
+sources are crates/ and, of the toolchain's libraries, std::num and the functions of LIBRARY below. Comments and contracts may
+divide: they are not run. A function counts as called where its name is a word of the text, in the same crate or one above it
+(crates.txt), so more may be read than is called; a call of a function that is not found is an error. The last line is
+'divisions in the source: N functions, M divide', and the exit status is 0 only if M is 0.
 """
 import collections
 import functools
@@ -21,12 +21,32 @@ ROOT = pathlib.Path(__file__).resolve().parent.parent.parent
 COMMENT_OR_LITERAL = re.compile(r"""//[^\n]*|#!?\[[^\]]*\]|(?<!\w)b'(?:\\x..|\\.|[^'\\\n])'|(?<!\w)b"(?:\\.|[^"\\])*\"""")
 RENAMED = re.compile(r'^\s*(?:pub )?use\b[^;]*\sas\s', re.M)
 CLAUSE = re.compile(r'\b(?:requires|ensures)(?:\s+\w+)?\s*(?=\{)')
+BRACKETED = re.compile(r'\[[^\]]*\]')
 FUNCTION = re.compile(r'\b(extern\s+"C"\s+)?fn\s+(\w+)')
 CALL = re.compile(r'(\.?)\b(?:(\w+)::)?(\w+)\s*\(')
-KEYWORDS = {'if', 'while', 'match', 'return', 'in'}
-NUMBERS = {'u8', 'u16', 'u32', 'u64', 'usize', 'i8', 'i16', 'i32', 'i64', 'isize'}
+KEYWORDS = {'if', 'while', 'match', 'return', 'in', 'let'}
+NUMBERS = {'u8', 'u16', 'u32', 'u64', 'u128', 'usize', 'i8', 'i16', 'i32', 'i64', 'isize'}
 BITS = {'count_ones', 'leading_zeros', 'trailing_zeros'}
-METHODS = {'len', 'wrapping_add'}
+METHODS = {'len', 'wrapping_add'} | BITS
+
+# What the crates call of the toolchain's libraries beside std::num, and what that calls in turn: the functions of each file. Those
+# of BUILT_IN have no body, because the compiler makes them.
+LIBRARY = {
+    'core/src/clone/mod.rt': ['surely', 'clone'],
+    'core/src/int/u16.rt': ['from_le_bytes'],
+    'core/src/int/u64.rt': ['from_le_bytes'],
+    'core/src/int/u128.rt': ['from_le_bytes'],
+    'core/src/ops/bounds.rt': ['start_bound', 'end_bound', 'as_ref'],
+    'core/src/option.rt': ['unwrap'],
+    'core/src/simd/chunks.rt': ['arrays'],
+    'core/src/slice/arrays.rt': ['as_array', 'some', 'as_array_ref', 'first_unchecked'],
+    'core/src/slice/edits.rt': ['fill'],
+    'core/src/slice/ranges.rt': ['range'],
+    'std/src/slices.rt': ['copy_within'],
+    'std_alloc/src/part.rt': ['within'],
+    'std_alloc/src/shifts.rt': ['shift', 'copy_down', 'copy_up'],
+}
+BUILT_IN = {'as_ptr', 'from_raw_parts', 'unreachable'}
 
 # A function: its crate, its name, its text from the name to the next function, and whether it is exported to C.
 Function = collections.namedtuple('Function', 'crate name text exported')
@@ -64,6 +84,22 @@ def functions_of(crate, text):
         yield Function(crate, head[2], body, bool(head[1]))
 
 
+def functions_of_library(library):
+    """The functions of std::num, and those of LIBRARY."""
+    yield from functions_of('std', (library / 'core' / 'src' / 'num.rt').read_text())
+    for file, names in LIBRARY.items():
+        text = without_clauses(COMMENT_OR_LITERAL.sub(' ', (library / file).read_text()))
+        found = set()
+        for head in FUNCTION.finditer(text):
+            start = text.find('{', head.end())
+            # A method that its trait only declares ends in a semicolon.
+            if head[2] in names and ';' not in BRACKETED.sub(' ', text[head.end():start]):
+                found.add(head[2])
+                yield Function('std', head[2], text[start:after_closing(text, start)], False)
+        for name in set(names) - found:
+            sys.exit(f'divisions: no function {name} in {file}')
+
+
 def dependencies_of(lines):
     """Each crate of crates.txt with the crates that it depends on."""
     pairs = [line.split('#')[0].split(':') for line in lines if ':' in line.split('#')[0]]
@@ -73,12 +109,12 @@ def dependencies_of(lines):
 class Sources:
     """The functions of a repository's crates, and of std."""
 
-    def __init__(self, root, std):
+    def __init__(self, root, library):
         self.functions = []
         for folder in sorted(root.glob('crates/*/src')):
             for file in sorted(folder.rglob('*.rt')):
                 self.functions += functions_of(folder.parent.name, file.read_text())
-        self.functions += functions_of('std', std.read_text())
+        self.functions += functions_of_library(library)
         self.dependencies = dependencies_of((root / 'crates.txt').read_text().splitlines())
 
     @functools.cache
@@ -109,7 +145,7 @@ class Sources:
         visible = self.visible(function.crate)
         for dot, owner, name in CALL.findall(function.text):
             built_in = name in KEYWORDS or name[0].isupper() or dot and name in METHODS or owner in NUMBERS and name in BITS
-            if name not in visible and not built_in:
+            if name not in visible and not built_in and not (function.crate == 'std' and name in BUILT_IN):
                 sys.exit(f'divisions: {function.crate}::{function.name} calls {name}, which is not found')
         for word in re.findall(r'\w+', function.text):
             yield from visible.get(word, [])
@@ -127,10 +163,10 @@ class Sources:
         return chains
 
 
-def std():
-    """The sources of std::num: among the toolchain's libraries, beside the page to read first. No other of std is read."""
+def library():
+    """The folder of the toolchain's libraries: beside the page to read first."""
     page = subprocess.run(['rt', 'doc'], capture_output=True, text=True, check=True).stdout.strip()
-    return pathlib.Path(page).parent / 'rattle' / 'core' / 'src' / 'num.rt'
+    return pathlib.Path(page).parent / 'rattle'
 
 
 def check(sources, words):
@@ -149,7 +185,7 @@ def check(sources, words):
 def main():
     if len(sys.argv) < 2:
         sys.exit(__doc__)
-    sys.exit(0 if check(Sources(ROOT, std()), sys.argv[1:]) else 1)
+    sys.exit(0 if check(Sources(ROOT, library()), sys.argv[1:]) else 1)
 
 
 if __name__ == '__main__':

@@ -19,5 +19,5 @@ pub struct Limits {
 pub fn within(limits: Limits, desks: u16, screens: u16, positions: u16) -> bool
     ensures { result ≡ within_limits (limits_of limits) (hall_of desks screens positions) }
 {
-    desks <= limits.desks && (screens <= limits.screens && positions <= limits.positions)
+    desks <= limits.desks && screens <= limits.screens && positions <= limits.positions
 }

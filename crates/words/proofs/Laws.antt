@@ -1,11 +1,7 @@
 -- Laws of the words in bytes: one word, a part, a part written back.
-use Prim.Native.Nat.{ℕ, zero, suc, ◌+◌, ◌-◌, ◌*◌, ◌/◌, ◌≤◌, ◌<◌}
-use native.Mathlib.Nat.{not-suc-le-zero}
-use native.Mathlib.Omega.{arith}
-use mathlib.Core.List.{List, [], ◌∷◌, ◌++◌}
-use mathlib.Core.Path.{◌≡◌, refl, sym, ap, ap₂, ◌∙◌}
-use lib.ListN.{length, get_or, set, take, drop}
-use lib.Seq.{length-take-le, drop-drop}
+use Rattle.std.proofs.Common.{◌≡◌, ℕ, zero, suc, ◌+◌, ◌-◌, ◌*◌, ◌/◌, ◌≤◌, ◌<◌, List, [], ◌∷◌, ◌++◌, length, get_or, set, take, drop, refl, sym, ap, ap₂, ◌∙◌, arith}
+use Rattle.std.proofs.Math.Seq.{drop-drop, length-take-le}
+use Rattle.std.proofs.lemmas.List.{drop-set-lt}
 use borrow.Rule.Slice.PartMut.{drop_put, mid_of, put_mid}
 use Rattle.rules.specs.Bytes.{IsBytes, bytes_of_words, overwrite_words, words_of_bytes}
 use Rattle.rules.proofs.Laws.Bytes.Bytes.{overwrite_back, words-length}
@@ -15,33 +11,30 @@ use Rattle.words.specs.Written.{Written}
 pub length-words : (bytes : List ℕ) → length (words_of_bytes bytes) ≡ length bytes / 2
 length-words bytes = omega (arith, words-length bytes)
 
+-- the bytes of the next word
+twice : (k : ℕ) → 2 * suc k ≡ suc (suc (2 * k))
+twice k = omega arith
+
+twice_next : (k : ℕ) → 2 * suc k + 1 ≡ suc (suc (2 * k + 1))
+twice_next k = omega arith
+
 -- word k is made of the bytes 2k and 2k + 1
 pub word_at : (bytes : List ℕ) (k : ℕ) → 2 * k + 1 < length bytes → get_or bytes (2 * k) 0 + 256 * get_or bytes (2 * k + 1) 0 ≡ get_or (words_of_bytes bytes) k 0
-word_at [] k h = absurd (not-suc-le-zero h)
+word_at [] k h = absurd (omega arith)
 word_at (low ∷ []) k h = absurd (omega arith)
 word_at (low ∷ high ∷ bytes) zero h = refl
 word_at (low ∷ high ∷ bytes) (suc k) h =
-    let e : 2 * suc k + 1 ≡ suc (suc (2 * k + 1)) = omega arith in
-    let e' : 2 * suc k ≡ suc (suc (2 * k)) = omega arith in
-    rw (e, e') (word_at bytes k (omega arith))
+    rw (twice_next, twice) (word_at bytes k (omega arith))
 
 -- ---- One word.
 -- word k is written: its low byte and its high byte
-pub put_words : (bytes : List ℕ) (k low high : ℕ) → 2 * k + 1 < length bytes
+put_words : (bytes : List ℕ) (k low high : ℕ) → 2 * k + 1 < length bytes
     → words_of_bytes (set (set bytes (2 * k) low) (2 * k + 1) high) ≡ set (words_of_bytes bytes) k (low + 256 * high)
-put_words [] k low high h = absurd (not-suc-le-zero h)
+put_words [] k low high h = absurd (omega arith)
 put_words (x ∷ []) k low high h = absurd (omega arith)
 put_words (x ∷ y ∷ bytes) zero low high h = refl
 put_words (x ∷ y ∷ bytes) (suc k) low high h =
-    let e : 2 * suc k + 1 ≡ suc (suc (2 * k + 1)) = omega arith in
-    let e' : 2 * suc k ≡ suc (suc (2 * k)) = omega arith in
-    rw (e, e') (ap {B = List ℕ} (λ l. (x + 256 * y) ∷ l) (put_words bytes k low high (omega arith)))
-
-pub drop_set_before : (bytes : List ℕ) (n k v : ℕ) → k < n → drop n (set bytes k v) ≡ drop n bytes
-drop_set_before [] n k v h = refl
-drop_set_before (x ∷ bytes) zero k v h = absurd (not-suc-le-zero h)
-drop_set_before (x ∷ bytes) (suc n) zero v h = refl
-drop_set_before (x ∷ bytes) (suc n) (suc k) v h = drop_set_before bytes n k v (omega arith)
+    rw (twice_next, twice) (ap {B = List ℕ} (λ l. (x + 256 * y) ∷ l) (put_words bytes k low high (omega arith)))
 
 pub put_written : (bytes : List ℕ) (k low high : ℕ) → 2 * k + 1 < length bytes
     → Written bytes (set (words_of_bytes bytes) k (low + 256 * high)) (set (set bytes (2 * k) low) (2 * k + 1) high)
@@ -50,23 +43,22 @@ put_written bytes k low high h =
     let l : 2 * k + 1 < n = omega (arith, words-length bytes) in
     record {
       holds = put_words bytes k low high h;
-      last = drop_set_before (set bytes (2 * k) low) n (2 * k + 1) high l ∙ drop_set_before bytes n (2 * k) low (omega arith);
+      last = drop-set-lt n (set bytes (2 * k) low) (2 * k + 1) high l ∙ drop-set-lt n bytes (2 * k) low (omega arith);
     }
 
 -- the words of a part
 pub words-drop : (n : ℕ) (bytes : List ℕ) → words_of_bytes (drop (2 * n) bytes) ≡ drop n (words_of_bytes bytes)
 words-drop zero bytes = refl
-words-drop (suc n) [] = let e : 2 * suc n ≡ suc (suc (2 * n)) = omega arith in rw e
-words-drop (suc n) (low ∷ []) = let e : 2 * suc n ≡ suc (suc (2 * n)) = omega arith in rw e
-words-drop (suc n) (low ∷ high ∷ bytes) = let e : 2 * suc n ≡ suc (suc (2 * n)) = omega arith in rw e (words-drop n bytes)
+words-drop (suc n) [] = rw twice
+words-drop (suc n) (low ∷ []) = rw twice
+words-drop (suc n) (low ∷ high ∷ bytes) = rw twice (words-drop n bytes)
 
 pub words_take : (n : ℕ) (bytes : List ℕ) → words_of_bytes (take (2 * n) bytes) ≡ take n (words_of_bytes bytes)
 words_take zero bytes = refl
-words_take (suc n) [] = let e : 2 * suc n ≡ suc (suc (2 * n)) = omega arith in rw e
-words_take (suc n) (low ∷ []) = let e : 2 * suc n ≡ suc (suc (2 * n)) = omega arith in rw e
+words_take (suc n) [] = rw twice
+words_take (suc n) (low ∷ []) = rw twice
 words_take (suc n) (low ∷ high ∷ bytes) =
-    let e : 2 * suc n ≡ suc (suc (2 * n)) = omega arith in
-    rw e (ap {B = List ℕ} (λ l. (low + 256 * high) ∷ l) (words_take n bytes))
+    rw twice (ap {B = List ℕ} (λ l. (low + 256 * high) ∷ l) (words_take n bytes))
 
 pub words-part : (a e : ℕ) (bytes : List ℕ) → words_of_bytes (mid_of (2 * a) (2 * e - 2 * a) bytes) ≡ mid_of a (e - a) (words_of_bytes bytes)
 words-part a e bytes =

@@ -11,9 +11,7 @@ pub fn word(t: &[u8], i: usize) -> u16
     requires { 2 * i + 1 < length t.now }
     ensures { result ≡ get_or (words_of_bytes t.now) i 0 }
 {
-    let low = t[2 * i] as u16;
-    let high = t[2 * i + 1] as u16;
-    low + 256 * high
+    u16::from_le_bytes([t[2 * i], t[2 * i + 1]])
 }
 
 // The same, as an index or a count. Precondition: as for `word`.
@@ -24,7 +22,7 @@ pub fn count(t: &[u8], i: usize) -> usize
     word(t, i) as usize
 }
 
-// Writes w to word i; no other byte is written.
+// Writes w to word i; no other byte is written. The library's `to_le_bytes` divides in its source, and no call from C may divide.
 // Precondition: both its bytes are in the table.
 pub fn put_word(t: &mut [u8], i: usize, w: u16)
     requires { 2 * i + 1 < length t.old }
@@ -38,12 +36,9 @@ pub fn put_word(t: &mut [u8], i: usize, w: u16)
 pub fn all_zero(l: &[u8]) -> bool
     ensures { result ≡ all_zero (words_of_bytes l.now) }
 {
-    let n = l.len() >> 1;
-    let mut bits: u16 = 0;
-    let mut i = 0;
-    while i < n {
-        bits = bits | word(l, i);
-        i += 1;
+    let mut bits = 0;
+    for i in 0..l.len() >> 1 {
+        bits |= word(l, i);
     }
     bits == 0
 }
@@ -52,16 +47,11 @@ pub fn all_zero(l: &[u8]) -> bool
 pub fn lacks(l: &[u8], x: u16) -> bool
     ensures { result ≡ lacks_word x (words_of_bytes l.now) }
 {
-    let n = l.len() >> 1;
-    let mut ok = true;
-    let mut i = 0;
-    while i < n {
-        if word(l, i) == x {
-            ok = false;
-        }
-        i += 1;
+    let mut found = false;
+    for i in 0..l.len() >> 1 {
+        found |= word(l, i) == x;
     }
-    ok
+    !found
 }
 
 // The number of words of a part that are 0, counted in 16 bits: as wide as the words, so that the vectorised loop has as many at a time as
@@ -70,14 +60,9 @@ pub fn zeros(l: &[u8]) -> usize
     requires { length l.now < 2 * 65536 }
     ensures { result ≡ zeros_in (words_of_bytes l.now) }
 {
-    let n = l.len() >> 1;
     let mut found: u16 = 0;
-    let mut i = 0;
-    while i < n {
-        if word(l, i) == 0 {
-            found += 1;
-        }
-        i += 1;
+    for i in 0..l.len() >> 1 {
+        found += (word(l, i) == 0) as u16;
     }
     found as usize
 }
@@ -86,11 +71,7 @@ pub fn zeros(l: &[u8]) -> usize
 pub fn clear(l: &mut [u8])
     ensures { l.new ≡ replicate (length l.old) 0 }
 {
-    let mut i = 0;
-    while i < l.len() {
-        l[i] = 0;
-        i += 1;
-    }
+    l.fill(0);
 }
 
 // Removes the first word, moves the rest up by one and puts 0 last; an empty part stays as it is.
@@ -101,14 +82,8 @@ pub fn shift_left(l: &mut [u8])
     if n == 0 {
         return;
     }
-    let last = n - 1;
-    let mut i = 0;
-    while i < last {
-        let x = word(l, i + 1);
-        put_word(l, i, x);
-        i += 1;
-    }
-    put_word(l, last, 0);
+    l.copy_within(2..2 * n, 0);
+    put_word(l, n - 1, 0);
 }
 
 // Copies the first words of src over those of dst.
@@ -117,10 +92,7 @@ pub fn copy_in(dst: &mut [u8], src: &[u16])
     requires { length dst.old ≤ 2 * length src.now + 1 }
     ensures { Written dst.old (take (length (words_of_bytes dst.old)) src.now) dst.new }
 {
-    let n = dst.len() >> 1;
-    let mut i = 0;
-    while i < n {
+    for i in 0..dst.len() >> 1 {
         put_word(dst, i, src[i]);
-        i += 1;
     }
 }

@@ -1,12 +1,7 @@
-use Prim.Native.Nat.{◌+◌, ◌-◌, ◌≤◌}
-use mathlib.Core.Path.{◌≡◌}
-use lib.ListN.{drop}
+use Rattle.std.proofs.Common.{◌≡◌, ◌+◌, drop}
 use Rattle.rules.specs.Bytes.{words_of_bytes}
 use Rattle.marks.specs.Marks.{find_slot, marks}
 use Rattle.marks.proofs.find_slot.Given as goal
 
 abbrev pub invariant-loop-j : goal.invariant-loop-j
-invariant-loop-j l = (l.j ≤ l.n) × (find_slot l.x (words_of_bytes l.l) (marks (words_of_bytes l.m)) ≡ l.j + find_slot l.x (drop l.j (words_of_bytes l.l)) (drop l.j (marks (words_of_bytes l.m))))
-
-abbrev pub decreases-loop-j : goal.decreases-loop-j
-decreases-loop-j l = l.n - l.j
+invariant-loop-j l = find_slot l.x (words_of_bytes l.l) (marks (words_of_bytes l.m)) ≡ l.j + find_slot l.x (drop l.j (words_of_bytes l.l)) (drop l.j (marks (words_of_bytes l.m)))

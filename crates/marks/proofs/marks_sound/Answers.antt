@@ -1,26 +1,25 @@
 -- `marks::marks_sound` meets its contract.
-use native.Mathlib.Omega.{arith}
-use mathlib.Core.Path.{ap, sym, ◌∙◌}
-use lib.ListN.{drop}
-use borrow.Author.Tests.{le-leb}
+use Rattle.std.proofs.Common.{leb, ap, sym, arith}
+use Rattle.std.proofs.lemmas.Bool.{le-leb}
+use Rattle.std.proofs.lemmas.Nat.{ones-le}
 use Rattle.rules.specs.Bytes.{words_of_bytes}
-use Rattle.words.specs.Words.{all_zero}
 use Rattle.marks.specs.Marks.{ones_in}
-use Rattle.marks.proofs.MarkLaws.{none_counted, none_marked}
+use Rattle.marks.proofs.SlotLaws.{ones_of_digits}
+use Rattle.marks.proofs.WordLaws.{none_above}
 use Rattle.marks.proofs.marks_sound.Goals as goal
 
-pub returns-then-all_zero : goal.returns-then-all_zero
-returns-then-all_zero c =
-    let words = words_of_bytes c.args.m.now in
-    let none = sym c.all_zero.ensures ∙ c.if-all_zero.true in
-    rw (none_marked words c.args.n none, le-leb (ones_in words) c.args.k (omega (arith, none_counted words none)))
+pub returns-then-bits-eq0 : goal.returns-then-bits-eq0
+returns-then-bits-eq0 c =
+    let zero = c.if-bits-eq0.true in
+    let bits = c.mark_bits-bits in
+    let count = ones_of_digits c.args.m.now bits.result (λ i. (c.type_inv.m i).fits) (omega arith) bits.ensures in
+    rw (bits.ensures, none_above bits.result c.args.n zero, le-leb (ones_in (words_of_bytes c.args.m.now)) c.args.k (omega (arith, count, ones-le 0 bits.result)))
 
-pub returns-then-not-unmarked_from : goal.returns-then-not-unmarked_from
-returns-then-not-unmarked_from c =
-    let unmarked = ap (λ l. all_zero (drop c.args.n l)) c.mark_bits.ensures ∙ sym c.unmarked_from.ensures in
-    rw (unmarked ∙ c.if-not-unmarked_from.true)
+pub returns-then-unmarked_from : goal.returns-then-unmarked_from
+returns-then-unmarked_from c =
+    let bits = c.mark_bits-bits in
+    rw (bits.ensures, sym c.unmarked_from.ensures, c.if-unmarked_from.true)
+    (ap (λ n. leb n c.args.k) (ones_of_digits c.args.m.now bits.result (λ i. (c.type_inv.m i).fits) (omega arith) bits.ensures))
 
-pub returns : goal.returns
-returns c =
-    let unmarked = ap (λ l. all_zero (drop c.args.n l)) c.mark_bits.ensures ∙ sym c.unmarked_from.ensures in
-    rw (unmarked ∙ c.if-not-unmarked_from.false, c.ones.ensures)
+pub returns-else-unmarked_from : goal.returns-else-unmarked_from
+returns-else-unmarked_from c = rw (c.mark_bits-bits.ensures, sym c.unmarked_from.ensures, c.if-unmarked_from.false)

@@ -1,13 +1,7 @@
-use Prim.Native.Nat.{◌-◌}
-use mathlib.Core.Path.{◌≡◌}
-use lib.ListN.{length}
 use Rattle.rules.specs.Bytes.{words_of_bytes}
 use Rattle.marks.specs.Marks.{marks}
 use Rattle.marks.proofs.SplitLaws.{Going}
 use Rattle.marks.proofs.split.Given as goal
 
 abbrev pub invariant-loop-j : goal.invariant-loop-j
-invariant-loop-j l = (length l.l ≡ length l.initial.l) × Going (words_of_bytes l.initial.l) (marks (words_of_bytes l.m)) l.initial.kept (words_of_bytes l.l) l.kept l.j l.u
-
-abbrev pub decreases-loop-j : goal.decreases-loop-j
-decreases-loop-j l = l.n - l.j
+invariant-loop-j l = Going (words_of_bytes l.initial.l) (marks (words_of_bytes l.m)) l.initial.kept (words_of_bytes l.l) l.kept l.j l.u
