@@ -14,7 +14,7 @@ use Rattle.words.specs.Words.{all_zero, lacks}
 use Rattle.desk.proofs.MarkTie.{clear_is, count_is}
 use Rattle.desk.proofs.WordDesk.{mark_words_in}
 use Rattle.ring_rules.specs.Ring.{beginning_in, linear, ring_record_sound, ring_width_for, rotate}
-use Rattle.ring_desk.proofs.RingReads.{Reads, head_word, reads_start, slots_rotated, used_same}
+use Rattle.ring_desk.specs.RingReads.{Reads, head_word, reads_start, slots_rotated, used_same}
 use Rattle.ring_desk.proofs.RingParts.{linear-small, marks_same}
 
 -- b is no slot

@@ -87,5 +87,6 @@ loop-j-preserved c =
 
 pub returns : goal.returns
 returns c =
-    find_end c.args.x (find_slot c.args.x (slots (goal.at.returns c).Start) (marks_of_lem (goal.at.returns c).Start)) (slots (goal.at.returns c).Start) (marks_of_lem (goal.at.returns c).Start) c.loop-j.j
-    (omega (arith, slots-long (goal.at.returns c).Start, c.loop-j-test.false)) c.loop-j.invariant.1
+    let o = (goal.at.returns c).Start in
+    let end : c.args.n ≡ c.loop-j.j = omega (arith, c.loop-j.invariant.0, c.loop-j-test.false) in
+    end ∙ find_end c.args.x (find_slot c.args.x (slots o) (marks_of_lem o)) (slots o) (marks_of_lem o) c.loop-j.j (omega (arith, slots-long o, c.loop-j-test.false)) c.loop-j.invariant.1

@@ -3,15 +3,17 @@
 use Prim.Native.Nat.{ℕ, ◌+◌, ◌-◌, ◌*◌, ◌≤◌, ◌<◌}
 use native.Mathlib.Omega.{arith}
 use mathlib.Core.Bool.{Bool, true, false, cond}
-use mathlib.Core.List.{List, [], ◌∷◌, ◌++◌}
+use mathlib.Core.List.{List, [], ◌∷◌, ◌++◌, append_assoc}
 use mathlib.Core.Path.{◌≡◌, refl, sym, ap, ap₂, ◌∙◌}
 use lib.Dec.{ltb}
 use lib.ListN.{length, get_or, take, drop, set, length-append, length-set}
-use lib.Seq.{drop_at, drop-drop, get_or-drop, get_or-set_other, get_or-take, set_at, take_at}
+use lib.Seq.{length-take-le, take-append-le, drop_at, drop-drop, get_or-drop, get_or-set_other, get_or-take, set_at, take_at}
 use borrow.Author.Tests.{ltb-true, ltb-false, lt-ltb}
-use Rattle.rules.specs.Table.{list_offset, slots_in, tail_in, tail_words, used_in, width_for}
+use Rattle.rules.specs.Table.{list_offset, mark_words, marks_offset, slots_in, tail_in, tail_words, used_in, width_for}
 use Rattle.rules.proofs.Laws.Lists.ListSlices.{set_append_add, set_mid}
+use Rattle.desk.specs.Layout.{Reads as ReadsAs, with_marks}
 use Rattle.ring_rules.specs.Ring.{beginning_in, circular, linear, ring_width_for, rotate, slot_after}
+use Rattle.ring_desk.specs.RingRecord.{ring}
 use Rattle.ring_rules.proofs.Laws.Rotations.{rotate-length, slot_get, slot_next, slot_set}
 use Rattle.ring_rules.proofs.Laws.Records.{beginning_of, circular_beginning, circular-length, circular-linear, head-length, linear-circular, linear_of, linear-set, parts_of_lem}
 use Rattle.ring_rules.proofs.Laws.Records.{slots_length, tail_length}
@@ -30,10 +32,8 @@ slot_first s b h =
     ap (λ (k : ℕ). cond (ltb k (2 * s)) k (k - 2 * s)) none ∙ ap (λ (q : Bool). cond q b (b - 2 * s)) (lt-ltb b (2 * s) h)
 
 -- r is a ring's record that begins at slot b and reads as w.
-pub record Reads (s b : ℕ) (r w : List ℕ) : Type 0 where
-  pub long : length r ≡ ring_width_for s
-  pub begins : beginning_in s r ≡ b
-  pub is : linear s r ≡ w
+abbrev pub Reads : ℕ → ℕ → List ℕ → List ℕ → Type 0
+Reads s b r w = ReadsAs ring s b r w
 
 pub reads_start : (s : ℕ) (r : List ℕ) → length r ≡ ring_width_for s → Reads s (beginning_in s r) r (linear s r)
 reads_start s r long = record { long = long; begins = refl; is = refl }
@@ -185,3 +185,23 @@ reads_next s b r w hb e =
     reads_as s next (head ++ (emptied ++ (tail ++ (next ∷ [])))) (set (set r (list_offset + b) 0) (width_for s) next)
     (head ++ (rotate next emptied ++ tail)) (take list_offset w ++ ((drop 1 (slots_in s w) ++ (0 ∷ [])) ++ tail_in s w))
     (reads_parts s next head emptied tail head_is emptied_is tail_is) stored read
+
+-- ---- the mark words
+put_head : (head rest marks : List ℕ) → length head ≡ list_offset → with_marks (head ++ rest) marks ≡ (take marks_offset head ++ marks) ++ rest
+put_head head rest marks long =
+    ap₂ {C = List ℕ} (λ x y. x ++ (marks ++ y)) (take-append-le marks_offset head rest (omega arith)) (drop-drop mark_words marks_offset (head ++ rest) ∙ drop_at head rest list_offset long)
+    ∙ sym (append_assoc (take marks_offset head) marks rest)
+
+pub reads_marks : (s b : ℕ) (r w marks : List ℕ) → length marks ≡ mark_words → Reads s b r w
+    → Reads s b (with_marks r marks) (with_marks w marks)
+reads_marks s b r w marks eight e =
+    let head = take list_offset r in
+    let slots = slots_in s r in
+    let tail = take tail_words (tail_in s r) in
+    let long = head-long s b r w e in
+    let head' : List ℕ = take marks_offset head ++ marks in
+    let long' : length head' ≡ list_offset = omega (arith, length-append (take marks_offset head) marks, length-take-le marks_offset head (omega arith)) in
+    reads_as s b (head' ++ (slots ++ (tail ++ (b ∷ [])))) (with_marks r marks) (head' ++ (rotate b slots ++ tail)) (with_marks w marks)
+    (reads_parts s b head' slots tail long' (slots-long s b r w e) (tail_long s b r w e))
+    (ap (λ (x : List ℕ). with_marks x marks) (in_parts s b r w e) ∙ put_head head (slots ++ (tail ++ (b ∷ []))) marks long)
+    (sym (ap (λ (x : List ℕ). with_marks x marks) (reads_in_parts s b r w e) ∙ put_head head (rotate b slots ++ tail) marks long))

@@ -1,4 +1,4 @@
--- `desk::hand_back` meets its contract.
+-- `desk::Row::hand_back` meets its contract.
 use Prim.Native.Nat.{ℕ, ◌+◌, ◌-◌, ◌*◌, ◌≤◌, ◌<◌}
 use native.Mathlib.Omega.{arith}
 use mathlib.Core.List.{List, [], ◌∷◌, ◌++◌}
@@ -12,7 +12,7 @@ use Rattle.words.proofs.Laws.{length-words, words-part, words_put}
 use Rattle.desk.specs.Record.{Encoded}
 use Rattle.desk.proofs.DeskLaws.{facts, first_ready, hand_none, hand_stores, none_ready}
 use Rattle.desk.proofs.DeskTie.{first-handed, formed_of, handed_encoded}
-use Rattle.desk.proofs.hand_back.Goals as goal
+use Rattle.desk.proofs.RowSlots.hand_back.Goals as goal
 
 -- the used slots are of the list
 used_most : (s : ℕ) (r : List ℕ) → Encoded s r → used_in r ≤ 2 * s
@@ -20,47 +20,47 @@ used_most s r e = let f = facts s r (formed_of s r e) in omega (arith, f.ready, 
 
 pub returns-then-n-eq0 : goal.returns-then-n-eq0
 returns-then-n-eq0 c =
-    let s = c.args.s in
+    let s = c.args._s in
     let words = words_of_bytes c.args.r.now in
     let none = sym c.word-n.ensures ∙ c.if-n-eq0.true in
-    (none_ready s words none ∙ first-handed s words c.requires.0, hand_none s words (formed_of s words c.requires.0) none ∙ handed_encoded s words c.requires.0)
+    (none_ready s words none ∙ first-handed s words c.requires.laid.reads, hand_none s words (formed_of s words c.requires.laid.reads) none ∙ handed_encoded s words c.requires.laid.reads)
 
 pub word-x-requires : goal.word-x-requires
 word-x-requires c =
     let words = words_of_bytes c.args.r.now in
-    omega (arith, c.requires, c.word-n.ensures, c.if-n-eq0.false, used_most c.args.s words c.requires.0)
+    omega (arith, c.requires, c.word-n.ensures, c.if-n-eq0.false, used_most c.args._s words c.requires.laid.reads)
 
 pub overflow_mul-shift_left : goal.overflow_mul-shift_left
-overflow_mul-shift_left c = omega (arith, c.requires, c.used_slots-u.ensures, used_most c.args.s (words_of_bytes c.args.r.now) c.requires.0)
+overflow_mul-shift_left c = omega (arith, c.requires, c.used_slots-u.ensures, used_most c.args._s (words_of_bytes c.args.r.now) c.requires.laid.reads)
 
 pub overflow_add-u : goal.overflow_add-u
-overflow_add-u c = omega (arith, c.requires, c.used_slots-u.ensures, used_most c.args.s (words_of_bytes c.args.r.now) c.requires.0)
+overflow_add-u c = omega (arith, c.requires, c.used_slots-u.ensures, used_most c.args._s (words_of_bytes c.args.r.now) c.requires.laid.reads)
 
 pub overflow_mul-u : goal.overflow_mul-u
-overflow_mul-u c = omega (arith, c.requires, c.used_slots-u.ensures, used_most c.args.s (words_of_bytes c.args.r.now) c.requires.0)
+overflow_mul-u c = omega (arith, c.requires, c.used_slots-u.ensures, used_most c.args._s (words_of_bytes c.args.r.now) c.requires.laid.reads)
 
 pub slice_bounds-shift_left-count : goal.slice_bounds-shift_left-count
-slice_bounds-shift_left-count c = omega (arith, c.requires, c.used_slots-u.ensures, used_most c.args.s (words_of_bytes c.args.r.now) c.requires.0)
+slice_bounds-shift_left-count c = omega (arith, c.requires, c.used_slots-u.ensures, used_most c.args._s (words_of_bytes c.args.r.now) c.requires.laid.reads)
 
 pub slice_bounds-shift_left-start : goal.slice_bounds-shift_left-start
-slice_bounds-shift_left-start c = omega (arith, c.requires, c.used_slots-u.ensures, used_most c.args.s (words_of_bytes c.args.r.now) c.requires.0)
+slice_bounds-shift_left-start c = omega (arith, c.requires, c.used_slots-u.ensures, used_most c.args._s (words_of_bytes c.args.r.now) c.requires.laid.reads)
 
 pub slice_bounds-shift_left-end : goal.slice_bounds-shift_left-end
-slice_bounds-shift_left-end c = omega (arith, c.requires, c.used_slots-u.ensures, used_most c.args.s (words_of_bytes c.args.r.now) c.requires.0)
+slice_bounds-shift_left-end c = omega (arith, c.requires, c.used_slots-u.ensures, used_most c.args._s (words_of_bytes c.args.r.now) c.requires.laid.reads)
 
 pub returns : goal.returns
 returns c =
-    let s = c.args.s in
+    let s = c.args._s in
     let bytes = c.args.r.now in
     let words = words_of_bytes bytes in
     let u = c.used_slots-u.result in
-    let most = used_most s words c.requires.0 in
+    let most = used_most s words c.requires.laid.reads in
     let some : 0 < get_or words 2 0 = omega (arith, c.word-n.ensures, c.if-n-eq0.false) in
     let room : 2 * (list_offset + u) ≤ length bytes = omega (arith, c.requires, c.used_slots-u.ensures, most) in
     let wide = c.shift_left.auto.l ∙ mid_len (2 * list_offset) (2 * (list_offset + u)) bytes room in
     let part = words_of_bytes (mid_of (2 * list_offset) (2 * (list_offset + u) - 2 * list_offset) bytes) in
     let shifted = words_put list_offset (list_offset + u) bytes c.shift_left.new.l (omega arith) room wide
     ∙ ap (put_mid list_offset (list_offset + u - list_offset) words) (c.shift_left.ensures.holds ∙ shift_some part (omega (arith, length-words (mid_of (2 * list_offset) (2 * (list_offset + u) - 2 * list_offset) bytes), mid_len (2 * list_offset) (2 * (list_offset + u)) bytes room, c.word-n.ensures, c.if-n-eq0.false, c.used_slots-u.ensures)) ∙ ap (λ (l : List ℕ). drop 1 l ++ (0 ∷ [])) (words-part list_offset (list_offset + u) bytes)) in (
-      c.word-x.ensures ∙ first_ready s words some ∙ first-handed s words c.requires.0,
-      c.put_word.ensures.holds ∙ ap₂ (λ (y : List ℕ) (k : ℕ). set y 2 (k - 1)) shifted c.word-n.ensures ∙ hand_stores s words u (formed_of s words c.requires.0) c.used_slots-u.ensures.0 some ∙ handed_encoded s words c.requires.0,
+      c.word-x.ensures ∙ first_ready s words some ∙ first-handed s words c.requires.laid.reads,
+      c.put_word.ensures.holds ∙ ap₂ (λ (y : List ℕ) (k : ℕ). set y 2 (k - 1)) shifted c.word-n.ensures ∙ hand_stores s words u (formed_of s words c.requires.laid.reads) c.used_slots-u.ensures.0 some ∙ handed_encoded s words c.requires.laid.reads,
     )

@@ -1,4 +1,4 @@
--- `ring_desk::hand_back_ring` meets its contract.
+-- `ring_desk::Ring::hand_back` meets its contract.
 use Prim.Native.Nat.{ℕ, ◌+◌, ◌-◌, ◌<◌}
 use native.Mathlib.Omega.{arith}
 use mathlib.Core.List.{List}
@@ -8,40 +8,40 @@ use Rattle.rules.specs.Bytes.{words_of_bytes}
 use Rattle.rules.specs.Table.{list_offset, width_for}
 use Rattle.ring_rules.specs.Ring.{slot_after}
 use Rattle.ring_desk.proofs.RingSettle.{first_session, hand_nothing, hand_stores, no_session}
-use Rattle.ring_desk.proofs.hand_back_ring.Goals as goal
+use Rattle.ring_desk.proofs.RingSlots.hand_back.Goals as goal
 
 pub returns-then-n-eq0 : goal.returns-then-n-eq0
 returns-then-n-eq0 c =
     let words = words_of_bytes c.args.r.now in
     let none = sym c.word-n.ensures ∙ c.if-n-eq0.true in
-    (no_session c.args.s words c.requires.0 none, hand_nothing c.args.s words c.requires.0 none)
+    (no_session c.args.s words c.requires.laid none, hand_nothing c.args.s words c.requires.laid none)
 
 pub beginning-b-requires : goal.beginning-b-requires
-beginning-b-requires c = (c.requires.0.reads.bounded, c.requires.1)
+beginning-b-requires c = (c.requires.laid.reads.bounded, c.requires.whole)
 
 pub slot_after-p-requires : goal.slot_after-p-requires
-slot_after-p-requires c = (c.requires.0.reads.bounded, omega (arith, c.beginning-b.ensures, c.requires.0.begins), omega (arith, c.requires.0.begins))
+slot_after-p-requires c = (c.requires.laid.reads.bounded, omega (arith, c.beginning-b.ensures, c.requires.laid.begins), omega (arith, c.requires.laid.begins))
 
 pub overflow_add-b : goal.overflow_add-b
 overflow_add-b c = omega (arith, c.beginning-b.ensures)
 
 pub word-x-requires : goal.word-x-requires
-word-x-requires c = omega (arith, c.requires.1, c.beginning-b.ensures, c.requires.0.begins)
+word-x-requires c = omega (arith, c.requires.whole, c.beginning-b.ensures, c.requires.laid.begins)
 
 pub overflow_add-b-2 : goal.overflow_add-b-2
 overflow_add-b-2 c = omega (arith, c.beginning-b.ensures)
 
 pub put_word-requires : goal.put_word-requires
-put_word-requires c = omega (arith, c.requires.1, c.beginning-b.ensures, c.requires.0.begins)
+put_word-requires c = omega (arith, c.requires.whole, c.beginning-b.ensures, c.requires.laid.begins)
 
 pub record_words-requires : goal.record_words-requires
-record_words-requires c = omega (arith, c.requires.0.reads.bounded)
+record_words-requires c = omega (arith, c.requires.laid.reads.bounded)
 
 pub overflow_cast-p : goal.overflow_cast-p
-overflow_cast-p c = omega (arith, c.slot_after-p.ensures, c.requires.0.reads.bounded)
+overflow_cast-p c = omega (arith, c.slot_after-p.ensures, c.requires.laid.reads.bounded)
 
 pub put_word-requires-2 : goal.put_word-requires-2
-put_word-requires-2 c = omega (arith, c.requires.1, c.record_words.ensures, c.put_word.auto.t)
+put_word-requires-2 c = omega (arith, c.requires.whole, c.record_words.ensures, c.put_word.auto.t)
 
 pub returns : goal.returns
 returns c =
@@ -55,7 +55,7 @@ returns c =
     let emptied = c.put_word.ensures.holds in
     let moved = c.put_word-2.ensures.holds ∙ ap₂ (λ (x : List ℕ) (k : ℕ). set x k p) emptied c.record_words.ensures in
     let stored = c.put_word-3.ensures.holds ∙ ap₂ (λ (x : List ℕ) (k : ℕ). set x 2 (k - 1)) moved c.word-n.ensures in (
-      c.word-x.ensures ∙ ap (λ (k : ℕ). get_or words (list_offset + k) 0) begins ∙ first_session s words c.requires.0 some,
+      c.word-x.ensures ∙ ap (λ (k : ℕ). get_or words (list_offset + k) 0) begins ∙ first_session s words c.requires.laid some,
       stored ∙ ap (λ (k : ℕ). set (set (set words (list_offset + k) 0) (width_for s) p) 2 (get_or words 2 0 - 1)) begins
-          ∙ hand_stores s words c.requires.0 some p next,
+          ∙ hand_stores s words c.requires.laid some p next,
     )
