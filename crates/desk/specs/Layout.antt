@@ -1,9 +1,10 @@
 -- How a desk's list lies in its record: in a row from the first slot on, or around from the slot at which it begins. A layout tells a record as one
 -- of the first board, whose list lies in a row, and back; what the steps do is then said of that record.
-use Rattle.std.specs.Prelude.{ℕ, ◌+◌, ◌*◌, ◌≤◌, ◌<◌, cond, List, ◌++◌, ◌≡◌, drop, eqb, get_or, length, set, take}
+use Rattle.std.specs.Prelude.{ℕ, ◌+◌, ◌*◌, ◌≤◌, ◌<◌, Bool, cond, ◌&&◌, List, ◌++◌, ◌≡◌, drop, eqb, get_or, leb, length, ltb, set, take}
 use Rattle.rules.specs.Hall.{Desk}
-use Rattle.rules.specs.Steps.{Answer, begin, first_no, hand_back, retire, retire_questions, scan_at, settle}
-use Rattle.rules.specs.Table.{decode_desk, encode_desk, list_offset, mark_words, marks_offset, ready_offset, tail_offset, tested_offset, width_for}
+use Rattle.rules.specs.Lists.{every}
+use Rattle.rules.specs.Steps.{Answer, begin, first_no, hand_back, is_none, is_session, retire, retire_questions, scan_at, settle}
+use Rattle.rules.specs.Table.{decode_desk, encode_desk, list_offset, mark_words, marks_offset, ready_offset, record_sound, slots_in, tail_offset, tested_offset, used_in, width_for}
 use Rattle.marks.specs.Marks.{pick}
 
 -- In each, s is the number of the hall's screens, and b a slot at which a list begins.
@@ -100,3 +101,15 @@ handed_back layout s b desk = encode layout s (layout.after s desk.ready b) (han
 abbrev pub collected : Layout → ℕ → List ℕ → List ℕ → List ℕ
 collected layout s sessions r =
     let desk = begin (decode layout s r) in handed_back layout s (layout.beginning s r) (settle s (scan_at desk.tested sessions desk))
+
+-- ---- Soundness.
+-- What it asks of the list: the used slots are among the 2s, and are not 0; the others are 0.
+abbrev pub list_sound : ℕ → List ℕ → Bool
+list_sound s w = leb (used_in w) (2 * s) && (every is_session (take (used_in w) (slots_in s w)) && every is_none (drop (used_in w) (slots_in s w)))
+
+-- A record begins at one of the slots, and its list, or all that it reads as, is sound.
+abbrev pub list_sound_as : Layout → ℕ → List ℕ → Bool
+list_sound_as layout s r = ltb (layout.beginning s r) (layout.beginnings s) && list_sound s (layout.linear s r)
+
+abbrev pub sound_as : Layout → ℕ → List ℕ → Bool
+sound_as layout s r = ltb (layout.beginning s r) (layout.beginnings s) && record_sound s (layout.linear s r)

@@ -3,5 +3,4 @@ pub mod AroundLaws
 pub mod ZeroLaws
 pub mod RingParts
 pub mod RingSettle
-pub mod RingSound
 pub mod RingFound

@@ -14,11 +14,8 @@ ghost use Rattle.ring_desk.specs.RingRecord.{RingEncoded, RingRetired, collect_r
 ghost use Rattle.ring_desk.specs.RingLaws.{ring_laws};
 ghost use Rattle.ring_desk.specs.Around.{Parted};
 
-use desk::{
-    LIST, MARKS, READY, SCANNED, Slots, TESTED, collect, record_words, retire, sound_scan,
-    used_slots,
-};
-use marks::{find_slot, marked, marks_sound, partition};
+use desk::{LIST, MARKS, READY, Slots, TESTED, collect, record_words, retire, sound, used_slots};
+use marks::{find_slot, marked, partition};
 use reply::Reply;
 use words::{all_zero, count, lacks, put_word, word, zeros};
 
@@ -95,31 +92,6 @@ fn sound_list(l: &[u8], s: usize, b: usize, n: usize) -> bool
         return false;
     }
     all_zero(&l[2 * n..])
-}
-
-// Whether a ring's record is sound, in a hall of s screens. Its list is asked last: where lists begin at slot 0, this was faster.
-// Precondition: the record is whole (the board has shown that the table is long enough).
-pub fn sound_ring(r: &[u8], s: usize) -> bool
-    requires { (s ≤ max_all_screens) × (length r.now ≡ 2 * ring_width_for s) }
-    ensures { result ≡ ring_record_sound s (words_of_bytes r.now) }
-{
-    let tested = count(r, TESTED);
-    let k = count(r, SCANNED);
-    if !sound_scan(s, tested, k) {
-        return false;
-    }
-    if !marks_sound(&r[2 * MARKS..2 * LIST], tested, k) {
-        return false;
-    }
-    let b = beginning(r, s);
-    if 2 * s <= b {
-        return false;
-    }
-    let n = used_slots(r);
-    if 2 * s < n {
-        return false;
-    }
-    sound_list(&r[2 * LIST..2 * (LIST + 2 * s)], s, b, n)
 }
 
 // The first unmarked one of n slots of the list l, from slot a on and around, that holds session x; or n if there is none. The mark of
@@ -212,6 +184,18 @@ impl Slots for Ring {
 
     ghost laws = { ring_laws };
 
+    fn sound_list(r: &[u8], s: usize) -> bool {
+        let b = beginning(r, s);
+        if 2 * s <= b {
+            return false;
+        }
+        let n = used_slots(r);
+        if 2 * s < n {
+            return false;
+        }
+        sound_list(&r[2 * LIST..2 * (LIST + 2 * s)], s, b, n)
+    }
+
     fn slot(r: &[u8], s: usize, i: usize) -> usize {
         slot_after(s, beginning(r, s), i)
     }
@@ -250,6 +234,15 @@ impl Slots for Ring {
         put_word(r, READY, n - 1);
         x
     }
+}
+
+// Whether a ring's record is sound, in a hall of s screens.
+// Precondition: the record is whole (the board has shown that the table is long enough).
+pub fn sound_ring(r: &[u8], s: usize) -> bool
+    requires { (s ≤ max_all_screens) × (length r.now ≡ 2 * ring_width_for s) }
+    ensures { result ≡ ring_record_sound s (words_of_bytes r.now) }
+{
+    sound::<Ring>(r, s)
 }
 
 // Retire, on a ring's record: the owed session goes to the first unused slot around.

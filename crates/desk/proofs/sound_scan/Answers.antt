@@ -4,7 +4,7 @@ use mathlib.Core.Path.{◌≡◌, ap, sym}
 use lib.Bits.{and_mask, bit_and}
 use lib.Dec.{eqb}
 use borrow.Author.Tests.{eq-eqb, le-leb, lt-leb, ne_eqb}
-use Rattle.desk.proofs.SoundRecordLaws.{none_tested, some_tested}
+use Rattle.desk.proofs.SoundLaws.{none_tested, some_tested}
 use Rattle.desk.proofs.sound_scan.Goals as goal
 
 -- the code's test whether k is even, by a mask, is that of the rules
