@@ -8,11 +8,11 @@ ghost use Rattle.rules.specs.Table.{ready_offset};
 ghost use Rattle.words.specs.Words.{all_zero, lacks as lacks_word};
 ghost use Rattle.marks.specs.Marks.{find_slot, marks};
 ghost use Rattle.reply.specs.Answer.{answer_of};
-ghost use Rattle.desk.specs.Record.{Lent};
+ghost use Rattle.desk.specs.Record.{Lent, Whole};
 ghost use Rattle.ring_rules.specs.Ring.{beginning_in, decode_ring, ring_record_sound, ring_width_for, rotate, slot_after};
 ghost use Rattle.ring_desk.specs.RingRecord.{RingEncoded, RingRetired, collect_ring_seeing, ring};
 ghost use Rattle.ring_desk.specs.RingLaws.{ring_laws};
-ghost use Rattle.ring_desk.specs.Around.{Parted};
+ghost use Rattle.ring_desk.specs.Around.{ListFrom, Parted};
 
 use desk::{LIST, MARKS, READY, Slots, TESTED, collect, record_words, retire, sound, used_slots};
 use marks::{find_slot, marked, partition};
@@ -42,16 +42,16 @@ fn slot_after(s: usize, b: usize, i: usize) -> usize
 
 // The slot at which the list begins: the last word of the record.
 fn beginning(r: &[u8], s: usize) -> usize
-    requires { (s ≤ max_all_screens) × (length r.now ≡ 2 * ring_width_for s) }
+    requires { Whole ring s r.now }
     ensures { (result ≡ beginning_in s (words_of_bytes r.now)) × (result < 65536) }
 {
     count(r, record_words(s))
 }
 
 // Whether none of n slots of the list l, from slot a on and around, holds x. They are one part of l, or two.
-// Precondition, here and in each function on a list below: l is the whole list, and a is one of its slots.
+// Precondition, here and in each function on a list below: l is the whole list, and a is one of its slots (`ListFrom`).
 fn lacks_around(l: &[u8], s: usize, a: usize, n: usize, x: u16) -> bool
-    requires { (s ≤ max_all_screens) × (length l.now ≡ 2 * (2 * s)) × (a < 2 * s) × (n ≤ 2 * s) }
+    requires { (ListFrom s l.now a) × (n ≤ 2 * s) }
     ensures { result ≡ lacks_word x (take n (rotate a (words_of_bytes l.now))) }
 {
     let e = a + n;
@@ -67,7 +67,7 @@ fn lacks_around(l: &[u8], s: usize, a: usize, n: usize, x: u16) -> bool
 // Whether the n used slots of the list l, from slot b on and around, are not 0, and the others are. As many slots must be 0 as are not used,
 // and either the used slots or the others are one part of the list: that part is tested, and then the count speaks for the rest.
 fn sound_around(l: &[u8], s: usize, b: usize, n: usize) -> bool
-    requires { (s ≤ max_all_screens) × (length l.now ≡ 2 * (2 * s)) × (b < 2 * s) × (n ≤ 2 * s) }
+    requires { (ListFrom s l.now b) × (n ≤ 2 * s) }
     ensures { result ≡ lacks_word 0 (take n (rotate b (words_of_bytes l.now))) && all_zero (drop n (rotate b (words_of_bytes l.now))) }
 {
     if zeros(l) != 2 * s - n {
@@ -82,7 +82,7 @@ fn sound_around(l: &[u8], s: usize, b: usize, n: usize) -> bool
 
 // The same. Every step asks this of every desk; a list that begins at slot 0 is tested as on the first board, each slot once.
 fn sound_list(l: &[u8], s: usize, b: usize, n: usize) -> bool
-    requires { (s ≤ max_all_screens) × (length l.now ≡ 2 * (2 * s)) × (b < 2 * s) × (n ≤ 2 * s) }
+    requires { (ListFrom s l.now b) × (n ≤ 2 * s) }
     ensures { result ≡ lacks_word 0 (take n (rotate b (words_of_bytes l.now))) && all_zero (drop n (rotate b (words_of_bytes l.now))) }
 {
     if b != 0 {
@@ -97,7 +97,7 @@ fn sound_list(l: &[u8], s: usize, b: usize, n: usize) -> bool
 // The first unmarked one of n slots of the list l, from slot a on and around, that holds session x; or n if there is none. The mark of
 // a slot is that of its place among the n. If they pass the end of the list, one test of all slots comes first: usually none holds x.
 fn find_around(l: &[u8], s: usize, a: usize, n: usize, m: &[u8], x: u16) -> usize
-    requires { (s ≤ max_all_screens) × (length l.now ≡ 2 * (2 * s)) × (a < 2 * s) × (n ≤ 2 * s) × (length m.now ≡ 16) }
+    requires { (ListFrom s l.now a) × (n ≤ 2 * s) × (length m.now ≡ 16) }
     ensures { result ≡ find_slot x (take n (rotate a (words_of_bytes l.now))) (marks (words_of_bytes m.now)) }
 {
     if a + n <= 2 * s {
@@ -127,7 +127,7 @@ fn first_tested(r: &[u8], s: usize) -> usize
 
 // Copies slots of the list l, from slot a on and around, to part: as many as part has words.
 fn read_around(part: &mut [u8], l: &[u8], s: usize, a: usize)
-    requires { (s ≤ max_all_screens) × (length l.now ≡ 2 * (2 * s)) × (a < 2 * s) × (length part.old ≤ 2 * (2 * s)) }
+    requires { (ListFrom s l.now a) × (length part.old ≤ 2 * (2 * s)) }
     ensures { words_of_bytes part.new ≡ take (length (words_of_bytes part.old)) (rotate a (words_of_bytes l.now)) }
 {
     let n = part.len() >> 1;
@@ -140,7 +140,7 @@ fn read_around(part: &mut [u8], l: &[u8], s: usize, a: usize)
 
 // Copies the words of part to the slots of the list l, from slot a on and around.
 fn write_around(l: &mut [u8], s: usize, a: usize, part: &[u8])
-    requires { (s ≤ max_all_screens) × (length l.old ≡ 2 * (2 * s)) × (a < 2 * s) × (length part.now ≤ 2 * (2 * s)) }
+    requires { (ListFrom s l.old a) × (length part.now ≤ 2 * (2 * s)) }
     ensures { rotate a (words_of_bytes l.new) ≡ words_of_bytes part.now ++ drop (length (words_of_bytes part.now)) (rotate a (words_of_bytes l.old)) }
 {
     let n = part.len() >> 1;
@@ -153,7 +153,7 @@ fn write_around(l: &mut [u8], s: usize, a: usize, part: &[u8])
 
 // Partitions slots of the list l, from slot a on and around, as many as part has words; part is room to work in.
 fn partition_in(l: &mut [u8], s: usize, a: usize, m: &[u8], part: &mut [u8])
-    requires { (s ≤ max_all_screens) × (length l.old ≡ 2 * (2 * s)) × (a < 2 * s) × (length part.old ≤ 2 * (2 * s)) × (length part.old % 2 ≡ 0) × (length m.now ≡ 16) }
+    requires { (ListFrom s l.old a) × (length part.old ≤ 2 * (2 * s)) × (length part.old % 2 ≡ 0) × (length m.now ≡ 16) }
     ensures { Parted (words_of_bytes l.old) (marks (words_of_bytes m.now)) a (length (words_of_bytes part.old)) (words_of_bytes l.new) }
 {
     read_around(part, l, s, a);
@@ -164,7 +164,7 @@ fn partition_in(l: &mut [u8], s: usize, a: usize, m: &[u8], part: &mut [u8])
 // Of n slots of the list l, from slot a on and around, puts the unmarked ones first, then the marked ones, each group in its order. The
 // mark of a slot is that of its place among the n. If the n slots pass the end of the list, they are copied out and back.
 fn partition_around(l: &mut [u8], s: usize, a: usize, n: usize, m: &[u8])
-    requires { (s ≤ max_all_screens) × (length l.old ≡ 2 * (2 * s)) × (a < 2 * s) × (n ≤ 2 * s) × (length m.now ≡ 16) }
+    requires { (ListFrom s l.old a) × (n ≤ 2 * s) × (length m.now ≡ 16) }
     ensures { Parted (words_of_bytes l.old) (marks (words_of_bytes m.now)) a n (words_of_bytes l.new) }
 {
     let e = a + n;

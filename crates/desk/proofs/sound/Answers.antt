@@ -28,7 +28,7 @@ marks-pass g c =
 all_tests : (g : _) (c : After-count-k g) → sound_as g.L.Slots.layout c.args.s (words_of_bytes c.args.r.now)
     ≡ scan_sound c.args.s c.count-tested.result c.count-k.result && (marks-pass g c && list_sound_as g.L.Slots.layout c.args.s (words_of_bytes c.args.r.now))
 all_tests g c =
-    sound_tests g.L.Slots.layout g.L.Slots.laws c.args.s (words_of_bytes c.args.r.now) c.count-tested.result c.count-k.result (omega (arith, length-words c.args.r.now, c.requires.1)) c.count-tested.ensures.0 c.count-k.ensures.0 (words_are_16 c.args.r.now (search rules))
+    sound_tests g.L.Slots.layout g.L.Slots.laws c.args.s (words_of_bytes c.args.r.now) c.count-tested.result c.count-k.result (omega (arith, length-words c.args.r.now, c.requires.whole)) c.count-tested.ensures.0 c.count-k.ensures.0 (words_are_16 c.args.r.now (search rules))
 
 -- what the code finds of the marks
 marks_tested : (g : _) (c : After-marks_sound g) → c.marks_sound.result ≡ marks-pass g (goal.at.After-marks_sound g c).After-count-k

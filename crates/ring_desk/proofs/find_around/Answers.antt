@@ -26,7 +26,7 @@ list_long : (o : Start) → length (words_of_bytes o.args.l.now) ≡ 2 * o.args.
 list_long o = omega (arith, length-words o.args.l.now, o.requires)
 
 slots-long : (o : Start) → length (slots o) ≡ o.args.n
-slots-long o = around-length o.args.s o.args.a (words_of_bytes o.args.l.now) (list_long o) o.requires.2 o.args.n o.requires.3
+slots-long o = around-length o.args.s o.args.a (words_of_bytes o.args.l.now) (list_long o) o.requires.0.slot o.args.n o.requires.1
 
 -- every slot has a mark
 marks_many : (o : Start) → o.args.n ≤ length (marks_of_lem o)
@@ -35,7 +35,7 @@ marks_many o = omega (arith, marks-length (words_of_bytes o.args.m.now), length-
 pub returns-then-a-n : goal.returns-then-a-n
 returns-then-a-n c =
     c.find_slot.ensures ∙ ap (λ (part : List ℕ). find_slot c.args.x part (marks_of_lem (goal.at.returns-then-a-n c).Start))
-    (words-part c.args.a (c.args.a + c.args.n) c.args.l.now ∙ sym (around_inside c.args.s c.args.a (words_of_bytes c.args.l.now) (list_long (goal.at.returns-then-a-n c).Start) c.requires.2 c.args.n c.if-a-n.true))
+    (words-part c.args.a (c.args.a + c.args.n) c.args.l.now ∙ sym (around_inside c.args.s c.args.a (words_of_bytes c.args.l.now) (list_long (goal.at.returns-then-a-n c).Start) c.requires.0.slot c.args.n c.if-a-n.true))
 
 pub returns-then-lacks_around : goal.returns-then-lacks_around
 returns-then-lacks_around c =
@@ -47,21 +47,21 @@ pub loop-j-init : goal.loop-j-init
 loop-j-init c = (omega arith, omega arith)
 
 pub slot_after-p-requires : goal.slot_after-p-requires
-slot_after-p-requires c = (c.requires.0, c.requires.2, omega (arith, c.requires.3, c.loop-j-test.true))
+slot_after-p-requires c = (c.requires.0.bounded, c.requires.0.slot, omega (arith, c.requires.1, c.loop-j-test.true))
 
 pub word-requires : goal.word-requires
-word-requires c = omega (arith, c.requires.1, c.slot_after-p.ensures)
+word-requires c = omega (arith, c.requires.0.whole, c.slot_after-p.ensures)
 
 pub marked-requires : goal.marked-requires
-marked-requires c = (c.requires.4, omega (arith, c.requires.0, c.requires.3, c.loop-j-test.true))
+marked-requires c = (c.requires.2, omega (arith, c.requires.0.bounded, c.requires.1, c.loop-j-test.true))
 
 pub returns-then-not-marked : goal.returns-then-not-marked
 returns-then-not-marked c =
     let j = c.loop-j.j in
     let x = c.args.x in
     let below = c.loop-j-test.true in
-    let session = around_word c.args.s c.args.a (words_of_bytes c.args.l.now) (list_long (goal.at.returns-then-not-marked c).Start) c.requires.2 c.args.n j c.slot_after-p.result
-    c.requires.3 below c.slot_after-p.ensures.0 in
+    let session = around_word c.args.s c.args.a (words_of_bytes c.args.l.now) (list_long (goal.at.returns-then-not-marked c).Start) c.requires.0.slot c.args.n j c.slot_after-p.result
+    c.requires.1 below c.slot_after-p.ensures.0 in
     find_found x (find_slot x (slots (goal.at.returns-then-not-marked c).Start) (marks_of_lem (goal.at.returns-then-not-marked c).Start)) (slots (goal.at.returns-then-not-marked c).Start) (marks_of_lem (goal.at.returns-then-not-marked c).Start) j
     (omega (arith, slots-long (goal.at.returns-then-not-marked c).Start, below)) (omega (arith, marks_many (goal.at.returns-then-not-marked c).Start, below)) c.loop-j.invariant.1
     (sym session ∙ sym c.word.ensures ∙ c.if-word-x.true)
@@ -75,8 +75,8 @@ loop-j-preserved c =
     let below = c.loop-j-test.true in
     let in_slots : j < length (slots (goal.at.loop-j-preserved c).Start) = omega (arith, slots-long (goal.at.loop-j-preserved c).Start, below) in
     let in_marks : j < length (marks_of_lem (goal.at.loop-j-preserved c).Start) = omega (arith, marks_many (goal.at.loop-j-preserved c).Start, below) in
-    let session = around_word c.args.s c.args.a (words_of_bytes c.args.l.now) (list_long (goal.at.loop-j-preserved c).Start) c.requires.2 c.args.n j c.slot_after-p.result
-    c.requires.3 below c.slot_after-p.ensures.0 in (
+    let session = around_word c.args.s c.args.a (words_of_bytes c.args.l.now) (list_long (goal.at.loop-j-preserved c).Start) c.requires.0.slot c.args.n j c.slot_after-p.result
+    c.requires.1 below c.slot_after-p.ensures.0 in (
       omega arith,
       elim c.if-word-x.branch [
         | then-word-x+else-not-marked w ↦ let is_marked = eqb-true (get_or (marks_of_lem (goal.at.loop-j-preserved c).Start) j 0) 1 (sym w.marked.ensures ∙ w.if-not-marked.false) in

@@ -9,7 +9,7 @@ use Rattle.ring_desk.specs.RingRecord.{ring}
 use Rattle.ring_desk.proofs.first_tested.Goals as goal
 
 pub beginning-requires : goal.beginning-requires
-beginning-requires c = (c.requires.laid.reads.bounded, c.requires.whole)
+beginning-requires c = record { bounded = c.requires.laid.reads.bounded; whole = c.requires.whole }
 
 pub count-requires : goal.count-requires
 count-requires c = omega (arith, c.requires.whole)

@@ -12,14 +12,14 @@ pub returns-then-e-s : goal.returns-then-e-s
 returns-then-e-s c =
     let given = c.requires in
     let test : ℕ → Bool = λ (word : ℕ). not (eqb word c.args.x) in
-    c.lacks.ensures ∙ sym (test_inside test c.args.s c.args.a c.args.n c.args.l.now given.1 given.2 given.3 c.if-e-s.true)
+    c.lacks.ensures ∙ sym (test_inside test c.args.s c.args.a c.args.n c.args.l.now given.0.whole given.0.slot given.1 c.if-e-s.true)
 
 pub returns-then-not-lacks : goal.returns-then-not-lacks
 returns-then-not-lacks c =
     let given = c.requires in
     let test : ℕ → Bool = λ (word : ℕ). not (eqb word c.args.x) in
     let past = c.if-e-s.false in
-    sym (test_past test c.args.s c.args.a c.args.n c.args.l.now given.1 given.2 given.3 (omega arith)
+    sym (test_past test c.args.s c.args.a c.args.n c.args.l.now given.0.whole given.0.slot given.1 (omega arith)
     ∙ rw (sym c.lacks-2.ensures ∙ c.if-not-lacks.true))
 
 pub slice_bounds-lacks-end-3 : goal.slice_bounds-lacks-end-3
@@ -32,5 +32,5 @@ returns c =
     let given = c.requires in
     let test : ℕ → Bool = λ (word : ℕ). not (eqb word c.args.x) in
     let past = c.if-e-s.false in
-    sym (test_past test c.args.s c.args.a c.args.n c.args.l.now given.1 given.2 given.3 (omega arith)
+    sym (test_past test c.args.s c.args.a c.args.n c.args.l.now given.0.whole given.0.slot given.1 (omega arith)
     ∙ rw (sym c.lacks-2.ensures ∙ c.if-not-lacks.false) (sym c.lacks-3.ensures))

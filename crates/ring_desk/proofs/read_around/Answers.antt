@@ -14,10 +14,10 @@ pub loop-i-init : goal.loop-i-init
 loop-i-init c = (omega arith, refl, refl)
 
 pub slot_after-p-requires : goal.slot_after-p-requires
-slot_after-p-requires c = (c.requires.0, c.requires.2, omega (arith, c.requires.3, c.loop-i-test.true))
+slot_after-p-requires c = (c.requires.0.bounded, c.requires.0.slot, omega (arith, c.requires.1, c.loop-i-test.true))
 
 pub word-x-requires : goal.word-x-requires
-word-x-requires c = omega (arith, c.requires.1, c.slot_after-p.ensures)
+word-x-requires c = omega (arith, c.requires.0.whole, c.slot_after-p.ensures)
 
 pub loop-i-preserved : goal.loop-i-preserved
 loop-i-preserved c =
@@ -27,9 +27,9 @@ loop-i-preserved c =
       omega arith,
       c.put_word.auto.t ∙ same,
       ap (take (c.loop-i.i + 1)) (c.put_word.ensures.holds ∙ ap (set (words_of_bytes c.loop-i.part) c.loop-i.i) c.word-x.ensures)
-          ∙ read_next c.args.s c.args.a (words_of_bytes c.args.l.now) (omega (arith, c.requires.1)) c.requires.2
+          ∙ read_next c.args.s c.args.a (words_of_bytes c.args.l.now) (omega (arith, c.requires.0.whole)) c.requires.0.slot
           (words_of_bytes c.loop-i.part) c.loop-i.i c.slot_after-p.result
-          (omega (arith, c.loop-i-test.true)) (omega (arith, c.requires.3)) c.slot_after-p.ensures.0 c.loop-i.invariant.2,
+          (omega (arith, c.loop-i-test.true)) (omega (arith, c.requires.1)) c.slot_after-p.ensures.0 c.loop-i.invariant.2,
     )
 
 pub returns : goal.returns

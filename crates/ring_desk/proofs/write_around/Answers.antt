@@ -15,10 +15,10 @@ pub loop-i-init : goal.loop-i-init
 loop-i-init c = (omega arith, refl, refl)
 
 pub slot_after-p-requires : goal.slot_after-p-requires
-slot_after-p-requires c = (c.requires.0, c.requires.2, omega (arith, c.requires.3, c.loop-i-test.true))
+slot_after-p-requires c = (c.requires.0.bounded, c.requires.0.slot, omega (arith, c.requires.1, c.loop-i-test.true))
 
 pub put_word-requires : goal.put_word-requires
-put_word-requires c = omega (arith, c.requires.1, c.loop-i.invariant.1, c.slot_after-p.ensures)
+put_word-requires c = omega (arith, c.requires.0.whole, c.loop-i.invariant.1, c.slot_after-p.ensures)
 
 pub loop-i-preserved : goal.loop-i-preserved
 loop-i-preserved c =
@@ -31,7 +31,7 @@ loop-i-preserved c =
       ap (rotate c.args.a) (c.put_word.ensures.holds ∙ ap (set (words_of_bytes c.loop-i.l) c.slot_after-p.result) c.word-x.ensures)
           ∙ write_next c.args.s c.args.a (words_of_bytes c.args.l.now) (words_of_bytes c.loop-i.l)
           (words_of_bytes c.args.part.now) c.loop-i.i c.slot_after-p.result
-          (omega (arith, c.requires.1)) (omega (arith, c.requires.1)) c.requires.2 (omega (arith, c.loop-i-test.true)) (omega (arith, c.requires.3)) c.slot_after-p.ensures.0 c.loop-i.invariant.2,
+          (omega (arith, c.requires.0.whole)) (omega (arith, c.requires.0.whole)) c.requires.0.slot (omega (arith, c.loop-i-test.true)) (omega (arith, c.requires.1)) c.slot_after-p.ensures.0 c.loop-i.invariant.2,
     )
 
 pub returns : goal.returns

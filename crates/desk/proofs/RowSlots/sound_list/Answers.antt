@@ -22,5 +22,5 @@ pub returns : goal.returns
 returns c =
     let counted = c.used_slots-n.ensures.0 in
     let used = sym (used-part c.args.s c.args.r.now c.used_slots-n.result counted c.if-s-n.false) ∙ sym c.lacks.ensures ∙ c.if-not-lacks.false in
-    c.all_zero.ensures ∙ free_part c.args.s c.args.r.now c.used_slots-n.result counted c.if-s-n.false c.requires.1
+    c.all_zero.ensures ∙ free_part c.args.s c.args.r.now c.used_slots-n.result counted c.if-s-n.false c.requires.whole
     ∙ sym (rw (le-leb (used_in (words_of_bytes c.args.r.now)) (2 * c.args.s) (omega (arith, counted, c.if-s-n.false)), used))

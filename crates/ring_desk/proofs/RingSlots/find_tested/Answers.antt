@@ -21,9 +21,11 @@ use Rattle.ring_desk.proofs.RingSlots.find_tested.Goals as goal
 pub find_around-requires : goal.find_around-requires
 find_around-requires c =
     let most : 2 * (list_offset + 2 * c.args.s) ≤ length c.args.r.now = omega (arith, c.requires.whole) in (
-      c.requires.laid.reads.bounded,
-      mid_len (2 * list_offset) (2 * (list_offset + 2 * c.args.s)) c.args.r.now most ∙ omega arith,
-      c.first_tested-a.ensures.1,
+      record {
+        bounded = c.requires.laid.reads.bounded;
+        whole = mid_len (2 * list_offset) (2 * (list_offset + 2 * c.args.s)) c.args.r.now most ∙ omega arith;
+        slot = c.first_tested-a.ensures.1;
+      },
       omega (arith, c.count-n.ensures, tested_fits ring ring_laws c.args.s (words_of_bytes c.args.r.now) c.requires.laid),
       mid_len (2 * marks_offset) (2 * list_offset) c.args.r.now (omega (arith, c.requires.whole)) ∙ omega arith,
     )

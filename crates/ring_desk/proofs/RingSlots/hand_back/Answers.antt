@@ -17,7 +17,7 @@ returns-then-n-eq0 c =
     (no_session c.args.s words c.requires.laid none, hand_nothing c.args.s words c.requires.laid none)
 
 pub beginning-b-requires : goal.beginning-b-requires
-beginning-b-requires c = (c.requires.laid.reads.bounded, c.requires.whole)
+beginning-b-requires c = record { bounded = c.requires.laid.reads.bounded; whole = c.requires.whole }
 
 pub slot_after-p-requires : goal.slot_after-p-requires
 slot_after-p-requires c = (c.requires.laid.reads.bounded, omega (arith, c.beginning-b.ensures, c.requires.laid.begins), omega (arith, c.requires.laid.begins))

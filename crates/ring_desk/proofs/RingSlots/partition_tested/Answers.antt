@@ -26,9 +26,11 @@ whole o = omega (arith, o.requires.0.whole)
 pub partition_around-requires : goal.partition_around-requires
 partition_around-requires c =
     let lent = c.requires.0 in (
-      lent.laid.reads.bounded,
-      mid_len (2 * list_offset) (2 * (list_offset + 2 * c.args.s)) c.args.r.now (whole (goal.at.partition_around-requires c).Start) ∙ omega arith,
-      c.first_tested-a.ensures.1,
+      record {
+        bounded = lent.laid.reads.bounded;
+        whole = mid_len (2 * list_offset) (2 * (list_offset + 2 * c.args.s)) c.args.r.now (whole (goal.at.partition_around-requires c).Start) ∙ omega arith;
+        slot = c.first_tested-a.ensures.1;
+      },
       omega (arith, c.count-n.ensures, tested_fits ring ring_laws c.args.s (words_of_bytes c.args.r.now) lent.laid),
       c.requires.1,
     )

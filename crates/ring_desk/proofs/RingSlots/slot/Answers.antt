@@ -6,7 +6,7 @@ use Rattle.ring_rules.specs.Ring.{slot_after}
 use Rattle.ring_desk.proofs.RingSlots.slot.Goals as goal
 
 pub beginning-requires : goal.beginning-requires
-beginning-requires c = (c.requires.0.laid.reads.bounded, c.requires.0.whole)
+beginning-requires c = record { bounded = c.requires.0.laid.reads.bounded; whole = c.requires.0.whole }
 
 pub slot_after-requires : goal.slot_after-requires
 slot_after-requires c = (c.requires.0.laid.reads.bounded, omega (arith, c.beginning.ensures, c.requires.0.laid.begins), c.requires.1)

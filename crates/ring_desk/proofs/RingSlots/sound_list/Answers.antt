@@ -53,9 +53,11 @@ returns-then-s-n c =
 pub sound_list-requires : goal.sound_list-requires
 sound_list-requires c =
     let most : 2 * (list_offset + 2 * c.args.s) ≤ length c.args.r.now = omega (arith, c.requires) in (
-      c.requires.0,
-      mid_len (2 * list_offset) (2 * (list_offset + 2 * c.args.s)) c.args.r.now most ∙ omega arith,
-      omega (arith, c.if-s-b.false),
+      record {
+        bounded = c.requires.bounded;
+        whole = mid_len (2 * list_offset) (2 * (list_offset + 2 * c.args.s)) c.args.r.now most ∙ omega arith;
+        slot = omega (arith, c.if-s-b.false);
+      },
       omega (arith, c.if-s-n.false),
     )
 
