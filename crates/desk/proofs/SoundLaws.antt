@@ -1,34 +1,25 @@
 -- What the code of the soundness test finds, as the parts of the rules' test of a record and of its k.
-use Prim.Native.Nat.{ℕ, zero, suc, ◌+◌, ◌-◌, ◌*◌, ◌%◌, ◌^◌, ◌≤◌, ◌<◌}
+use Prim.Native.Nat.{ℕ, ◌+◌, ◌-◌, ◌*◌, ◌^◌, ◌≤◌, ◌<◌}
 use native.Mathlib.Omega.{arith}
 use mathlib.Core.Bool.{Bool, true, false, ◌&&◌, and_assoc, and_comm}
 use mathlib.Core.List.{List}
 use mathlib.Core.Path.{◌≡◌, refl, sym, ap, ap₂, subst, ◌∙◌}
-use lib.Dec.{eqb, leb, ltb}
+use lib.Dec.{leb, ltb}
 use lib.ListN.{length, get_or, take, drop, length-drop}
 use lib.Seq.{drop_at, drop-drop, length-take-le, take-add, take-take}
 use borrow.Rule.Slice.PartMut.{mid_of}
 use Rattle.rules.specs.Bytes.{words_of_bytes}
 use Rattle.rules.specs.Lists.{every}
 use Rattle.rules.specs.Steps.{is_none, is_session}
-use Rattle.rules.specs.Table.{list_offset, mark_words, marks_offset, ones, record_sound, scan_sound, slots_in, used_in, width_for}
+use Rattle.rules.specs.Table.{list_offset, mark_words, marks_offset, record_sound, scan_sound, slots_in, used_in, width_for}
 use Rattle.rules.proofs.Laws.Desk.Decoding.{small-drop, small-take}
 use Rattle.marks.specs.Marks.{marks, ones_in}
 use Rattle.words.specs.Words.{all_zero, lacks}
 use Rattle.words.proofs.Laws.{length-words, words-part}
-use Rattle.desk.specs.Layout.{Layout, LayoutLaws, Reads, list_sound, list_sound_as, marks_of_record, sound_as}
+use Rattle.desk.specs.Layout.{Layout, LayoutLaws, Reads, list_sound_as, marks_of_record, sound_as}
 use Rattle.desk.proofs.LayoutLaws.{head_word, marks_same}
 use Rattle.desk.proofs.MarkTie.{clear_is, count_is}
 use Rattle.desk.proofs.WordDesk.{list_in}
-
--- k: with nothing tested, and otherwise
-pub none_tested : (s t k : ℕ) → t ≡ 0 → scan_sound s t k ≡ eqb k 0
-none_tested s zero k e = refl
-none_tested s (suc t) k e = absurd (omega arith)
-
-pub some_tested : (s t k : ℕ) → (t ≡ 0 → ⊥) → scan_sound s t k ≡ eqb (k % 2) 0 && (leb 2 k && ltb k s)
-some_tested s zero k e = absurd (e refl)
-some_tested s (suc t) k e = refl
 
 -- the parts of a list in a row that the code tests, where it counts n used slots
 module _ (s : ℕ) (bytes : List ℕ) (n : ℕ) (en : n ≡ used_in (words_of_bytes bytes)) (h : n ≤ 2 * s) where

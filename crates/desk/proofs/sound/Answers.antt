@@ -3,11 +3,10 @@ use native.Mathlib.Omega.{arith}
 use mathlib.Core.Bool.{Bool, ◌&&◌}
 use mathlib.Core.List.{List}
 use mathlib.Core.Path.{◌≡◌, sym, ap, ◌∙◌}
-use Prim.Native.Nat.{ℕ, ◌*◌, ◌≤◌}
+use Prim.Native.Nat.{ℕ}
 use lib.Dec.{leb}
-use lib.ListN.{drop, length}
+use lib.ListN.{drop}
 use borrow.Author.Rules.{rules}
-use borrow.Rule.Slice.PartMut.{mid_len}
 use Rattle.rules.specs.Bytes.{words_of_bytes}
 use Rattle.rules.specs.Table.{list_offset, marks_offset, scan_sound}
 use Rattle.rules.proofs.Laws.Bytes.Bytes.{words_are_16}

@@ -1,14 +1,15 @@
 -- `desk::Row::find_tested` meets its contract.
-use Prim.Native.Nat.{ℕ, ◌+◌, ◌-◌, ◌*◌, ◌≤◌}
+use Prim.Native.Nat.{ℕ, ◌+◌, ◌*◌, ◌≤◌}
 use native.Mathlib.Omega.{arith}
 use mathlib.Core.List.{List}
-use mathlib.Core.Path.{◌≡◌, ap, ap₂, ◌∙◌}
-use lib.ListN.{drop, length, take}
+use mathlib.Core.Path.{ap₂, ◌∙◌}
+use lib.ListN.{length}
 use borrow.Rule.Slice.PartMut.{mid_len}
 use Rattle.rules.specs.Bytes.{words_of_bytes}
 use Rattle.rules.specs.Table.{list_offset, marks_offset}
 use Rattle.marks.specs.Marks.{find_slot, marks}
 use Rattle.words.proofs.Laws.{words-part}
+use Rattle.desk.proofs.DeskLaws.{tested_at}
 use Rattle.desk.proofs.DeskTie.{desk_counts}
 use Rattle.desk.proofs.RowSlots.find_tested.Goals as goal
 
@@ -29,6 +30,5 @@ returns c =
     let bytes = c.args.r.now in
     let words = words_of_bytes bytes in
     let a = list_offset + c.count-a.result in
-    let n : a + c.count.result - a ≡ c.count.result = omega arith in
-    let tested = words-part a (a + c.count.result) bytes ∙ ap (λ (k : ℕ). take k (drop a words)) n ∙ (λ i. take (c.count.ensures.0 i) (drop (list_offset + c.count-a.ensures.0 i) words)) in
+    let tested = words-part a (a + c.count.result) bytes ∙ tested_at words c.count-a.result c.count.result c.count-a.ensures.0 c.count.ensures.0 in
     c.find_slot.ensures ∙ ap₂ (λ (l m : List ℕ). find_slot c.args.x l (marks m)) tested (words-part marks_offset list_offset bytes)

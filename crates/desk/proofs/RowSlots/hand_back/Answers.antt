@@ -25,26 +25,6 @@ returns-then-n-eq0 c =
     let none = sym c.word-n.ensures ∙ c.if-n-eq0.true in
     (none_ready s words none ∙ first-handed s words c.requires.laid.reads, hand_none s words (formed_of s words c.requires.laid.reads) none ∙ handed_encoded s words c.requires.laid.reads)
 
-pub word-x-requires : goal.word-x-requires
-word-x-requires c =
-    let words = words_of_bytes c.args.r.now in
-    omega (arith, c.requires, c.word-n.ensures, c.if-n-eq0.false, used_most c.args._s words c.requires.laid.reads)
-
-pub overflow_mul-shift_left : goal.overflow_mul-shift_left
-overflow_mul-shift_left c = omega (arith, c.requires, c.used_slots-u.ensures, used_most c.args._s (words_of_bytes c.args.r.now) c.requires.laid.reads)
-
-pub overflow_add-u : goal.overflow_add-u
-overflow_add-u c = omega (arith, c.requires, c.used_slots-u.ensures, used_most c.args._s (words_of_bytes c.args.r.now) c.requires.laid.reads)
-
-pub overflow_mul-u : goal.overflow_mul-u
-overflow_mul-u c = omega (arith, c.requires, c.used_slots-u.ensures, used_most c.args._s (words_of_bytes c.args.r.now) c.requires.laid.reads)
-
-pub slice_bounds-shift_left-count : goal.slice_bounds-shift_left-count
-slice_bounds-shift_left-count c = omega (arith, c.requires, c.used_slots-u.ensures, used_most c.args._s (words_of_bytes c.args.r.now) c.requires.laid.reads)
-
-pub slice_bounds-shift_left-start : goal.slice_bounds-shift_left-start
-slice_bounds-shift_left-start c = omega (arith, c.requires, c.used_slots-u.ensures, used_most c.args._s (words_of_bytes c.args.r.now) c.requires.laid.reads)
-
 pub slice_bounds-shift_left-end : goal.slice_bounds-shift_left-end
 slice_bounds-shift_left-end c = omega (arith, c.requires, c.used_slots-u.ensures, used_most c.args._s (words_of_bytes c.args.r.now) c.requires.laid.reads)
 

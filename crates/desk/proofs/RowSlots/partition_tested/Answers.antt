@@ -2,13 +2,14 @@
 use Prim.Native.Nat.{ℕ, ◌+◌, ◌-◌, ◌*◌, ◌≤◌}
 use native.Mathlib.Omega.{arith}
 use mathlib.Core.List.{List, ◌++◌}
-use mathlib.Core.Path.{◌≡◌, refl, ap, ◌∙◌}
-use lib.ListN.{drop, length, take}
+use mathlib.Core.Path.{refl, ap, ◌∙◌}
+use lib.ListN.{length}
 use borrow.Rule.Slice.PartMut.{mid_len, put_mid, same_len_mid}
 use Rattle.rules.specs.Bytes.{words_of_bytes}
 use Rattle.rules.specs.Table.{list_offset}
 use Rattle.marks.specs.Marks.{marks, pick}
 use Rattle.words.proofs.Laws.{length-words, words-part, words_put}
+use Rattle.desk.proofs.DeskLaws.{partitioned_at}
 use Rattle.desk.proofs.DeskTie.{desk_counts}
 use Rattle.desk.proofs.RowSlots.partition_tested.Goals as goal
 
@@ -38,13 +39,9 @@ returns c =
     let part = c.partition.new.l in
     let wide = c.partition.auto.l ∙ mid_len (2 * a) (2 * b) bytes room in
     let m = marks (words_of_bytes c.args.m.now) in
-    let n : b - a ≡ c.count.result = omega arith in
-    let picked = c.partition.ensures ∙ ap (λ (l : List ℕ). pick 0 m l ++ pick 1 m l) (words-part a b bytes ∙ ap (λ (k : ℕ). take k (drop a words)) n) in
-    let is = words_put a b bytes part (omega arith) room wide ∙ ap (put_mid a (b - a) words) picked
-    ∙ ap (λ (k : ℕ). put_mid a k words (pick 0 m (take c.count.result (drop a words)) ++ pick 1 m (take c.count.result (drop a words)))) n
-    ∙ (λ i. let a' = list_offset + c.count-a.ensures.0 i in let k = c.count.ensures.0 i in put_mid a' k words (pick 0 m (take k (drop a' words)) ++ pick 1 m (take k (drop a' words)))) in
+    let picked = c.partition.ensures ∙ ap (λ (l : List ℕ). pick 0 m l ++ pick 1 m l) (words-part a b bytes) in
     record {
       long = omega (arith, length-words (put_mid (2 * a) (2 * b - 2 * a) bytes part), same_len_mid {X = ℕ} (2 * a) (2 * b - 2 * a) bytes part c.partition.auto.l, lent.whole);
       begins = refl;
-      is = is;
+      is = words_put a b bytes part (omega arith) room wide ∙ partitioned_at words c.count-a.result c.count.result c.count-a.ensures.0 c.count.ensures.0 m (words_of_bytes part) picked;
     }

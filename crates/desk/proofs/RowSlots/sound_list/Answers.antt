@@ -1,16 +1,12 @@
 -- `desk::Row::sound_list` meets its contract: each test answers a part of the rules' test.
 use Prim.Native.Nat.{◌*◌}
 use native.Mathlib.Omega.{arith}
-use mathlib.Core.Path.{◌≡◌, sym, ◌∙◌}
-use lib.Dec.{leb}
-use borrow.Author.Tests.{le-leb, lt-leb}
+use mathlib.Core.Path.{sym, ◌∙◌}
+use borrow.Author.Tests.{le-leb}
 use Rattle.rules.specs.Bytes.{words_of_bytes}
 use Rattle.rules.specs.Table.{used_in}
 use Rattle.desk.proofs.SoundLaws.{free_part, used-part}
 use Rattle.desk.proofs.RowSlots.sound_list.Goals as goal
-
-pub returns-then-s-n : goal.returns-then-s-n
-returns-then-s-n c = sym (rw (lt-leb (used_in (words_of_bytes c.args.r.now)) (2 * c.args.s) (omega (arith, c.used_slots-n.ensures, c.if-s-n.true))))
 
 pub returns-then-not-lacks : goal.returns-then-not-lacks
 returns-then-not-lacks c =
