@@ -9,7 +9,7 @@ use Rattle.rules.specs.Bytes.{words_of_bytes}
 use Rattle.words.proofs.Laws.{length-words, words-part}
 use Rattle.marks.specs.Marks.{find_slot, marks}
 use Rattle.marks.proofs.MarkLaws.{is_unmarked, marks-length}
-use Rattle.marks.proofs.SlotLaws.{find_end, find_found, find_lacking, find_marked, find_other}
+use Rattle.marks.proofs.SlotLaws.{find_found, find_lacking, find_marked, find_other}
 use Rattle.ring_rules.specs.Ring.{rotate}
 use Rattle.ring_desk.proofs.AroundLaws.{around_inside, around-length, around_word}
 use Rattle.ring_desk.proofs.find_around.Goals as goal
@@ -43,18 +43,6 @@ returns-then-lacks_around c =
     ∙ find_lacking c.args.x (slots (goal.at.returns-then-lacks_around c).Start) (marks_of_lem (goal.at.returns-then-lacks_around c).Start) (omega (arith, slots-long (goal.at.returns-then-lacks_around c).Start, marks_many (goal.at.returns-then-lacks_around c).Start))
     (sym c.lacks_around.ensures ∙ c.if-lacks_around.true)
 
-pub loop-j-init : goal.loop-j-init
-loop-j-init c = (omega arith, omega arith)
-
-pub slot_after-p-requires : goal.slot_after-p-requires
-slot_after-p-requires c = (c.requires.0.bounded, c.requires.0.slot, omega (arith, c.requires.1, c.loop-j-test.true))
-
-pub word-requires : goal.word-requires
-word-requires c = omega (arith, c.requires.0.whole, c.slot_after-p.ensures)
-
-pub marked-requires : goal.marked-requires
-marked-requires c = (c.requires.2, omega (arith, c.requires.0.bounded, c.requires.1, c.loop-j-test.true))
-
 pub returns-then-not-marked : goal.returns-then-not-marked
 returns-then-not-marked c =
     let j = c.loop-j.j in
@@ -84,9 +72,3 @@ loop-j-preserved c =
         | else-word-x w ↦ find_other x n (slots (goal.at.loop-j-preserved c).Start) (marks_of_lem (goal.at.loop-j-preserved c).Start) j in_slots in_marks c.loop-j.invariant.1 (λ z. w.if-word-x.false (c.word.ensures ∙ session ∙ z))
       ],
     )
-
-pub returns : goal.returns
-returns c =
-    let o = (goal.at.returns c).Start in
-    let end : c.args.n ≡ c.loop-j.j = omega (arith, c.loop-j.invariant.0, c.loop-j-test.false) in
-    end ∙ find_end c.args.x (find_slot c.args.x (slots o) (marks_of_lem o)) (slots o) (marks_of_lem o) c.loop-j.j (omega (arith, slots-long o, c.loop-j-test.false)) c.loop-j.invariant.1

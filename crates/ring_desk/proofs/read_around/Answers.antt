@@ -1,7 +1,7 @@
 -- `ring_desk::read_around` meets its contract.
 use Prim.Native.Nat.{ℕ, ◌+◌}
 use native.Mathlib.Omega.{arith}
-use mathlib.Core.Path.{◌≡◌, refl, sym, ap, ◌∙◌}
+use mathlib.Core.Path.{◌≡◌, sym, ap, ◌∙◌}
 use lib.ListN.{length, set, take}
 use lib.Seq.{take_all}
 use Rattle.rules.specs.Bytes.{words_of_bytes}
@@ -9,15 +9,6 @@ use Rattle.words.proofs.Laws.{length-words}
 use Rattle.ring_rules.specs.Ring.{rotate}
 use Rattle.ring_desk.proofs.AroundLaws.{read_next}
 use Rattle.ring_desk.proofs.read_around.Goals as goal
-
-pub loop-i-init : goal.loop-i-init
-loop-i-init c = (omega arith, refl, refl)
-
-pub slot_after-p-requires : goal.slot_after-p-requires
-slot_after-p-requires c = (c.requires.0.bounded, c.requires.0.slot, omega (arith, c.requires.1, c.loop-i-test.true))
-
-pub word-x-requires : goal.word-x-requires
-word-x-requires c = omega (arith, c.requires.0.whole, c.slot_after-p.ensures)
 
 pub loop-i-preserved : goal.loop-i-preserved
 loop-i-preserved c =

@@ -2,7 +2,7 @@
 use Prim.Native.Nat.{ℕ}
 use native.Mathlib.Omega.{arith}
 use mathlib.Core.List.{List, ◌++◌}
-use mathlib.Core.Path.{◌≡◌, refl, ap, ◌∙◌}
+use mathlib.Core.Path.{◌≡◌, ap, ◌∙◌}
 use lib.ListN.{drop, length, set, take}
 use lib.Seq.{take_all}
 use Rattle.rules.specs.Bytes.{words_of_bytes}
@@ -10,15 +10,6 @@ use Rattle.words.proofs.Laws.{length-words}
 use Rattle.ring_rules.specs.Ring.{rotate}
 use Rattle.ring_desk.proofs.AroundLaws.{write_next}
 use Rattle.ring_desk.proofs.write_around.Goals as goal
-
-pub loop-i-init : goal.loop-i-init
-loop-i-init c = (omega arith, refl, refl)
-
-pub slot_after-p-requires : goal.slot_after-p-requires
-slot_after-p-requires c = (c.requires.0.bounded, c.requires.0.slot, omega (arith, c.requires.1, c.loop-i-test.true))
-
-pub put_word-requires : goal.put_word-requires
-put_word-requires c = omega (arith, c.requires.0.whole, c.loop-i.invariant.1, c.slot_after-p.ensures)
 
 pub loop-i-preserved : goal.loop-i-preserved
 loop-i-preserved c =

@@ -16,33 +16,6 @@ returns-then-n-eq0 c =
     let none = sym c.word-n.ensures ∙ c.if-n-eq0.true in
     (no_session c.args.s words c.requires.laid none, hand_nothing c.args.s words c.requires.laid none)
 
-pub beginning-b-requires : goal.beginning-b-requires
-beginning-b-requires c = record { bounded = c.requires.laid.reads.bounded; whole = c.requires.whole }
-
-pub slot_after-p-requires : goal.slot_after-p-requires
-slot_after-p-requires c = (c.requires.laid.reads.bounded, omega (arith, c.beginning-b.ensures, c.requires.laid.begins), omega (arith, c.requires.laid.begins))
-
-pub overflow_add-b : goal.overflow_add-b
-overflow_add-b c = omega (arith, c.beginning-b.ensures)
-
-pub word-x-requires : goal.word-x-requires
-word-x-requires c = omega (arith, c.requires.whole, c.beginning-b.ensures, c.requires.laid.begins)
-
-pub overflow_add-b-2 : goal.overflow_add-b-2
-overflow_add-b-2 c = omega (arith, c.beginning-b.ensures)
-
-pub put_word-requires : goal.put_word-requires
-put_word-requires c = omega (arith, c.requires.whole, c.beginning-b.ensures, c.requires.laid.begins)
-
-pub record_words-requires : goal.record_words-requires
-record_words-requires c = omega (arith, c.requires.laid.reads.bounded)
-
-pub overflow_cast-p : goal.overflow_cast-p
-overflow_cast-p c = omega (arith, c.slot_after-p.ensures, c.requires.laid.reads.bounded)
-
-pub put_word-requires-2 : goal.put_word-requires-2
-put_word-requires-2 c = omega (arith, c.requires.whole, c.record_words.ensures, c.put_word.auto.t)
-
 pub returns : goal.returns
 returns c =
     let s = c.args.s in

@@ -1,18 +1,16 @@
 -- `ring_desk::Ring::sound_list` meets its contract: each test answers a part of the definition.
-use Prim.Native.Nat.{ℕ, ◌+◌, ◌*◌, ◌≤◌, ◌<◌}
+use Prim.Native.Nat.{ℕ, ◌*◌, ◌<◌}
 use native.Mathlib.Omega.{arith}
-use mathlib.Core.Bool.{Bool, ◌&&◌}
+use mathlib.Core.Bool.{◌&&◌}
 use mathlib.Core.List.{List}
-use mathlib.Core.Path.{◌≡◌, sym, ap, ◌∙◌}
-use lib.ListN.{drop, length, take}
-use borrow.Author.Tests.{le-leb, le-ltb, lt-leb, lt-ltb}
-use borrow.Rule.Slice.PartMut.{mid_len}
+use mathlib.Core.Path.{◌≡◌, sym, ◌∙◌}
+use lib.ListN.{drop, take}
+use borrow.Author.Tests.{le-leb, lt-leb, lt-ltb}
 use Rattle.rules.specs.Bytes.{words_of_bytes}
-use Rattle.rules.specs.Table.{list_offset, slots_in, used_in}
+use Rattle.rules.specs.Table.{used_in}
 use Rattle.words.proofs.Laws.{length-words}
 use Rattle.words.specs.Words.{all_zero, lacks}
-use Rattle.desk.specs.Layout.{list_sound}
-use Rattle.ring_rules.specs.Ring.{beginning_in, linear, ring_width_for, rotate}
+use Rattle.ring_rules.specs.Ring.{beginning_in, linear, rotate}
 use Rattle.ring_desk.specs.RingReads.{Reads, reads_start, slots_rotated, used_same}
 use Rattle.ring_desk.proofs.RingParts.{lent_words}
 use Rattle.ring_desk.proofs.RingSlots.sound_list.Goals as goal
@@ -38,28 +36,11 @@ counted c =
 begins : (c : Else-s-b) → beginning_in c.args.s (words (goal.at.Else-s-b c).Start) < 2 * c.args.s
 begins c = omega (arith, c.beginning-b.ensures, c.if-s-b.false)
 
-pub returns-then-s-b : goal.returns-then-s-b
-returns-then-s-b c =
-    let o = (goal.at.returns-then-s-b c).Start in
-    let outside : 2 * c.args.s ≤ beginning_in c.args.s (words o) = omega (arith, c.beginning-b.ensures, c.if-s-b.true) in
-    sym (ap (λ (t : Bool). t && list_sound c.args.s (read o)) (le-ltb (beginning_in c.args.s (words o)) (2 * c.args.s) outside))
-
 pub returns-then-s-n : goal.returns-then-s-n
 returns-then-s-n c =
     let o = (goal.at.returns-then-s-n c).Start in
     let used = counted (goal.at.returns-then-s-n c).After-used_slots-n in
     sym (rw (lt-ltb (beginning_in c.args.s (words o)) (2 * c.args.s) (begins (goal.at.returns-then-s-n c).Else-s-b), lt-leb (used_in (read o)) (2 * c.args.s) (omega (arith, used, c.if-s-n.true))))
-
-pub sound_list-requires : goal.sound_list-requires
-sound_list-requires c =
-    let most : 2 * (list_offset + 2 * c.args.s) ≤ length c.args.r.now = omega (arith, c.requires) in (
-      record {
-        bounded = c.requires.bounded;
-        whole = mid_len (2 * list_offset) (2 * (list_offset + 2 * c.args.s)) c.args.r.now most ∙ omega arith;
-        slot = omega (arith, c.if-s-b.false);
-      },
-      omega (arith, c.if-s-n.false),
-    )
 
 pub returns : goal.returns
 returns c =
