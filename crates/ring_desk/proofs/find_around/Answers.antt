@@ -51,7 +51,7 @@ returns-then-not-marked c =
     let session = around_word c.args.s c.args.a (words_of_bytes c.args.l.now) (list_long (goal.at.returns-then-not-marked c).Start) c.requires.0.slot c.args.n j c.slot_after-p.result
     c.requires.1 below c.slot_after-p.ensures.0 in
     find_found x (find_slot x (slots (goal.at.returns-then-not-marked c).Start) (marks_of_lem (goal.at.returns-then-not-marked c).Start)) (slots (goal.at.returns-then-not-marked c).Start) (marks_of_lem (goal.at.returns-then-not-marked c).Start) j
-    (omega (arith, slots-long (goal.at.returns-then-not-marked c).Start, below)) (omega (arith, marks_many (goal.at.returns-then-not-marked c).Start, below)) c.loop-j.invariant.1
+    (omega (arith, slots-long (goal.at.returns-then-not-marked c).Start, below)) (omega (arith, marks_many (goal.at.returns-then-not-marked c).Start, below)) c.loop-j.invariant
     (sym session ∙ sym c.word.ensures ∙ c.if-word-x.true)
     (is_unmarked (words_of_bytes c.args.m.now) j (sym c.marked.ensures ∙ c.if-not-marked.true))
 
@@ -64,11 +64,9 @@ loop-j-preserved c =
     let in_slots : j < length (slots (goal.at.loop-j-preserved c).Start) = omega (arith, slots-long (goal.at.loop-j-preserved c).Start, below) in
     let in_marks : j < length (marks_of_lem (goal.at.loop-j-preserved c).Start) = omega (arith, marks_many (goal.at.loop-j-preserved c).Start, below) in
     let session = around_word c.args.s c.args.a (words_of_bytes c.args.l.now) (list_long (goal.at.loop-j-preserved c).Start) c.requires.0.slot c.args.n j c.slot_after-p.result
-    c.requires.1 below c.slot_after-p.ensures.0 in (
-      omega arith,
-      elim c.if-word-x.branch [
-        | then-word-x+else-not-marked w ↦ let is_marked = eqb-true (get_or (marks_of_lem (goal.at.loop-j-preserved c).Start) j 0) 1 (sym w.marked.ensures ∙ w.if-not-marked.false) in
-            find_marked x n (slots (goal.at.loop-j-preserved c).Start) (marks_of_lem (goal.at.loop-j-preserved c).Start) j in_slots in_marks c.loop-j.invariant.1 (λ z. omega arith)
-        | else-word-x w ↦ find_other x n (slots (goal.at.loop-j-preserved c).Start) (marks_of_lem (goal.at.loop-j-preserved c).Start) j in_slots in_marks c.loop-j.invariant.1 (λ z. w.if-word-x.false (c.word.ensures ∙ session ∙ z))
-      ],
-    )
+    c.requires.1 below c.slot_after-p.ensures.0 in
+    elim c.if-word-x.branch [
+      | then-word-x+else-not-marked w ↦ let is_marked = eqb-true (get_or (marks_of_lem (goal.at.loop-j-preserved c).Start) j 0) 1 (sym w.marked.ensures ∙ w.if-not-marked.false) in
+          find_marked x n (slots (goal.at.loop-j-preserved c).Start) (marks_of_lem (goal.at.loop-j-preserved c).Start) j in_slots in_marks c.loop-j.invariant (λ z. omega arith)
+      | else-word-x w ↦ find_other x n (slots (goal.at.loop-j-preserved c).Start) (marks_of_lem (goal.at.loop-j-preserved c).Start) j in_slots in_marks c.loop-j.invariant (λ z. w.if-word-x.false (c.word.ensures ∙ session ∙ z))
+    ]

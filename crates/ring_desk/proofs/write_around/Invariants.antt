@@ -8,4 +8,4 @@ use Rattle.ring_desk.proofs.write_around.Given as goal
 
 abbrev pub invariant-loop-i : goal.invariant-loop-i
 invariant-loop-i l =
-    (l.i ≤ l.n) × (length l.l ≡ length l.initial.l) × (rotate l.a (words_of_bytes l.l) ≡ take l.i (words_of_bytes l.part) ++ drop l.i (rotate l.a (words_of_bytes l.initial.l)))
+    rotate l.a (words_of_bytes l.l) ≡ take l.i (words_of_bytes l.part) ++ drop l.i (rotate l.a (words_of_bytes l.initial.l))
