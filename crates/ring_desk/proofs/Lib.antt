@@ -1,9 +1,6 @@
 -- Laws that several proofs cite, and those that the board above cites (RingFound).
 pub mod AroundLaws
 pub mod ZeroLaws
-pub mod RingReads
 pub mod RingParts
-pub mod RingCollect
 pub mod RingSettle
-pub mod RingSound
 pub mod RingFound

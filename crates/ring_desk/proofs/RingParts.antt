@@ -3,8 +3,8 @@ use Prim.Native.Nat.{ℕ, ◌+◌, ◌-◌, ◌*◌, ◌^◌, ◌≤◌, ◌<◌
 use native.Mathlib.Omega.{arith}
 use mathlib.Core.List.{List, [], ◌∷◌, ◌++◌, append_assoc}
 use mathlib.Core.Path.{◌≡◌, sym, ap, ap₂, ◌∙◌}
-use lib.ListN.{length, get_or, take, drop, length-append, length-drop, take-append-drop}
-use lib.Seq.{drop-append-le, drop_at, drop-drop, length-take-le, take-add, take-append-le, take-take}
+use lib.ListN.{length, get_or, take, drop, length-drop, take-append-drop}
+use lib.Seq.{drop-append-le, drop-drop, length-take-le, take-add, take-append-le, take-take}
 use borrow.Rule.Slice.PartMut.{mid_of, put_mid}
 use Rattle.rules.specs.Bytes.{words_of_bytes}
 use Rattle.rules.specs.Table.{list_offset, mark_words, marks_offset, slots_in, tail_in, tail_words, width_for}
@@ -13,11 +13,10 @@ use Rattle.rules.proofs.Laws.Lists.ListSlices.{put_mid_lem}
 use Rattle.rules.proofs.Laws.Table.WordBounds.{below-append}
 use Rattle.words.proofs.Laws.{words-part}
 use Rattle.desk.proofs.WordDesk.{mark_words_in}
-use Rattle.desk.proofs.DeskLaws.{tested_in}
 use Rattle.ring_rules.specs.Ring.{beginning_in, linear, rotate, slot_after}
 use Rattle.ring_rules.proofs.Laws.Rotations.{slot_rotate}
 use Rattle.ring_rules.proofs.Laws.Records.{slots_length}
-use Rattle.ring_desk.proofs.RingReads.{Reads, head-long, head_same, in_parts, reads_as, reads_in_parts, reads_parts, rotated_long, slots-long, slots_rotated, tail_long, tail_same}
+use Rattle.ring_desk.specs.RingReads.{Reads, head-long, head_same, in_parts, reads_as, reads_in_parts, reads_parts, rotated_long, slots-long, slots_rotated, tail_long, tail_same}
 
 -- ---- the list, as the code lends it
 pub lent_slots : (s : ℕ) (r : List ℕ) → mid_of list_offset (list_offset + 2 * s - list_offset) r ≡ slots_in s r
@@ -27,11 +26,6 @@ pub lent_words : (s : ℕ) (bytes : List ℕ) → words_of_bytes (mid_of (2 * li
 lent_words s bytes = words-part list_offset (list_offset + 2 * s) bytes ∙ lent_slots s (words_of_bytes bytes)
 
 -- ---- the mark words
-put_head : (head rest marks : List ℕ) → length head ≡ list_offset → put_mid marks_offset mark_words (head ++ rest) marks ≡ (take marks_offset head ++ marks) ++ rest
-put_head head rest marks long =
-    ap₂ {C = List ℕ} (λ x y. x ++ (marks ++ y)) (take-append-le marks_offset head rest (omega arith)) (drop-drop mark_words marks_offset (head ++ rest) ∙ drop_at head rest list_offset long)
-    ∙ sym (append_assoc (take marks_offset head) marks rest)
-
 marks_in-head : (head rest : List ℕ) → length head ≡ list_offset → mark_words_in (head ++ rest) ≡ mark_words_in head
 marks_in-head head rest long =
     ap (take mark_words) (drop-append-le marks_offset head rest (omega arith))
@@ -44,20 +38,6 @@ marks_same s b r w e =
     let long = head-long s b r w e in
     ap mark_words_in (in_parts s b r w e) ∙ marks_in-head head (slots_in s r ++ (tail ++ (b ∷ []))) long
     ∙ sym (ap mark_words_in (reads_in_parts s b r w e) ∙ marks_in-head head (rotate b (slots_in s r) ++ tail) long)
-
-pub reads_marks : (s b : ℕ) (r w marks : List ℕ) → length marks ≡ mark_words → Reads s b r w
-    → Reads s b (put_mid marks_offset mark_words r marks) (put_mid marks_offset mark_words w marks)
-reads_marks s b r w marks eight e =
-    let head = take list_offset r in
-    let slots = slots_in s r in
-    let tail = take tail_words (tail_in s r) in
-    let long = head-long s b r w e in
-    let head' : List ℕ = take marks_offset head ++ marks in
-    let long' : length head' ≡ list_offset = omega (arith, length-append (take marks_offset head) marks, length-take-le marks_offset head (omega arith)) in
-    reads_as s b (head' ++ (slots ++ (tail ++ (b ∷ [])))) (put_mid marks_offset mark_words r marks) (head' ++ (rotate b slots ++ tail)) (put_mid marks_offset mark_words w marks)
-    (reads_parts s b head' slots tail long' (slots-long s b r w e) (tail_long s b r w e))
-    (ap (λ (x : List ℕ). put_mid marks_offset mark_words x marks) (in_parts s b r w e) ∙ put_head head (slots ++ (tail ++ (b ∷ []))) marks long)
-    (sym (ap (λ (x : List ℕ). put_mid marks_offset mark_words x marks) (reads_in_parts s b r w e) ∙ put_head head (rotate b slots ++ tail) marks long))
 
 -- ---- the list
 pub reads_list : (s b : ℕ) (r w slots' : List ℕ) → length slots' ≡ 2 * s → Reads s b r w
@@ -87,19 +67,15 @@ module _ (s : ℕ) (w : List ℕ) (long : length w ≡ width_for s) (a n : ℕ) 
   from_slot = sym (drop-drop a list_offset w) ∙ ap (drop a) from_list ∙ drop-append-le a slots (tail_in s w) (omega (arith, many))
 
   -- n of them from slot a on, as the laws of `desk` have them
-  tested_slots : take n (drop a slots) ≡ tested_in w a n
-  tested_slots =
-      let e : n ≡ list_offset + a + n - (list_offset + a) = omega arith in
-      sym (ap (take n) from_slot ∙ take-append-le n (drop a slots) (tail_in s w) (omega (arith, many, length-drop a slots)))
-      ∙ ap (λ (k : ℕ). take k (drop (list_offset + a) w)) e
+  from_slots : take n (drop a slots) ≡ take n (drop (list_offset + a) w)
+  from_slots = sym (ap (take n) from_slot ∙ take-append-le n (drop a slots) (tail_in s w) (omega (arith, many, length-drop a slots)))
 
-  pub tested_length : length (tested_in w a n) ≡ n
-  tested_length = ap length (sym tested_slots) ∙ length-take-le n (drop a slots) (omega (arith, many, length-drop a slots))
+  pub tested_length : length (take n (drop (list_offset + a) w)) ≡ n
+  tested_length = ap length (sym from_slots) ∙ length-take-le n (drop a slots) (omega (arith, many, length-drop a slots))
 
   -- and replaced
-  pub put_slots : (ys : List ℕ) → take list_offset w ++ ((take a slots ++ (ys ++ drop n (drop a slots))) ++ tail_in s w) ≡ put_mid (list_offset + a) (list_offset + a + n - (list_offset + a)) w ys
+  pub put_slots : (ys : List ℕ) → take list_offset w ++ ((take a slots ++ (ys ++ drop n (drop a slots))) ++ tail_in s w) ≡ take (list_offset + a) w ++ (ys ++ drop n (drop (list_offset + a) w))
   put_slots ys =
-      let e : n ≡ list_offset + a + n - (list_offset + a) = omega arith in
       let front : take list_offset w ++ take a slots ≡ take (list_offset + a) w
       = sym (take-add list_offset a w ∙ ap (λ (x : List ℕ). take list_offset w ++ x) (sym (take-take a (2 * s) (drop list_offset w) (omega arith)))) in
       let back : drop n (drop a slots) ++ tail_in s w ≡ drop n (drop (list_offset + a) w)
@@ -108,18 +84,17 @@ module _ (s : ℕ) (w : List ℕ) (long : length w ≡ width_for s) (a n : ℕ) 
       ∙ sym (append_assoc (take list_offset w) (take a slots) ((ys ++ drop n (drop a slots)) ++ tail_in s w))
       ∙ ap (λ (x : List ℕ). (take list_offset w ++ take a slots) ++ x) (append_assoc ys (drop n (drop a slots)) (tail_in s w))
       ∙ ap₂ {C = List ℕ} (λ x y. x ++ (ys ++ y)) front back
-      ∙ ap (λ (k : ℕ). take (list_offset + a) w ++ (ys ++ drop k (drop (list_offset + a) w))) e
 
 -- n slots of the ring, a places after its beginning on, are those of the list that it reads as
 pub tested_around : (s b : ℕ) (r w : List ℕ) (a n : ℕ) → b < 2 * s → a + n ≤ 2 * s → length w ≡ width_for s → Reads s b r w
-    → take n (rotate (slot_after s b a) (slots_in s r)) ≡ tested_in w a n
+    → take n (rotate (slot_after s b a) (slots_in s r)) ≡ take n (drop (list_offset + a) w)
 tested_around s b r w a n hb fits long e =
     let slots = slots_in s r in
     let many = slots-long s b r w e in
     ap (take n) (sym (slot_rotate s b slots many hb a (omega arith)))
     ∙ take-append-le n (drop a (rotate b slots)) (take a (rotate b slots)) (omega (arith, rotated_long s b r w e, length-drop a (rotate b slots)))
     ∙ ap (λ (x : List ℕ). take n (drop a x)) (slots_rotated s b r w e)
-    ∙ tested_slots s w long a n fits
+    ∙ from_slots s w long a n fits
 
 -- ---- 16-bit words read as 16-bit words
 pub linear-small : (s : ℕ) (r : List ℕ) → ((i : ℕ) → get_or r i 0 < 2 ^ 16) → (i : ℕ) → get_or (linear s r) i 0 < 2 ^ 16

@@ -1,25 +1,23 @@
 #![tactic(auto)]
 
-ghost use Rattle.std.specs.Prelude.{◌≡◌, true, ◌&&◌, ◌*◌, ◌%◌, ◌≤◌, ◌<◌, length, get_or, take, drop, [], ◌∷◌, ◌++◌};
+ghost use Rattle.std.specs.Prelude.{◌≡◌, ◌&&◌, ◌*◌, ◌%◌, ◌≤◌, ◌<◌, length, get_or, take, drop, [], ◌∷◌, ◌++◌};
 ghost use Rattle.rules.specs.Bytes.{words_of_bytes};
 ghost use Rattle.rules.specs.Hall.{max_all_screens};
-ghost use Rattle.rules.specs.Steps.{begin, collect_seeing, hand_back, marked_of, read_screens, scan_at, settle as settle_desk, settle_if};
+ghost use Rattle.rules.specs.Steps.{collect_seeing};
 ghost use Rattle.rules.specs.Table.{ready_offset};
 ghost use Rattle.words.specs.Words.{all_zero, lacks as lacks_word};
 ghost use Rattle.marks.specs.Marks.{find_slot, marks};
 ghost use Rattle.reply.specs.Answer.{answer_of};
-ghost use Rattle.desk.specs.Record.{parted};
+ghost use Rattle.desk.specs.Record.{Lent, Whole};
 ghost use Rattle.ring_rules.specs.Ring.{beginning_in, decode_ring, ring_record_sound, ring_width_for, rotate, slot_after};
-ghost use Rattle.ring_desk.specs.RingRecord.{RingEncoded, RingRetired, collect_ring_seeing, hand_back_ring, with_desk};
-ghost use Rattle.ring_desk.specs.Around.{Parted};
+ghost use Rattle.ring_desk.specs.RingRecord.{RingEncoded, RingRetired, collect_ring_seeing, ring};
+ghost use Rattle.ring_desk.specs.RingLaws.{ring_laws};
+ghost use Rattle.ring_desk.specs.Around.{ListFrom, Parted};
 
-use desk::{
-    LIST, MARKS, OWED, READY, SCANNED, TESTED, WAITING, mark_bytes, record_words, sound_scan,
-    used_slots,
-};
-use marks::{find_slot, mark_slot, marked, marks_sound, ones, partition};
-use reply::{Reason, Reply};
-use words::{all_zero, clear, count, lacks, put_word, word, zeros};
+use desk::{LIST, MARKS, READY, Slots, TESTED, collect, record_words, retire, sound, used_slots};
+use marks::{find_slot, marked, partition};
+use reply::Reply;
+use words::{all_zero, count, lacks, put_word, word, zeros};
 
 // The number of words of a ring's record, in a hall of s screens: one more than the first board's, for the beginning.
 // Precondition: s is at most the product of two 16-bit numbers.
@@ -44,16 +42,16 @@ fn slot_after(s: usize, b: usize, i: usize) -> usize
 
 // The slot at which the list begins: the last word of the record.
 fn beginning(r: &[u8], s: usize) -> usize
-    requires { (s ≤ max_all_screens) × (length r.now ≡ 2 * ring_width_for s) }
+    requires { Whole ring s r.now }
     ensures { (result ≡ beginning_in s (words_of_bytes r.now)) × (result < 65536) }
 {
     count(r, record_words(s))
 }
 
 // Whether none of n slots of the list l, from slot a on and around, holds x. They are one part of l, or two.
-// Precondition, here and in each function on a list below: l is the whole list, and a is one of its slots.
+// Precondition, here and in each function on a list below: l is the whole list, and a is one of its slots (`ListFrom`).
 fn lacks_around(l: &[u8], s: usize, a: usize, n: usize, x: u16) -> bool
-    requires { (s ≤ max_all_screens) × (length l.now ≡ 2 * (2 * s)) × (a < 2 * s) × (n ≤ 2 * s) }
+    requires { (ListFrom s l.now a) × (n ≤ 2 * s) }
     ensures { result ≡ lacks_word x (take n (rotate a (words_of_bytes l.now))) }
 {
     let e = a + n;
@@ -69,7 +67,7 @@ fn lacks_around(l: &[u8], s: usize, a: usize, n: usize, x: u16) -> bool
 // Whether the n used slots of the list l, from slot b on and around, are not 0, and the others are. As many slots must be 0 as are not used,
 // and either the used slots or the others are one part of the list: that part is tested, and then the count speaks for the rest.
 fn sound_around(l: &[u8], s: usize, b: usize, n: usize) -> bool
-    requires { (s ≤ max_all_screens) × (length l.now ≡ 2 * (2 * s)) × (b < 2 * s) × (n ≤ 2 * s) }
+    requires { (ListFrom s l.now b) × (n ≤ 2 * s) }
     ensures { result ≡ lacks_word 0 (take n (rotate b (words_of_bytes l.now))) && all_zero (drop n (rotate b (words_of_bytes l.now))) }
 {
     if zeros(l) != 2 * s - n {
@@ -84,7 +82,7 @@ fn sound_around(l: &[u8], s: usize, b: usize, n: usize) -> bool
 
 // The same. Every step asks this of every desk; a list that begins at slot 0 is tested as on the first board, each slot once.
 fn sound_list(l: &[u8], s: usize, b: usize, n: usize) -> bool
-    requires { (s ≤ max_all_screens) × (length l.now ≡ 2 * (2 * s)) × (b < 2 * s) × (n ≤ 2 * s) }
+    requires { (ListFrom s l.now b) × (n ≤ 2 * s) }
     ensures { result ≡ lacks_word 0 (take n (rotate b (words_of_bytes l.now))) && all_zero (drop n (rotate b (words_of_bytes l.now))) }
 {
     if b != 0 {
@@ -96,72 +94,10 @@ fn sound_list(l: &[u8], s: usize, b: usize, n: usize) -> bool
     all_zero(&l[2 * n..])
 }
 
-// Whether a ring's record is sound, in a hall of s screens. Its list is asked last: where lists begin at slot 0, this was faster.
-// Precondition: the record is whole (the board has shown that the table is long enough).
-pub fn sound_ring(r: &[u8], s: usize) -> bool
-    requires { (s ≤ max_all_screens) × (length r.now ≡ 2 * ring_width_for s) }
-    ensures { result ≡ ring_record_sound s (words_of_bytes r.now) }
-{
-    let tested = count(r, TESTED);
-    let k = count(r, SCANNED);
-    if !sound_scan(s, tested, k) {
-        return false;
-    }
-    if !marks_sound(&r[2 * MARKS..2 * LIST], tested, k) {
-        return false;
-    }
-    let b = beginning(r, s);
-    if 2 * s <= b {
-        return false;
-    }
-    let n = used_slots(r);
-    if 2 * s < n {
-        return false;
-    }
-    sound_list(&r[2 * LIST..2 * (LIST + 2 * s)], s, b, n)
-}
-
-// Retire, on a ring's record: the owed session goes to the first unused slot around as waiting; nothing is owed; the reply is that
-// session. Three words are written.
-// Precondition: the record encodes a desk (`RingEncoded`), as every sound record does; the board asks soundness before every step.
-pub fn retire_ring(r: &mut [u8], s: usize) -> Reply
-    requires { (RingEncoded s (words_of_bytes r.old)) × (length r.old ≡ 2 * ring_width_for s) }
-    ensures { RingRetired s (words_of_bytes r.old) (answer_of result) (words_of_bytes r.new) }
-{
-    let owed = word(r, OWED);
-    if owed == 0 {
-        return Err(Reason::OwesNothing);
-    }
-    let waiting = word(r, WAITING);
-    let n = used_slots(r);
-    if 2 * s <= n {
-        return Err(Reason::NoRoom);
-    }
-    let b = beginning(r, s);
-    let p = slot_after(s, b, n);
-    put_word(r, LIST + p, owed);
-    put_word(r, WAITING, waiting + 1);
-    put_word(r, OWED, 0);
-    Ok(owed)
-}
-
-// Collect (a): if nothing is tested, all waiting become tested.
-// Precondition, here and in each part of collect below: the record encodes a desk (`RingEncoded`).
-fn begin_test_ring(r: &mut [u8], s: usize)
-    requires { (RingEncoded s (words_of_bytes r.old)) × (length r.old ≡ 2 * ring_width_for s) }
-    ensures { words_of_bytes r.new ≡ with_desk s (words_of_bytes r.old) (begin (decode_ring s (words_of_bytes r.old))) }
-{
-    if word(r, TESTED) == 0 {
-        let waiting = word(r, WAITING);
-        put_word(r, TESTED, waiting);
-        put_word(r, WAITING, 0);
-    }
-}
-
 // The first unmarked one of n slots of the list l, from slot a on and around, that holds session x; or n if there is none. The mark of
 // a slot is that of its place among the n. If they pass the end of the list, one test of all slots comes first: usually none holds x.
 fn find_around(l: &[u8], s: usize, a: usize, n: usize, m: &[u8], x: u16) -> usize
-    requires { (s ≤ max_all_screens) × (length l.now ≡ 2 * (2 * s)) × (a < 2 * s) × (n ≤ 2 * s) × (length m.now ≡ 16) }
+    requires { (ListFrom s l.now a) × (n ≤ 2 * s) × (length m.now ≡ 16) }
     ensures { result ≡ find_slot x (take n (rotate a (words_of_bytes l.now))) (marks (words_of_bytes m.now)) }
 {
     if a + n <= 2 * s {
@@ -170,104 +106,54 @@ fn find_around(l: &[u8], s: usize, a: usize, n: usize, m: &[u8], x: u16) -> usiz
     if lacks_around(l, s, a, n, x) {
         return n;
     }
-    let mut j = 0;
-    while j < n {
+    for j in 0..n {
         let p = slot_after(s, a, j);
         if word(l, p) == x {
             if !marked(m, j) {
                 return j;
             }
         }
-        j += 1;
     }
-    j
+    n
 }
 
 // The first tested slot: it comes as many places after the beginning as there are ready sessions.
 fn first_tested(r: &[u8], s: usize) -> usize
-    requires { (RingEncoded s (words_of_bytes r.now)) × (length r.now ≡ 2 * ring_width_for s) }
+    requires { Lent ring s r.now }
     ensures { (result ≡ slot_after s (beginning_in s (words_of_bytes r.now)) (get_or (words_of_bytes r.now) ready_offset 0)) × (result < 2 * s) }
 {
     slot_after(s, beginning(r, s), count(r, READY))
 }
 
-// Collect (b), for one screen: the session x that it shows marks the first unmarked tested slot with it, and k grows by one.
-fn read_screen_ring(r: &mut [u8], s: usize, x: u16)
-    requires { (RingEncoded s (words_of_bytes r.old)) × (length r.old ≡ 2 * ring_width_for s) × ((decode_ring s (words_of_bytes r.old)).scanned < 65535) }
-    ensures { words_of_bytes r.new ≡ with_desk s (words_of_bytes r.old) (read_screens (x ∷ []) (decode_ring s (words_of_bytes r.old))) }
-{
-    let k = word(r, SCANNED);
-    let n = count(r, TESTED);
-    let a = first_tested(r, s);
-    let v = &r[..];
-    let j = find_around(
-        &v[2 * LIST..2 * (LIST + 2 * s)],
-        s,
-        a,
-        n,
-        &v[2 * MARKS..2 * LIST],
-        x,
-    );
-    if j < n {
-        mark_slot(&mut r[2 * MARKS..2 * LIST], j);
-    }
-    put_word(r, SCANNED, k + 1);
-}
-
-// Collect (b), for n screens, 1 or 2, that show x and y.
-fn read_screens_ring(r: &mut [u8], s: usize, n: usize, x: u16, y: u16)
-    requires { (RingEncoded s (words_of_bytes r.old)) × (length r.old ≡ 2 * ring_width_for s) × ((decode_ring s (words_of_bytes r.old)).scanned < 65534) × (1 ≤ n) × (n ≤ 2) }
-    ensures { words_of_bytes r.new ≡ with_desk s (words_of_bytes r.old) (read_screens (take n (x ∷ y ∷ [])) (decode_ring s (words_of_bytes r.old))) }
-{
-    read_screen_ring(r, s, x);
-    if 1 < n {
-        read_screen_ring(r, s, y);
-    }
-}
-
-// Collect (b): if some are tested, the next screens are read.
-fn scan_ring(r: &mut [u8], s: usize, n: usize, x: u16, y: u16)
-    requires { (RingEncoded s (words_of_bytes r.old)) × (length r.old ≡ 2 * ring_width_for s) × ((decode_ring s (words_of_bytes r.old)).scanned < 65534) × (1 ≤ n) × (n ≤ 2) }
-    ensures { words_of_bytes r.new ≡ with_desk s (words_of_bytes r.old) (scan_at (decode_ring s (words_of_bytes r.old)).tested (take n (x ∷ y ∷ [])) (decode_ring s (words_of_bytes r.old))) }
-{
-    if count(r, TESTED) != 0 {
-        read_screens_ring(r, s, n, x, y);
-    }
-}
-
 // Copies slots of the list l, from slot a on and around, to part: as many as part has words.
 fn read_around(part: &mut [u8], l: &[u8], s: usize, a: usize)
-    requires { (s ≤ max_all_screens) × (length l.now ≡ 2 * (2 * s)) × (a < 2 * s) × (length part.old ≤ 2 * (2 * s)) }
+    requires { (ListFrom s l.now a) × (length part.old ≤ 2 * (2 * s)) }
     ensures { words_of_bytes part.new ≡ take (length (words_of_bytes part.old)) (rotate a (words_of_bytes l.now)) }
 {
     let n = part.len() >> 1;
-    let mut i = 0;
-    while i < n {
+    for i in 0..n {
         let p = slot_after(s, a, i);
         let x = word(l, p);
         put_word(part, i, x);
-        i += 1;
     }
 }
 
 // Copies the words of part to the slots of the list l, from slot a on and around.
 fn write_around(l: &mut [u8], s: usize, a: usize, part: &[u8])
-    requires { (s ≤ max_all_screens) × (length l.old ≡ 2 * (2 * s)) × (a < 2 * s) × (length part.now ≤ 2 * (2 * s)) }
+    requires { (ListFrom s l.old a) × (length part.now ≤ 2 * (2 * s)) }
     ensures { rotate a (words_of_bytes l.new) ≡ words_of_bytes part.now ++ drop (length (words_of_bytes part.now)) (rotate a (words_of_bytes l.old)) }
 {
     let n = part.len() >> 1;
-    let mut i = 0;
-    while i < n {
+    for i in 0..n {
         let p = slot_after(s, a, i);
         let x = word(part, i);
         put_word(l, p, x);
-        i += 1;
     }
 }
 
 // Partitions slots of the list l, from slot a on and around, as many as part has words; part is room to work in.
 fn partition_in(l: &mut [u8], s: usize, a: usize, m: &[u8], part: &mut [u8])
-    requires { (s ≤ max_all_screens) × (length l.old ≡ 2 * (2 * s)) × (a < 2 * s) × (length part.old ≤ 2 * (2 * s)) × (length part.old % 2 ≡ 0) × (length m.now ≡ 16) }
+    requires { (ListFrom s l.old a) × (length part.old ≤ 2 * (2 * s)) × (length part.old % 2 ≡ 0) × (length m.now ≡ 16) }
     ensures { Parted (words_of_bytes l.old) (marks (words_of_bytes m.now)) a (length (words_of_bytes part.old)) (words_of_bytes l.new) }
 {
     read_around(part, l, s, a);
@@ -278,7 +164,7 @@ fn partition_in(l: &mut [u8], s: usize, a: usize, m: &[u8], part: &mut [u8])
 // Of n slots of the list l, from slot a on and around, puts the unmarked ones first, then the marked ones, each group in its order. The
 // mark of a slot is that of its place among the n. If the n slots pass the end of the list, they are copied out and back.
 fn partition_around(l: &mut [u8], s: usize, a: usize, n: usize, m: &[u8])
-    requires { (s ≤ max_all_screens) × (length l.old ≡ 2 * (2 * s)) × (a < 2 * s) × (n ≤ 2 * s) × (length m.now ≡ 16) }
+    requires { (ListFrom s l.old a) × (n ≤ 2 * s) × (length m.now ≡ 16) }
     ensures { Parted (words_of_bytes l.old) (marks (words_of_bytes m.now)) a n (words_of_bytes l.new) }
 {
     let e = a + n;
@@ -290,67 +176,82 @@ fn partition_around(l: &mut [u8], s: usize, a: usize, n: usize, m: &[u8])
     partition_in(l, s, a, m, &mut part[..2 * n]);
 }
 
-// Collect (c), the list: moves the unmarked tested sessions before the marked ones and clears the marks; the result is the number
-// of marked sessions. Usually none is marked, and there is nothing to do. The beginning stays.
-fn part_tested_ring(r: &mut [u8], s: usize) -> usize
-    requires { (RingEncoded s (words_of_bytes r.old)) × (length r.old ≡ 2 * ring_width_for s) }
-    ensures { (result ≡ length (marked_of (decode_ring s (words_of_bytes r.old)).tested)) × (words_of_bytes r.new ≡ with_desk s (words_of_bytes r.old) (parted (decode_ring s (words_of_bytes r.old)))) }
-{
-    let m = mark_bytes(&r[2 * MARKS..2 * LIST]);
-    let kept = ones(&m);
-    if kept == 0 {
-        return 0;
+// The list of a ring: around from the slot at which it begins.
+pub struct Ring;
+
+impl Slots for Ring {
+    ghost layout = { ring };
+
+    ghost laws = { ring_laws };
+
+    fn sound_list(r: &[u8], s: usize) -> bool {
+        let b = beginning(r, s);
+        if 2 * s <= b {
+            return false;
+        }
+        let n = used_slots(r);
+        if 2 * s < n {
+            return false;
+        }
+        sound_list(&r[2 * LIST..2 * (LIST + 2 * s)], s, b, n)
     }
-    let tested = count(r, TESTED);
-    let first = first_tested(r, s);
-    partition_around(&mut r[2 * LIST..2 * (LIST + 2 * s)], s, first, tested, &m);
-    clear(&mut r[2 * MARKS..2 * LIST]);
-    kept
+
+    fn slot(r: &[u8], s: usize, i: usize) -> usize {
+        slot_after(s, beginning(r, s), i)
+    }
+
+    fn find_tested(r: &[u8], s: usize, x: u16) -> usize {
+        let n = count(r, TESTED);
+        let a = first_tested(r, s);
+        find_around(
+            &r[2 * LIST..2 * (LIST + 2 * s)],
+            s,
+            a,
+            n,
+            &r[2 * MARKS..2 * LIST],
+            x,
+        )
+    }
+
+    // The beginning stays.
+    fn partition_tested(r: &mut [u8], s: usize, m: &[u8]) {
+        let n = count(r, TESTED);
+        let a = first_tested(r, s);
+        partition_around(&mut r[2 * LIST..2 * (LIST + 2 * s)], s, a, n, m);
+    }
+
+    // The list begins at the next slot. Three words are written, and no session moves.
+    fn hand_back(r: &mut [u8], s: usize) -> u16 {
+        let n = word(r, READY);
+        if n == 0 {
+            return 0;
+        }
+        let b = beginning(r, s);
+        let p = slot_after(s, b, 1);
+        let x = word(r, LIST + b);
+        put_word(r, LIST + b, 0);
+        put_word(r, record_words(s), p as u16);
+        put_word(r, READY, n - 1);
+        x
+    }
 }
 
-// Collect (c): unmarked tested sessions join the end of ready, marked ones become waiting ahead of those already waiting; marks
-// and k go to 0.
-fn settle_tested_ring(r: &mut [u8], s: usize)
-    requires { (RingEncoded s (words_of_bytes r.old)) × (length r.old ≡ 2 * ring_width_for s) }
-    ensures { words_of_bytes r.new ≡ with_desk s (words_of_bytes r.old) (settle_if true (decode_ring s (words_of_bytes r.old))) }
+// Whether a ring's record is sound, in a hall of s screens.
+// Precondition: the record is whole (the board has shown that the table is long enough).
+pub fn sound_ring(r: &[u8], s: usize) -> bool
+    requires { (s ≤ max_all_screens) × (length r.now ≡ 2 * ring_width_for s) }
+    ensures { result ≡ ring_record_sound s (words_of_bytes r.now) }
 {
-    let a = count(r, READY);
-    let b = count(r, TESTED);
-    let w = count(r, WAITING);
-    let kept = part_tested_ring(r, s);
-    put_word(r, SCANNED, 0);
-    put_word(r, READY, (a + (b - kept)) as u16);
-    put_word(r, TESTED, 0);
-    put_word(r, WAITING, (w + kept) as u16);
+    sound::<Ring>(r, s)
 }
 
-// Collect (c): if k equals S, the tested sessions are settled.
-fn settle_ring(r: &mut [u8], s: usize)
+// Retire, on a ring's record: the owed session goes to the first unused slot around.
+// Precondition: the record encodes a desk (`RingEncoded`), as every sound record does; the board asks soundness before every step.
+pub fn retire_ring(r: &mut [u8], s: usize) -> Reply
     requires { (RingEncoded s (words_of_bytes r.old)) × (length r.old ≡ 2 * ring_width_for s) }
-    ensures { words_of_bytes r.new ≡ with_desk s (words_of_bytes r.old) (settle_desk s (decode_ring s (words_of_bytes r.old))) }
+    ensures { RingRetired s (words_of_bytes r.old) (answer_of result) (words_of_bytes r.new) }
 {
-    if count(r, SCANNED) == s {
-        settle_tested_ring(r, s);
-    }
-}
-
-// Collect (d): the first ready session leaves its slot, the list begins at the next slot, and it is the reply; otherwise the reply is 0.
-// Three words are written, and no session moves.
-fn hand_back_ring(r: &mut [u8], s: usize) -> u16
-    requires { (RingEncoded s (words_of_bytes r.old)) × (length r.old ≡ 2 * ring_width_for s) }
-    ensures { (result ≡ (hand_back (decode_ring s (words_of_bytes r.old))).session) × (words_of_bytes r.new ≡ hand_back_ring s (beginning_in s (words_of_bytes r.old)) (decode_ring s (words_of_bytes r.old))) }
-{
-    let n = word(r, READY);
-    if n == 0 {
-        return 0;
-    }
-    let b = beginning(r, s);
-    let p = slot_after(s, b, 1);
-    let x = word(r, LIST + b);
-    put_word(r, LIST + b, 0);
-    put_word(r, record_words(s), p as u16);
-    put_word(r, READY, n - 1);
-    x
+    retire::<Ring>(r, s)
 }
 
 // Collect, on a ring's record: (a) to (d), where the n screens to read, 1 or 2, show x and y.
@@ -360,8 +261,5 @@ pub fn collect_ring(r: &mut [u8], s: usize, n: usize, x: u16, y: u16) -> u16
     requires { (RingEncoded s (words_of_bytes r.old)) × (length r.old ≡ 2 * ring_width_for s) × ((decode_ring s (words_of_bytes r.old)).scanned < 65534) × (1 ≤ n) × (n ≤ 2) }
     ensures { (result ≡ (collect_seeing s (take n (x ∷ y ∷ [])) (decode_ring s (words_of_bytes r.old))).session) × (words_of_bytes r.new ≡ collect_ring_seeing s (take n (x ∷ y ∷ [])) (words_of_bytes r.old)) }
 {
-    begin_test_ring(r, s);
-    scan_ring(r, s, n, x, y);
-    settle_ring(r, s);
-    hand_back_ring(r, s)
+    collect::<Ring>(r, s, &[x, y][..n])
 }

@@ -6,49 +6,52 @@ use mathlib.Core.Path.{◌≡◌, ap, ◌∙◌}
 use lib.ListN.{length, length-append, set}
 use Rattle.rules.specs.Bytes.{words_of_bytes}
 use Rattle.rules.specs.Steps.{marked_of, unmarked_of}
-use Rattle.rules.specs.Table.{decode_desk}
 use Rattle.rules.proofs.Laws.Desk.Marks.{unmarked_and_marked}
-use Rattle.desk.proofs.DeskTie.{desk_counts, settled-counts, tested_most}
+use Rattle.desk.specs.Layout.{decode}
+use Rattle.desk.proofs.LayoutLaws.{ready_count, settled_stores, tested_count, waiting_count}
 use Rattle.desk.proofs.settle_tested.Goals as goal
 
-pub part_tested-kept-requires : goal.part_tested-kept-requires
-part_tested-kept-requires c = c.requires
-
 pub overflow_sub-b : goal.overflow_sub-b
-overflow_sub-b c =
-    let D = decode_desk c.args.s (words_of_bytes c.args.r.now) in
-    let counts = desk_counts c.args.s (words_of_bytes c.args.r.now) c.requires.0 in
-    omega (arith, c.count-b.ensures, c.part_tested-kept.ensures.0, counts.tested, unmarked_and_marked D.tested)
+overflow_sub-b g c =
+    let layout = g.L.Slots.layout in
+    let words = words_of_bytes c.args.r.now in
+    let tested = tested_count layout g.L.Slots.laws c.args.s words c.requires.laid in
+    omega (arith, c.count-b.ensures, c.part_tested-kept.ensures.0, unmarked_and_marked (decode layout c.args.s words).tested)
 
 pub overflow_cast-a : goal.overflow_cast-a
-overflow_cast-a c =
-    let D = decode_desk c.args.s (words_of_bytes c.args.r.now) in
-    let counts = desk_counts c.args.s (words_of_bytes c.args.r.now) c.requires.0 in
-    omega (arith, c.requires.0.bounded, c.count-a.ensures, c.count-b.ensures, counts.ready, counts.tested, c.requires.0.room)
+overflow_cast-a g c =
+    let laws = g.L.Slots.laws in
+    let words = words_of_bytes c.args.r.now in
+    omega (arith, c.requires.laid.reads.bounded, c.requires.laid.reads.room, c.count-a.ensures, c.count-b.ensures, ready_count _ laws c.args.s words c.requires.laid, tested_count _ laws c.args.s words c.requires.laid)
 
 pub overflow_add-w : goal.overflow_add-w
-overflow_add-w c =
-    let D = decode_desk c.args.s (words_of_bytes c.args.r.now) in
-    let counts = desk_counts c.args.s (words_of_bytes c.args.r.now) c.requires.0 in
-    omega (arith, c.requires.0.bounded, c.count-w.ensures, c.part_tested-kept.ensures.0, counts.waiting, unmarked_and_marked D.tested, c.requires.0.room)
+overflow_add-w g c =
+    let layout = g.L.Slots.layout in
+    let words = words_of_bytes c.args.r.now in
+    omega (arith, c.requires.laid.reads.bounded, c.requires.laid.reads.room, c.count-w.ensures, c.part_tested-kept.ensures.0, waiting_count layout g.L.Slots.laws c.args.s words c.requires.laid, unmarked_and_marked (decode layout c.args.s words).tested)
 
 pub overflow_cast-w : goal.overflow_cast-w
-overflow_cast-w c =
-    let D = decode_desk c.args.s (words_of_bytes c.args.r.now) in
-    let counts = desk_counts c.args.s (words_of_bytes c.args.r.now) c.requires.0 in
-    omega (arith, c.requires.0.bounded, c.count-w.ensures, c.part_tested-kept.ensures.0, counts.waiting, unmarked_and_marked D.tested, c.requires.0.room)
+overflow_cast-w g c =
+    let layout = g.L.Slots.layout in
+    let words = words_of_bytes c.args.r.now in
+    omega (arith, c.requires.laid.reads.bounded, c.requires.laid.reads.room, c.count-w.ensures, c.part_tested-kept.ensures.0, waiting_count layout g.L.Slots.laws c.args.s words c.requires.laid, unmarked_and_marked (decode layout c.args.s words).tested)
 
 pub returns : goal.returns
-returns c =
+returns g c =
+    let layout = g.L.Slots.layout in
+    let laws = g.L.Slots.laws in
     let s = c.args.s in
     let words = words_of_bytes c.args.r.now in
-    let D = decode_desk s words in
-    let counts = desk_counts s words c.requires.0 in
+    let laid = c.requires.laid in
+    let D = decode layout s words in
     let a = c.count-a.result + (c.count-b.result - c.part_tested-kept.result) in
     let w = c.count-w.result + c.part_tested-kept.result in
-    let ready : a ≡ length (D.ready ++ unmarked_of D.tested) = omega (arith, c.count-a.ensures, c.count-b.ensures, c.part_tested-kept.ensures.0, counts.ready, counts.tested, unmarked_and_marked D.tested, length-append D.ready (unmarked_of D.tested)) in
-    let waiting : w ≡ length (marked_of D.tested ++ D.waiting) = omega (arith, c.count-w.ensures, c.part_tested-kept.ensures.0, counts.waiting, length-append (marked_of D.tested) D.waiting) in
-    let first = c.put_word.ensures.holds ∙ ap (λ (x : List _). set x 1 0) c.part_tested-kept.ensures.1 in
+    let ready : a ≡ length (D.ready ++ unmarked_of D.tested) =
+    omega (arith, c.count-a.ensures, c.count-b.ensures, c.part_tested-kept.ensures.0, ready_count layout laws s words laid, tested_count layout laws s words laid, unmarked_and_marked D.tested, length-append D.ready (unmarked_of D.tested)) in
+    let waiting : w ≡ length (marked_of D.tested ++ D.waiting) =
+    omega (arith, c.count-w.ensures, c.part_tested-kept.ensures.0, waiting_count layout laws s words laid, length-append (marked_of D.tested) D.waiting) in
+    let first = c.put_word.ensures.holds in
     let second = c.put_word-2.ensures.holds ∙ ap (λ (x : List _). set x 2 a) first in
     let third = c.put_word-3.ensures.holds ∙ ap (λ (x : List _). set x 3 0) second in
-    c.put_word-4.ensures.holds ∙ ap (λ (x : List _). set x 4 w) third ∙ settled-counts s D a w (tested_most s words c.requires.0) ready waiting
+    c.put_word-4.ensures.holds ∙ ap (λ (x : List _). set x 4 w) third
+    ∙ settled_stores layout laws s words laid (words_of_bytes c.part_tested-kept.new.r) a w c.part_tested-kept.ensures.1 ready waiting

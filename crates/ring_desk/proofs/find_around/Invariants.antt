@@ -1,4 +1,4 @@
-use Prim.Native.Nat.{◌+◌, ◌-◌, ◌≤◌}
+use Prim.Native.Nat.{◌+◌, ◌≤◌}
 use mathlib.Core.Path.{◌≡◌}
 use lib.ListN.{drop, take}
 use Rattle.rules.specs.Bytes.{words_of_bytes}
@@ -8,7 +8,4 @@ use Rattle.ring_desk.proofs.find_around.Given as goal
 
 abbrev pub invariant-loop-j : goal.invariant-loop-j
 invariant-loop-j l =
-    (l.j ≤ l.n) × (find_slot l.x (take l.n (rotate l.a (words_of_bytes l.l))) (marks (words_of_bytes l.m)) ≡ l.j + find_slot l.x (drop l.j (take l.n (rotate l.a (words_of_bytes l.l)))) (drop l.j (marks (words_of_bytes l.m))))
-
-abbrev pub decreases-loop-j : goal.decreases-loop-j
-decreases-loop-j l = l.n - l.j
+    find_slot l.x (take l.n (rotate l.a (words_of_bytes l.l))) (marks (words_of_bytes l.m)) ≡ l.j + find_slot l.x (drop l.j (take l.n (rotate l.a (words_of_bytes l.l)))) (drop l.j (marks (words_of_bytes l.m)))

@@ -1,10 +1,9 @@
 -- `ring_desk::lacks_around` meets its contract.
-use Prim.Native.Nat.{ℕ, ◌+◌, ◌*◌, ◌-◌}
+use Prim.Native.Nat.{ℕ}
 use native.Mathlib.Omega.{arith}
 use mathlib.Core.Bool.{Bool, not}
 use mathlib.Core.Path.{sym, ◌∙◌}
 use lib.Dec.{eqb}
-use lib.Seq.{length-take-le}
 use Rattle.ring_desk.proofs.AroundLaws.{test_inside, test_past}
 use Rattle.ring_desk.proofs.lacks_around.Goals as goal
 
@@ -12,25 +11,20 @@ pub returns-then-e-s : goal.returns-then-e-s
 returns-then-e-s c =
     let given = c.requires in
     let test : ℕ → Bool = λ (word : ℕ). not (eqb word c.args.x) in
-    c.lacks.ensures ∙ sym (test_inside test c.args.s c.args.a c.args.n c.args.l.now given.1 given.2 given.3 c.if-e-s.true)
+    c.lacks.ensures ∙ sym (test_inside test c.args.s c.args.a c.args.n c.args.l.now given.0.whole given.0.slot given.1 c.if-e-s.true)
 
 pub returns-then-not-lacks : goal.returns-then-not-lacks
 returns-then-not-lacks c =
     let given = c.requires in
     let test : ℕ → Bool = λ (word : ℕ). not (eqb word c.args.x) in
     let past = c.if-e-s.false in
-    sym (test_past test c.args.s c.args.a c.args.n c.args.l.now given.1 given.2 given.3 (omega arith)
+    sym (test_past test c.args.s c.args.a c.args.n c.args.l.now given.0.whole given.0.slot given.1 (omega arith)
     ∙ rw (sym c.lacks-2.ensures ∙ c.if-not-lacks.true))
-
-pub slice_bounds-lacks-end-3 : goal.slice_bounds-lacks-end-3
-slice_bounds-lacks-end-3 c =
-    let given = c.requires in
-    sym (length-take-le (2 * (c.args.a + c.args.n - 2 * c.args.s)) c.args.l.now (omega arith))
 
 pub returns : goal.returns
 returns c =
     let given = c.requires in
     let test : ℕ → Bool = λ (word : ℕ). not (eqb word c.args.x) in
     let past = c.if-e-s.false in
-    sym (test_past test c.args.s c.args.a c.args.n c.args.l.now given.1 given.2 given.3 (omega arith)
+    sym (test_past test c.args.s c.args.a c.args.n c.args.l.now given.0.whole given.0.slot given.1 (omega arith)
     ∙ rw (sym c.lacks-2.ensures ∙ c.if-not-lacks.false) (sym c.lacks-3.ensures))

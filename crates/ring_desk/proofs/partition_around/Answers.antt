@@ -1,9 +1,8 @@
 -- `ring_desk::partition_around` meets its contract.
-use Prim.Native.Nat.{ℕ, ◌+◌, ◌*◌}
+use Prim.Native.Nat.{ℕ, ◌*◌}
 use native.Mathlib.Omega.{arith}
-use mathlib.Core.Path.{◌≡◌, sym, subst}
+use mathlib.Core.Path.{◌≡◌, subst}
 use lib.ListN.{length, replicate, take}
-use borrow.Rule.Slice.PartMut.{mid_len}
 use Rattle.rules.specs.Bytes.{words_of_bytes}
 use Rattle.words.proofs.Laws.{length-words}
 use Rattle.marks.specs.Marks.{marks}
@@ -16,24 +15,10 @@ use Rattle.ring_desk.proofs.partition_around.Goals.{Start}
 room : (o : Start) → length (take (2 * o.args.n) (replicate {A = ℕ} 256 0)) ≡ 2 * o.args.n
 room o = room-length o.args.n (omega (arith, o.requires))
 
-pub partition-requires : goal.partition-requires
-partition-requires c =
-    let wide = mid_len (2 * c.args.a) (2 * (c.args.a + c.args.n)) c.args.l.now (omega (arith, c.requires.1, c.if-e-s.true)) in
-    (omega (arith, wide, c.requires.0, c.requires.3), omega (arith, wide), c.requires.4)
-
 pub returns-then-e-s : goal.returns-then-e-s
 returns-then-e-s c =
     parted_inside c.args.s c.args.a c.args.n c.args.l.now c.partition.new.l (marks (words_of_bytes c.args.m.now))
-    c.requires.1 c.requires.2 c.if-e-s.true c.partition.auto.l c.partition.ensures
-
-pub slice_bounds-part-end : goal.slice_bounds-part-end
-slice_bounds-part-end c = omega (arith, c.requires.0, c.requires.3)
-
-pub slice_bounds-partition_in-end : goal.slice_bounds-partition_in-end
-slice_bounds-partition_in-end c = sym (room (goal.at.slice_bounds-partition_in-end c).Start)
-
-pub partition_in-requires : goal.partition_in-requires
-partition_in-requires c = (c.requires.0, c.requires.1, c.requires.2, omega (arith, room (goal.at.partition_in-requires c).Start, c.requires.3), omega (arith, room (goal.at.partition_in-requires c).Start), c.requires.4)
+    c.requires.0.whole c.requires.0.slot c.if-e-s.true c.partition.auto.l c.partition.ensures
 
 pub returns : goal.returns
 returns c =

@@ -8,12 +8,6 @@ use Rattle.marks.specs.Marks.{marks}
 use Rattle.ring_desk.proofs.AroundLaws.{parted_copy}
 use Rattle.ring_desk.proofs.partition_in.Goals as goal
 
-pub partition-requires : goal.partition-requires
-partition-requires c = (omega (arith, c.read_around.auto.part, c.requires.0, c.requires.3), omega (arith, c.read_around.auto.part, c.requires.4), c.requires.5)
-
-pub write_around-requires : goal.write_around-requires
-write_around-requires c = (c.requires.0, c.requires.1, c.requires.2, omega (arith, c.partition.auto.l, c.read_around.auto.part, c.requires.3))
-
 pub returns : goal.returns
 returns c =
     let before = words_of_bytes c.args.part.now in

@@ -1,4 +1,4 @@
-use Prim.Native.Nat.{◌-◌, ◌≤◌}
+use Prim.Native.Nat.{◌≤◌}
 use mathlib.Core.Path.{◌≡◌}
 use lib.ListN.{length, take}
 use Rattle.rules.specs.Bytes.{words_of_bytes}
@@ -6,7 +6,4 @@ use Rattle.ring_rules.specs.Ring.{rotate}
 use Rattle.ring_desk.proofs.read_around.Given as goal
 
 abbrev pub invariant-loop-i : goal.invariant-loop-i
-invariant-loop-i l = (l.i ≤ l.n) × (length l.part ≡ length l.initial.part) × (take l.i (words_of_bytes l.part) ≡ take l.i (rotate l.a (words_of_bytes l.l)))
-
-abbrev pub decreases-loop-i : goal.decreases-loop-i
-decreases-loop-i l = l.n - l.i
+invariant-loop-i l = take l.i (words_of_bytes l.part) ≡ take l.i (rotate l.a (words_of_bytes l.l))

@@ -39,12 +39,12 @@ returns-then-zeros-s c = sym (miscounted (used (goal.at.returns-then-zeros-s c).
 pub returns-then-e-s : goal.returns-then-e-s
 returns-then-e-s c =
     let given = c.requires in
-    c.lacks.ensures ∙ sym (test_inside (λ (word : ℕ). not (eqb word 0)) c.args.s c.args.b c.args.n c.args.l.now given.1 given.2 given.3 c.if-e-s.true)
+    c.lacks.ensures ∙ sym (test_inside (λ (word : ℕ). not (eqb word 0)) c.args.s c.args.b c.args.n c.args.l.now given.0.whole given.0.slot given.1 c.if-e-s.true)
     ∙ first_speaks (used (goal.at.returns-then-e-s c).Start) (others (goal.at.returns-then-e-s c).Start) (omega (arith, c.if-zeros-s.false, c.zeros.ensures, count_is (goal.at.returns-then-e-s c).Start, others_many (goal.at.returns-then-e-s c).Start))
 
 pub returns : goal.returns
 returns c =
     let given = c.requires in
     let past = c.if-e-s.false in
-    c.all_zero.ensures ∙ sym (rest_past (λ (word : ℕ). eqb word 0) c.args.s c.args.b c.args.n c.args.l.now given.1 given.2 given.3 (omega arith))
+    c.all_zero.ensures ∙ sym (rest_past (λ (word : ℕ). eqb word 0) c.args.s c.args.b c.args.n c.args.l.now given.0.whole given.0.slot given.1 (omega arith))
     ∙ second_speaks (used (goal.at.returns c).Start) (others (goal.at.returns c).Start) (omega (arith, c.if-zeros-s.false, c.zeros.ensures, count_is (goal.at.returns c).Start, others_many (goal.at.returns c).Start))

@@ -5,7 +5,7 @@ use mathlib.Core.Bool.{Bool, ◌&&◌}
 use mathlib.Core.List.{List, append-nil}
 use mathlib.Core.Path.{◌≡◌, sym, ap, ◌∙◌}
 use lib.ListN.{drop, length, length-drop, take}
-use lib.Seq.{length-take-le, take_all}
+use lib.Seq.{take_all}
 use borrow.Rule.Slice.PartMut.{mid_of}
 use Rattle.rules.specs.Bytes.{words_of_bytes}
 use Rattle.words.proofs.Laws.{words-drop, words_take}
@@ -37,14 +37,6 @@ used_tested : (c : After-lacks) → used-pass (goal.at.After-lacks c).Start ≡ 
 used_tested c =
     let given = c.requires in
     sym (c.lacks.ensures ∙ ap (lacks 0) (words_take c.args.n c.args.l.now ∙ from_first_lem (goal.at.After-lacks c).Start c.if-b-ne0.false (take c.args.n)))
-
-pub returns-then-b-ne0 : goal.returns-then-b-ne0
-returns-then-b-ne0 c = c.sound_around.ensures
-
-pub slice_bounds-lacks-end : goal.slice_bounds-lacks-end
-slice_bounds-lacks-end c =
-    let given = c.requires in
-    sym (length-take-le (2 * c.args.n) c.args.l.now (omega arith))
 
 pub returns-then-not-lacks : goal.returns-then-not-lacks
 returns-then-not-lacks c = sym (ap (λ (passed : Bool). passed && rest-pass (goal.at.returns-then-not-lacks c).Start) (used_tested (goal.at.returns-then-not-lacks c).After-lacks ∙ c.if-not-lacks.true))

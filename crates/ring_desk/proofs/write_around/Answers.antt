@@ -2,7 +2,7 @@
 use Prim.Native.Nat.{ℕ}
 use native.Mathlib.Omega.{arith}
 use mathlib.Core.List.{List, ◌++◌}
-use mathlib.Core.Path.{◌≡◌, refl, ap, ◌∙◌}
+use mathlib.Core.Path.{◌≡◌, ap, ◌∙◌}
 use lib.ListN.{drop, length, set, take}
 use lib.Seq.{take_all}
 use Rattle.rules.specs.Bytes.{words_of_bytes}
@@ -11,33 +11,21 @@ use Rattle.ring_rules.specs.Ring.{rotate}
 use Rattle.ring_desk.proofs.AroundLaws.{write_next}
 use Rattle.ring_desk.proofs.write_around.Goals as goal
 
-pub loop-i-init : goal.loop-i-init
-loop-i-init c = (omega arith, refl, refl)
-
-pub slot_after-p-requires : goal.slot_after-p-requires
-slot_after-p-requires c = (c.requires.0, c.requires.2, omega (arith, c.requires.3, c.loop-i-test.true))
-
-pub put_word-requires : goal.put_word-requires
-put_word-requires c = omega (arith, c.requires.1, c.loop-i.invariant.1, c.slot_after-p.ensures)
-
 pub loop-i-preserved : goal.loop-i-preserved
 loop-i-preserved c =
     let long₀ = length-words c.args.l.now in
     let long = length-words c.loop-i.l in
     let many = length-words c.args.part.now in
-    let same = c.loop-i.invariant.1 in (
-      omega arith,
-      c.put_word.auto.t ∙ same,
-      ap (rotate c.args.a) (c.put_word.ensures.holds ∙ ap (set (words_of_bytes c.loop-i.l) c.slot_after-p.result) c.word-x.ensures)
-          ∙ write_next c.args.s c.args.a (words_of_bytes c.args.l.now) (words_of_bytes c.loop-i.l)
-          (words_of_bytes c.args.part.now) c.loop-i.i c.slot_after-p.result
-          (omega (arith, c.requires.1)) (omega (arith, c.requires.1)) c.requires.2 (omega (arith, c.loop-i-test.true)) (omega (arith, c.requires.3)) c.slot_after-p.ensures.0 c.loop-i.invariant.2,
-    )
+    let same = c.loop-i.auto.l in
+    ap (rotate c.args.a) (c.put_word.ensures.holds ∙ ap (set (words_of_bytes c.loop-i.l) c.slot_after-p.result) c.word-x.ensures)
+    ∙ write_next c.args.s c.args.a (words_of_bytes c.args.l.now) (words_of_bytes c.loop-i.l)
+    (words_of_bytes c.args.part.now) c.loop-i.i c.slot_after-p.result
+    (omega (arith, c.requires.0.whole)) (omega (arith, c.requires.0.whole)) c.requires.0.slot (omega (arith, c.loop-i-test.true)) (omega (arith, c.requires.1)) c.slot_after-p.ensures.0 c.loop-i.invariant
 
 pub returns : goal.returns
 returns c =
     let part = words_of_bytes c.args.part.now in
     let before = rotate c.args.a (words_of_bytes c.args.l.now) in
     let many = length-words c.args.part.now in
-    let end : c.loop-i.i ≡ length part = omega (arith, c.loop-i-test.false, c.loop-i.invariant.0) in
-    c.loop-i.invariant.2 ∙ ap (λ (k : ℕ). take k part ++ drop k before) end ∙ ap (λ (x : List ℕ). x ++ drop (length part) before) (take_all (length part) part (omega arith))
+    let end : c.loop-i.i ≡ length part = omega (arith, c.loop-i-test.false, c.loop-i.auto) in
+    c.loop-i.invariant ∙ ap (λ (k : ℕ). take k part ++ drop k before) end ∙ ap (λ (x : List ℕ). x ++ drop (length part) before) (take_all (length part) part (omega arith))

@@ -1,4 +1,4 @@
-use Prim.Native.Nat.{◌-◌, ◌≤◌}
+use Prim.Native.Nat.{◌≤◌}
 use mathlib.Core.List.{◌++◌}
 use mathlib.Core.Path.{◌≡◌}
 use lib.ListN.{drop, length, take}
@@ -8,7 +8,4 @@ use Rattle.ring_desk.proofs.write_around.Given as goal
 
 abbrev pub invariant-loop-i : goal.invariant-loop-i
 invariant-loop-i l =
-    (l.i ≤ l.n) × (length l.l ≡ length l.initial.l) × (rotate l.a (words_of_bytes l.l) ≡ take l.i (words_of_bytes l.part) ++ drop l.i (rotate l.a (words_of_bytes l.initial.l)))
-
-abbrev pub decreases-loop-i : goal.decreases-loop-i
-decreases-loop-i l = l.n - l.i
+    rotate l.a (words_of_bytes l.l) ≡ take l.i (words_of_bytes l.part) ++ drop l.i (rotate l.a (words_of_bytes l.initial.l))
