@@ -28,7 +28,9 @@ use Rattle.words.proofs.Laws.{length-words, words_append, written_overwrites, wr
 use Rattle.board.specs.Admission.{numbers_in, soundness_of}
 use Rattle.board.specs.Results.{Requested}
 use Rattle.board.specs.declared.Hall.{Hall}
-use Rattle.board.proofs.AdmissionLaws.{sound-hall, still_sound}
+use Rattle.board.specs.Kind.{first}
+use Rattle.board.proofs.AdmissionLaws.{sound-hall}
+use Rattle.board.proofs.RecordLaws.{still_sound}
 use Rattle.board.proofs.ResultLaws.{on_bytes_lem}
 use Rattle.runner.specs.Results.{lent_result}
 
@@ -82,7 +84,7 @@ drop_two (x ∷ y ∷ words) (suc k) a b long = drop_two (y ∷ words) k a b (om
 
 -- ---- A step on bytes.
 did_on_bytes : (limits : Limits) (asked : Option Call) {before after : List ℕ} {r : Reply} → IsBytes before → IsBytes after → length after ≡ length before
-    → Requested limits asked before r after → table_result r after ≡ answer_request (step_bytes limits) before asked
+    → Requested first limits asked before r after → table_result r after ≡ answer_request (step_bytes limits) before asked
 unfolding step_bytes
 did_on_bytes limits none {before} were are same did =
     on_bytes_lem are same did ∙ (λ i. record { answer = record { number = 17; session = 0 }; after = overwrite_back before were i })
@@ -96,7 +98,7 @@ pub record Done (limits : Limits) (steps replies₀ table₀ : List ℕ) (i : �
   pub parts : step_bytes_width * i + length left ≡ length steps
   pub same_replies : length replies ≡ length replies₀
   pub same_table : length table ≡ length table₀
-  pub still : soundness_of limits (words_of_bytes table) ≡ soundness_of limits (words_of_bytes table₀)
+  pub still : soundness_of first limits (words_of_bytes table) ≡ soundness_of first limits (words_of_bytes table₀)
   -- the steps that remain lead to the same end
   pub end : after_all (step_bytes limits) table (requests_in (words_of_bytes left)) ≡ after_all (step_bytes limits) table₀ (requests_in (words_of_bytes steps))
   -- the replies so far, then those that remain
@@ -119,7 +121,7 @@ module _ {limits : Limits} {steps replies₀ table₀ : List ℕ} where
   pub done_more : {i : ℕ} {left left' replies table replies' table' : List ℕ} (step : List ℕ) (r : Reply) → Done limits steps replies₀ table₀ i left replies table
       → left ≡ step ++ left' → length step ≡ step_bytes_width
       → IsBytes replies' → IsBytes table' → length table' ≡ length table
-      → Requested limits (request_in (words_of_bytes step)) table r table'
+      → Requested first limits (request_in (words_of_bytes step)) table r table'
       → length replies' ≡ length replies → reply_width * i + reply_width ≤ length (words_of_bytes replies)
       → Written replies (set (set (words_of_bytes replies) (reply_width * i) (answer_of r).number) (reply_width * i + 1) (answer_of r).session) replies'
       → Done limits steps replies₀ table₀ (i + 1) left' replies' table'
@@ -131,7 +133,7 @@ module _ {limits : Limits} {steps replies₀ table₀ : List ℕ} where
     same_replies = same' ∙ done.same_replies;
     same_table = same ∙ done.same_table;
     still =
-        ap (λ (result : Result (List ℕ)). soundness_of limits result.after) did.words
+        ap (λ (result : Result (List ℕ)). soundness_of first limits result.after) did.words
         ∙ still_sound limits (words_of_bytes table) (words_are_16 table done.table_are) request ∙ done.still;
     end =
         ap (λ (result : Result (List ℕ)). after_all (step_bytes limits) result.after remaining) one
@@ -237,7 +239,7 @@ module _ (limits : Limits) (steps replies table : List ℕ) where
   run_short short = rw (room_is ∙ short)
 
   module _ (room : room? steps replies ≡ true) where
-    pub run_unsound : {reason : Reason} → Err reason ≡ soundness_of limits (words_of_bytes table)
+    pub run_unsound : {reason : Reason} → Err reason ≡ soundness_of first limits (words_of_bytes table)
         → lent_result (Err reason) replies table ≡ run_bytes limits steps (lent_of replies table)
     unfolding run_bytes soundness_of
     run_unsound {reason} is = by_soundness (sound limits (words_of_bytes table)) refl
@@ -246,7 +248,7 @@ module _ (limits : Limits) (steps replies table : List ℕ) where
         by_soundness true e = let z : Err reason ≡ Ok (numbers_in (words_of_bytes table)) = rw e at is in let never : ◌≡◌ {A = ℕ} 0 1 = cc in absurd (omega arith)
         by_soundness false e = let z : Err reason ≡ Err Unsound = rw e at is in let same : reason ≡ Unsound = cc in rw (same, room_is ∙ room, e)
 
-    pub run_accepted : {hall : Hall} {replies' table' : List ℕ} → Ok hall ≡ soundness_of limits (words_of_bytes table)
+    pub run_accepted : {hall : Hall} {replies' table' : List ℕ} → Ok hall ≡ soundness_of first limits (words_of_bytes table)
         → lent_of replies' table' ≡ lent_after limits requests (lent_of replies table)
         → lent_result (Ok 0) replies' table' ≡ run_bytes limits steps (lent_of replies table)
     unfolding run_bytes

@@ -7,10 +7,11 @@ ghost use Rattle.limits.specs.Room.{limits_of};
 ghost use Rattle.reply.specs.Answer.{answer_of};
 ghost use Rattle.words.specs.Written.{Written};
 ghost use Rattle.board.specs.Admission.{soundness_of};
+ghost use Rattle.board.specs.Kind.{first};
 ghost use Rattle.board.specs.Results.{Requested};
 ghost use Rattle.runner.specs.Results.{lent_result};
 
-use board::{Hall, check, request};
+use board::{Hall, Row, check, request};
 use limits::Limits;
 use reply::{Reason, Reply, number, session};
 use words::{put_word, word};
@@ -31,8 +32,8 @@ fn has_room(sent: usize, lent: usize) -> bool
 
 // Does a step. Precondition: all its words are there; the table is sound in a room with these limits, and this is its hall.
 fn do_step(step: &[u8], table: &mut [u8], limits: Limits, hall: Hall) -> Reply
-    requires { (2 * step_width ≤ length step.now) × (Ok hall ≡ soundness_of (limits_of limits) (words_of_bytes table.old)) }
-    ensures { Requested (limits_of limits) (request_in (words_of_bytes step.now)) table.old result table.new }
+    requires { (2 * step_width ≤ length step.now) × (Ok hall ≡ soundness_of first (limits_of limits) (words_of_bytes table.old)) }
+    ensures { Requested first (limits_of limits) (request_in (words_of_bytes step.now)) table.old result table.new }
 {
     let code = word(step, 0);
     let message = word(step, 1);
@@ -40,7 +41,7 @@ fn do_step(step: &[u8], table: &mut [u8], limits: Limits, hall: Hall) -> Reply
     let screen = word(step, 3);
     let position = word(step, 4);
     let new = word(step, 5);
-    request(
+    request::<Row>(
         table, limits, hall, code, message, desk, screen, position, new,
     )
 }
@@ -57,7 +58,7 @@ fn put_reply(replies: &mut [u8], at: usize, r: Reply)
 // Does the steps, one after another, and writes a reply to each. Precondition: there is room for the replies; the table is sound in a room
 // with these limits, and this is its hall.
 fn do_steps(steps: &[u8], replies: &mut [u8], table: &mut [u8], limits: Limits, hall: Hall)
-    requires { (reply_width * (length (words_of_bytes steps.now) / step_width) ≤ length (words_of_bytes replies.old)) × (Ok hall ≡ soundness_of (limits_of limits) (words_of_bytes table.old)) }
+    requires { (reply_width * (length (words_of_bytes steps.now) / step_width) ≤ length (words_of_bytes replies.old)) × (Ok hall ≡ soundness_of first (limits_of limits) (words_of_bytes table.old)) }
     ensures { lent_of replies.new table.new ≡ lent_after (limits_of limits) (requests_in (words_of_bytes steps.now)) (lent_of replies.old table.old) }
 {
     for (i, step) in steps.chunks(2 * STEP).enumerate() {
@@ -77,7 +78,7 @@ pub fn run(steps: &[u8], replies: &mut [u8], table: &mut [u8], limits: Limits) -
     if !has_room(steps.len(), replies.len()) {
         return Err(Reason::TableShort);
     }
-    let hall = check(table, limits)?;
+    let hall = check::<Row>(table, limits)?;
     do_steps(steps, replies, table, limits, hall);
     Ok(0)
 }
