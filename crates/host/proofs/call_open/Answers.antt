@@ -1,8 +1,7 @@
 -- `host::call_open` meets its contract.
-use Rattle.rules.specs.Hall.{hall_of}
-use Rattle.limits.specs.Room.{limits_of}
-use Rattle.host.proofs.CallLaws.{opened-on_bytes}
+use Rattle.std.proofs.Common.{◌∙◌}
+use Rattle.board.proofs.ResultLaws.{on_bytes_lem}
 use Rattle.host.proofs.call_open.Goals as goal
 
 pub returns : goal.returns
-returns c = opened-on_bytes c.answer.result (λ i. (c.type_inv.table i).fits) c.«open».auto.t c.answer.ensures (limits_of c.args.limits) (hall_of c.args.desks c.args.screens c.args.positions) c.«open».ensures
+returns g c = (λ i. record { answer = c.answer.ensures i; after = c.«open».new.t }) ∙ on_bytes_lem (λ i. (c.type_inv.table i).fits) c.«open».auto.t c.«open».ensures

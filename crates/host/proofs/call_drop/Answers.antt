@@ -1,8 +1,0 @@
--- `host::call_drop` meets its contract.
-use Rattle.rules.specs.Steps.{Drop, ◌numbered◌, ◌sends◌}
-use Rattle.limits.specs.Room.{limits_of}
-use Rattle.host.proofs.CallLaws.{stepped_on_bytes}
-use Rattle.host.proofs.call_drop.Goals as goal
-
-pub returns : goal.returns
-returns c = stepped_on_bytes c.answer.result (λ i. (c.type_inv.table i).fits) c.drop.auto.t c.answer.ensures (limits_of c.args.limits) ((c.args.desk sends Drop c.args.screen) numbered c.args.message) c.drop.ensures

@@ -1,8 +1,0 @@
--- `host::call_swap` meets its contract.
-use Rattle.rules.specs.Steps.{Swap, ◌numbered◌, ◌sends◌}
-use Rattle.limits.specs.Room.{limits_of}
-use Rattle.host.proofs.CallLaws.{stepped_on_bytes}
-use Rattle.host.proofs.call_swap.Goals as goal
-
-pub returns : goal.returns
-returns c = stepped_on_bytes c.answer.result (λ i. (c.type_inv.table i).fits) c.swap.auto.t c.answer.ensures (limits_of c.args.limits) ((c.args.desk sends Swap c.args.position c.args.session) numbered c.args.message) c.swap.ensures

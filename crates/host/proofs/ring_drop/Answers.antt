@@ -1,8 +1,0 @@
--- `host::ring_drop` meets its contract.
-use Rattle.rules.specs.Hall.{hall_limits}
-use Rattle.rules.specs.Steps.{Drop, ◌numbered◌, ◌sends◌}
-use Rattle.host.proofs.CallLaws.{ring_stepped_on_bytes}
-use Rattle.host.proofs.ring_drop.Goals as goal
-
-pub returns : goal.returns
-returns c = ring_stepped_on_bytes c.answer.result (λ i. (c.type_inv.table i).fits) c.drop.auto.t c.answer.ensures hall_limits ((c.args.desk sends Drop c.args.screen) numbered c.args.message) c.drop.ensures
