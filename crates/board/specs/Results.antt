@@ -1,15 +1,13 @@
 -- A call on a table sent as bytes, compared with the rules on its words.
-use Rattle.std.specs.Prelude.{◌≡◌, ℕ, ◌*◌, List, length, drop, Result as OkOrErr, Ok, Err}
-use Rattle.std.proofs.Math.Option.{Option, none, some}
+use Rattle.std.specs.Prelude.{◌≡◌, ℕ, ◌*◌, List, length, drop}
+use Rattle.std.proofs.Math.Option.{Option}
 use Rattle.rules.specs.Bytes.{words_of_bytes}
 use Rattle.rules.specs.Hall.{Hall, Limits}
-use Rattle.rules.specs.Runs.{answer_request, request_for}
-use Rattle.rules.specs.Steps.{Call, Collect, Drop, Result, Retire, Step, Swap, Take, ◌numbered◌, ◌sends◌, decide, first_no, perform_step, step_questions}
+use Rattle.rules.specs.Runs.{answer_request}
+use Rattle.rules.specs.Steps.{Call, Collect, Drop, Result, Retire, Step, Swap, Take, decide, first_no, perform_step, step_questions}
 use Rattle.rules.specs.Table.{hall_in}
 use Rattle.board.specs.Kind.{Kind}
 use Rattle.reply.specs.Answer.{Reply, table_result}
-use Rattle.reply.specs.declared.Reason.{Reason}
-use Rattle.reply.specs.declared.Reason.TheVariants.{NoCode}
 use Rattle.board.specs.declared.Step.{Step as Sent}
 use Rattle.board.specs.declared.Step.TheVariants.{Take as SentTake, Drop as SentDrop, Swap as SentSwap, Retire as SentRetire, Collect as SentCollect}
 
@@ -46,8 +44,3 @@ step_of (SentDrop c) = Drop c
 step_of (SentSwap p session) = Swap p session
 step_of SentRetire = Retire
 step_of SentCollect = Collect
-
--- The step that a code requests, as the rules say; or 17 where they have none.
-abbrev pub IsRequested : ℕ → ℕ → ℕ → ℕ → OkOrErr Sent Reason → Type 0
-IsRequested code screen position session (Ok step) = (message desk : ℕ) → request_for code message desk screen position session ≡ some (desk sends step_of step numbered message)
-IsRequested code screen position session (Err reason) = (reason ≡ NoCode) × ((message desk : ℕ) → request_for code message desk screen position session ≡ none)

@@ -15,7 +15,7 @@ ghost use Rattle.limits.specs.Room.{limits_of};
 ghost use Rattle.reply.specs.Answer.{answer_of};
 ghost use Rattle.board.specs.Admission.{Admits, admission_of, header_of, screen_for, soundness_of};
 ghost use Rattle.board.specs.Opening.{OpeningAnswer};
-ghost use Rattle.board.specs.Results.{IsRequested, Opened, Performed, Requested, Stepped, step_of};
+ghost use Rattle.board.specs.Results.{Opened, Performed, Requested, Stepped, step_of};
 
 use codes::Code;
 use desk::{OWED, SCANNED, collect_record, record_words, retire_record, sound_record, tail_offset};
@@ -276,7 +276,13 @@ struct Location {
 
 // What every step asks first of a sound table: is the desk 1 to P, is the message number the desk's next. Precondition, here, for each
 // function whose name ends in `_in` and for `request`: the table is sound in a room with these limits, and this is its hall.
-fn admit<K: Records>(t: &[u8], limits: Limits, hall: Hall, message: u16, desk: u16) -> Result<Location, Reason>
+fn admit<K: Records>(
+    t: &[u8],
+    limits: Limits,
+    hall: Hall,
+    message: u16,
+    desk: u16,
+) -> Result<Location, Reason>
     requires { Ok hall ≡ soundness_of K.kind (limits_of limits) (words_of_bytes t.now) }
     ensures { result ≡ admission_of K.kind (words_of_bytes t.now) message desk }
 {
@@ -317,7 +323,13 @@ pub fn next_in(t: &[u8], limits: Limits, hall: Hall, desk: u16) -> u16
 }
 
 // What the opening of a hall asks, in order, of its three numbers and of the words that the table has.
-pub fn opening<K: Records>(limits: Limits, desks: u16, screens: u16, positions: u16, words: usize) -> Reply
+pub fn opening<K: Records>(
+    limits: Limits,
+    desks: u16,
+    screens: u16,
+    positions: u16,
+    words: usize,
+) -> Reply
     ensures { OpeningAnswer K.kind (limits_of limits) (hall_of desks screens positions) words (answer_of result) }
 {
     if !in_range(desks, Board::MAX_DESKS) {
@@ -339,7 +351,13 @@ pub fn opening<K: Records>(limits: Limits, desks: u16, screens: u16, positions: 
 }
 
 // Opening writes P, c, L and zeros up to the need.
-pub fn open<K: Records>(t: &mut [u8], limits: Limits, desks: u16, screens: u16, positions: u16) -> Reply
+pub fn open<K: Records>(
+    t: &mut [u8],
+    limits: Limits,
+    desks: u16,
+    screens: u16,
+    positions: u16,
+) -> Reply
     ensures { Opened K.kind (limits_of limits) (hall_of desks screens positions) t.old result t.new }
 {
     opening::<K>(limits, desks, screens, positions, t.len() >> 1)?;
@@ -394,7 +412,13 @@ fn take_at<K: Records>(
 }
 
 // Drop, of an admitted desk.
-fn drop_at<K: Records>(t: &mut [u8], limits: Limits, desk: u16, location: Location, screen: u16) -> Reply
+fn drop_at<K: Records>(
+    t: &mut [u8],
+    limits: Limits,
+    desk: u16,
+    location: Location,
+    screen: u16,
+) -> Reply
     requires { Admits K.kind (limits_of limits) (words_of_bytes t.old) desk location }
     ensures { Performed K.kind (limits_of limits) desk (Drop screen) t.old result t.new }
 {
@@ -491,22 +515,42 @@ pub enum Step {
     Collect,
 }
 
-// A step of an admitted desk.
-fn step_at<K: Records>(t: &mut [u8], limits: Limits, desk: u16, location: Location, step: Step) -> Reply
+// A step of an admitted desk. Inlined, as `step_in` is: where the caller has chosen the step, as `request` does by its code, it is not chosen
+// again.
+#[inline(always)]
+fn step_at<K: Records>(
+    t: &mut [u8],
+    limits: Limits,
+    desk: u16,
+    location: Location,
+    step: Step,
+) -> Reply
     requires { Admits K.kind (limits_of limits) (words_of_bytes t.old) desk location }
     ensures { Performed K.kind (limits_of limits) desk (step_of step) t.old result t.new }
 {
     match step {
-        Step::Take { screen, position } => take_at::<K>(t, limits, desk, location, screen, position),
+        Step::Take { screen, position } => take_at::<K>(
+            t, limits, desk, location, screen, position,
+        ),
         Step::Drop { screen } => drop_at::<K>(t, limits, desk, location, screen),
-        Step::Swap { position, session } => swap_at::<K>(t, limits, desk, location, position, session),
+        Step::Swap { position, session } => swap_at::<K>(
+            t, limits, desk, location, position, session,
+        ),
         Step::Retire => retire_at::<K>(t, limits, desk, location),
         Step::Collect => collect_at::<K>(t, limits, desk, location),
     }
 }
 
 // A step, in a sound table: its desk is admitted, it is done, and if it is accepted its message number moves on.
-fn step_in<K: Records>(t: &mut [u8], limits: Limits, hall: Hall, message: u16, desk: u16, step: Step) -> Reply
+#[inline(always)]
+fn step_in<K: Records>(
+    t: &mut [u8],
+    limits: Limits,
+    hall: Hall,
+    message: u16,
+    desk: u16,
+    step: Step,
+) -> Reply
     requires { Ok hall ≡ soundness_of K.kind (limits_of limits) (words_of_bytes t.old) }
     ensures { Stepped K.kind (limits_of limits) (desk sends step_of step numbered message) t.old result t.new }
 {
@@ -517,24 +561,17 @@ fn step_in<K: Records>(t: &mut [u8], limits: Limits, hall: Hall, message: u16, d
 }
 
 // A step: the table is asked whether it is sound, and the step is done in its hall.
-pub fn do_step<K: Records>(t: &mut [u8], limits: Limits, message: u16, desk: u16, step: Step) -> Reply
+pub fn do_step<K: Records>(
+    t: &mut [u8],
+    limits: Limits,
+    message: u16,
+    desk: u16,
+    step: Step,
+) -> Reply
     ensures { Stepped K.kind (limits_of limits) (desk sends step_of step numbered message) t.old result t.new }
 {
     let hall = check::<K>(t, limits)?;
     step_in::<K>(t, limits, hall, message, desk, step)
-}
-
-// The step that a code requests; the numbers that its code lacks are ignored. A code outside 1 to 5 is refused with 17.
-fn requested(code: u16, screen: u16, position: u16, session: u16) -> Result<Step, Reason>
-    ensures { IsRequested code screen position session result }
-{
-    Ok(match Code::try_from(code)? {
-        Code::Take => Step::Take { screen, position },
-        Code::Drop => Step::Drop { screen },
-        Code::Swap => Step::Swap { position, session },
-        Code::Retire => Step::Retire,
-        Code::Collect => Step::Collect,
-    })
 }
 
 // The step that a code requests, in a sound table; the numbers that its code lacks are ignored. A code outside 1 to 5 is answered 17, and
@@ -553,6 +590,25 @@ pub fn request<K: Records>(
     requires { Ok hall ≡ soundness_of K.kind (limits_of limits) (words_of_bytes t.old) }
     ensures { Requested K.kind (limits_of limits) (request_for code message desk screen position session) t.old result t.new }
 {
-    let step = requested(code, screen, position, session)?;
-    step_in::<K>(t, limits, hall, message, desk, step)
+    match Code::try_from(code)? {
+        Code::Take => step_in::<K>(
+            t,
+            limits,
+            hall,
+            message,
+            desk,
+            Step::Take { screen, position },
+        ),
+        Code::Drop => step_in::<K>(t, limits, hall, message, desk, Step::Drop { screen }),
+        Code::Swap => step_in::<K>(
+            t,
+            limits,
+            hall,
+            message,
+            desk,
+            Step::Swap { position, session },
+        ),
+        Code::Retire => step_in::<K>(t, limits, hall, message, desk, Step::Retire),
+        Code::Collect => step_in::<K>(t, limits, hall, message, desk, Step::Collect),
+    }
 }
