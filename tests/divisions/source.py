@@ -23,10 +23,11 @@ RENAMED = re.compile(r'^\s*(?:pub )?use\b[^;]*\sas\s', re.M)
 CLAUSE = re.compile(r'\b(?:requires|ensures)(?:\s+\w+)?\s*(?=\{)')
 FUNCTION = re.compile(r'\b(extern\s+"C"\s+)?fn\s+(\w+)')
 CALL = re.compile(r'(\.?)\b(?:(\w+)::)?(\w+)\s*\(')
-KEYWORDS = {'if', 'while', 'match', 'return', 'in'}
+KEYWORDS = {'if', 'while', 'for', 'match', 'return', 'in'}
 NUMBERS = {'u8', 'u16', 'u32', 'u64', 'usize', 'i8', 'i16', 'i32', 'i64', 'isize'}
 BITS = {'count_ones', 'leading_zeros', 'trailing_zeros'}
-METHODS = {'len', 'wrapping_add'}
+# Methods of the compiler and of the library; what a `for` calls of a library's iterator is in the archive, which archive.py reads.
+METHODS = {'len', 'wrapping_add', 'chunks', 'enumerate'}
 
 # A function: its crate, its name, its text from the name to the next function, and whether it is exported to C.
 Function = collections.namedtuple('Function', 'crate name text exported')
