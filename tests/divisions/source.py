@@ -24,7 +24,7 @@ CLAUSE = re.compile(r'\b(?:requires|ensures)(?:\s+\w+)?\s*(?=\{)')
 BRACKETED = re.compile(r'\[[^\]]*\]')
 FUNCTION = re.compile(r'\b(extern\s+"C"\s+)?fn\s+(\w+)')
 CALL = re.compile(r'(\.?)\b(?:(\w+)::)?(\w+)\s*\(')
-KEYWORDS = {'if', 'while', 'match', 'return', 'in', 'let'}
+KEYWORDS = {'if', 'while', 'for', 'match', 'return', 'in', 'let'}
 NUMBERS = {'u8', 'u16', 'u32', 'u64', 'u128', 'usize', 'i8', 'i16', 'i32', 'i64', 'isize'}
 BITS = {'count_ones', 'leading_zeros', 'trailing_zeros'}
 METHODS = {'len', 'wrapping_add'} | BITS
@@ -36,6 +36,8 @@ LIBRARY = {
     'core/src/int/u16.rt': ['from_le_bytes'],
     'core/src/int/u64.rt': ['from_le_bytes'],
     'core/src/int/u128.rt': ['from_le_bytes'],
+    'core/src/iter/base.rt': ['enumerate'],
+    'core/src/iter/slices.rt': ['chunks'],
     'core/src/ops/bounds.rt': ['start_bound', 'end_bound', 'as_ref'],
     'core/src/option.rt': ['unwrap'],
     'core/src/simd/chunks.rt': ['arrays'],
