@@ -95,8 +95,8 @@ fn sound_list(l: &[u8], s: usize, b: usize, n: usize) -> bool
 }
 
 // The first unmarked one of n slots of the list l, from slot a on and around, that holds session x; or n if there is none. The mark of
-// a slot is that of its place among the n. If they pass the end of the list, one test of all slots comes first: usually none holds x. Then they
-// are looked through where they lie, as `find_slot` does: a copy of them for `find_slot` would be no plainer.
+// a slot is that of its place among the n. If they pass the end of the list, one test of all slots comes first: usually none holds x.
+// Then they are looked through where they lie, as `find_slot` does: a copy of them for `find_slot` would be no plainer.
 fn find_around(l: &[u8], s: usize, a: usize, n: usize, m: &[u8], x: u16) -> usize
     requires { (ListFrom s l.now a) × (n ≤ 2 * s) × (length m.now ≡ 16) }
     ensures { result ≡ find_slot x (take n (rotate a (words_of_bytes l.now))) (marks (words_of_bytes m.now)) }
