@@ -63,6 +63,8 @@ SMALL = [
     ('Size::half(a)', f'impl Size {{{HALF}}}', DIVIDES),
     ('Self::half(a)', f'impl Size {{{HALF}}}\nfn half() {{ }}', DIVIDES),
     ('size.half()', f"impl<'a> Size<'a> {{{HALF}}}\nimpl Other {{\n    fn half(self) {{ }}\n}}", DIVIDES),
+    ('each::<Ring>(a)', f'impl Kind for Ring {{{HALF}}}', DIVIDES),
+    ('each::<Ring>(a)', 'impl Kind for Ring {\n    fn half(a: [u8; 2]) -> usize { 1 }\n}', PASSES),
     ('absent(a)', '', 'small::all calls absent, which is not found'),
     ('usize::div_ceil(a, 2)', '', 'small::all calls div_ceil, which is not found'),
     ('u64::to_le_bytes(a)', '', 'small::all calls to_le_bytes, which is not found'),
@@ -92,7 +94,8 @@ pub fn all(a: usize) -> usize
 # The crates around it: small uses other, which uses deep; no crate uses beside.
 SMALL_CRATES = 'small: other\nother: deep\ndeep:\nbeside:\n'
 AROUND = {
-    'other': 'pub fn twice(a: usize) -> usize { 2 * a }\n\npub fn third(a: usize) -> usize { a / 3 }\n',
+    'other': 'pub fn twice(a: usize) -> usize { 2 * a }\n\npub fn third(a: usize) -> usize { a / 3 }\n\n'
+             'pub trait Kind {\n    fn half(a: [u8; 2]) -> usize;\n}\n\npub fn each<K: Kind>(a: usize) -> usize { K::half(a) }\n',
     'deep': 'impl Depth {\n    pub fn quarter(self) -> usize { self.0 / 4 }\n}\n',
     'beside': 'pub fn twice(a: usize) -> usize { a / 2 }\n',
 }

@@ -6,8 +6,9 @@ usage: tests/divisions/source.py FUNCTION ...
 A FUNCTION is named with its crate, as marks::mark_position; CRATE::* means every function that a crate exports to C. The
 sources are crates/ and, of the toolchain's libraries, std::num and the functions of LIBRARY below. Comments and contracts may
 divide: they are not run. A function counts as called where its name is a word of the text, in the same crate or one above it
-(crates.txt), so more may be read than is called; a call of a function that is not found is an error. The last line is
-'divisions in the source: N functions, M divide', and the exit status is 0 only if M is 0.
+(crates.txt), and a method also where its type is: a generic function of a crate below may call it. So more may be read than is
+called; a call of a function that is not found is an error. The last line is 'divisions in the source: N functions, M divide',
+and the exit status is 0 only if M is 0.
 """
 import collections
 import functools
@@ -27,7 +28,8 @@ CALL = re.compile(r'(\.?)\b(?:(\w+)::)?(\w+)\s*\(')
 KEYWORDS = {'if', 'while', 'for', 'match', 'return', 'in', 'let'}
 NUMBERS = {'u8', 'u16', 'u32', 'u64', 'u128', 'usize', 'i8', 'i16', 'i32', 'i64', 'isize'}
 BITS = {'count_ones', 'leading_zeros', 'trailing_zeros'}
-METHODS = {'len', 'wrapping_add'} | BITS
+# copy_from_slice hands on a function by its name, which is not read here: archive.py reads what it becomes.
+METHODS = {'len', 'wrapping_add', 'copy_from_slice'} | BITS
 
 # What the crates call of the toolchain's libraries beside std::num, and what that calls in turn: the functions of each file. Those
 # of BUILT_IN have no body, because the compiler makes them.
@@ -50,8 +52,11 @@ LIBRARY = {
 }
 BUILT_IN = {'as_ptr', 'from_raw_parts', 'unreachable'}
 
-# A function: its crate, its name, its text from the name to the next function, and whether it is exported to C.
-Function = collections.namedtuple('Function', 'crate name text exported')
+BLOCK = re.compile(r'\b(trait|impl)\b([^{;]*)\{')
+
+# A function: its crate, its name, its text from the name to the next function, whether it is exported to C, and the type whose
+# method it is, or ''.
+Function = collections.namedtuple('Function', 'crate name text exported owner')
 
 
 def without_clauses(text):
@@ -73,17 +78,33 @@ def after_closing(text, start):
     sys.exit(f'divisions: a bracket is not closed: {text[start:start + 60]!r}')
 
 
+def blocks_of(text):
+    """The traits and impls of a source: where each begins and ends, which of the two it is, and the type of an impl."""
+    for head in BLOCK.finditer(text):
+        named = re.sub(r'<[^<>]*>', '', head[2].split(' for ')[-1]).split()
+        yield head.end(), after_closing(text, head.end() - 1), head[1], named[0] if named else ''
+
+
+def is_declared(text):
+    """Whether the text of a method, from its name on, ends before it has a body. A semicolon in [u8; 16] ends nothing."""
+    plain = re.sub(r'\[[^\]]*\]', '', text)
+    return ';' in plain.partition('{')[0]
+
+
 def functions_of(crate, text):
     text = COMMENT_OR_LITERAL.sub(' ', text)
     if RENAMED.search(text):
         sys.exit(f'divisions: {crate} renames what it imports')
     text = without_clauses(text)
-    heads = list(FUNCTION.finditer(text))
+    heads, blocks = list(FUNCTION.finditer(text)), list(blocks_of(text))
     for head, end in zip(heads, [following.start() for following in heads[1:]] + [len(text)]):
         body = text[head.end():end]
+        kind, owner = next(((kind, owner) for start, stop, kind, owner in blocks if start <= head.start() < stop), ('', ''))
+        if kind == 'trait' and is_declared(body):
+            body = '{}'  # each impl has its own
         if '{' not in body:
             sys.exit(f'divisions: {crate}::{head[2]} has no body')
-        yield Function(crate, head[2], body, bool(head[1]))
+        yield Function(crate, head[2], body, bool(head[1]), owner if kind == 'impl' else '')
 
 
 def functions_of_library(library):
@@ -97,7 +118,7 @@ def functions_of_library(library):
             # A method that its trait only declares ends in a semicolon.
             if head[2] in names and ';' not in BRACKETED.sub(' ', text[head.end():start]):
                 found.add(head[2])
-                yield Function('std', head[2], text[start:after_closing(text, start)], False)
+                yield Function('std', head[2], text[start:after_closing(text, start)], False, '')
         for name in set(names) - found:
             sys.exit(f'divisions: no function {name} in {file}')
 
@@ -131,6 +152,8 @@ class Sources:
         for function in self.functions:
             if function.crate in self.below(crate):
                 found[function.name].append(function)
+                if function.owner:
+                    found[function.owner].append(function)
         return found
 
     def roots(self, word):

@@ -96,6 +96,7 @@ fn sound_list(l: &[u8], s: usize, b: usize, n: usize) -> bool
 
 // The first unmarked one of n slots of the list l, from slot a on and around, that holds session x; or n if there is none. The mark of
 // a slot is that of its place among the n. If they pass the end of the list, one test of all slots comes first: usually none holds x.
+// Then they are looked through where they lie, as `find_slot` does: a copy of them for `find_slot` would be no plainer.
 fn find_around(l: &[u8], s: usize, a: usize, n: usize, m: &[u8], x: u16) -> usize
     requires { (ListFrom s l.now a) × (n ≤ 2 * s) × (length m.now ≡ 16) }
     ensures { result ≡ find_slot x (take n (rotate a (words_of_bytes l.now))) (marks (words_of_bytes m.now)) }
@@ -125,7 +126,8 @@ fn first_tested(r: &[u8], s: usize) -> usize
     slot_after(s, beginning(r, s), count(r, READY))
 }
 
-// Copies slots of the list l, from slot a on and around, to part: as many as part has words.
+// Copies slots of the list l, from slot a on and around, to part: as many as part has words. This and `write_around` go word by word: each
+// store to the table is one word, which the tests trace.
 fn read_around(part: &mut [u8], l: &[u8], s: usize, a: usize)
     requires { (ListFrom s l.now a) × (length part.old ≤ 2 * (2 * s)) }
     ensures { words_of_bytes part.new ≡ take (length (words_of_bytes part.old)) (rotate a (words_of_bytes l.now)) }
@@ -152,8 +154,8 @@ fn write_around(l: &mut [u8], s: usize, a: usize, part: &[u8])
 }
 
 // Partitions slots of the list l, from slot a on and around, as many as part has words; part is room to work in.
-fn partition_in(l: &mut [u8], s: usize, a: usize, m: &[u8], part: &mut [u8])
-    requires { (ListFrom s l.old a) × (length part.old ≤ 2 * (2 * s)) × (length part.old % 2 ≡ 0) × (length m.now ≡ 16) }
+fn partition_in(l: &mut [u8], s: usize, a: usize, m: &[u8; 16], part: &mut [u8])
+    requires { (ListFrom s l.old a) × (length part.old ≤ 2 * (2 * s)) × (length part.old % 2 ≡ 0) }
     ensures { Parted (words_of_bytes l.old) (marks (words_of_bytes m.now)) a (length (words_of_bytes part.old)) (words_of_bytes l.new) }
 {
     read_around(part, l, s, a);
@@ -163,8 +165,8 @@ fn partition_in(l: &mut [u8], s: usize, a: usize, m: &[u8], part: &mut [u8])
 
 // Of n slots of the list l, from slot a on and around, puts the unmarked ones first, then the marked ones, each group in its order. The
 // mark of a slot is that of its place among the n. If the n slots pass the end of the list, they are copied out and back.
-fn partition_around(l: &mut [u8], s: usize, a: usize, n: usize, m: &[u8])
-    requires { (ListFrom s l.old a) × (n ≤ 2 * s) × (length m.now ≡ 16) }
+fn partition_around(l: &mut [u8], s: usize, a: usize, n: usize, m: &[u8; 16])
+    requires { (ListFrom s l.old a) × (n ≤ 2 * s) }
     ensures { Parted (words_of_bytes l.old) (marks (words_of_bytes m.now)) a n (words_of_bytes l.new) }
 {
     let e = a + n;
@@ -214,7 +216,7 @@ impl Slots for Ring {
     }
 
     // The beginning stays.
-    fn partition_tested(r: &mut [u8], s: usize, m: &[u8]) {
+    fn partition_tested(r: &mut [u8], s: usize, m: &[u8; 16]) {
         let n = count(r, TESTED);
         let a = first_tested(r, s);
         partition_around(&mut r[2 * LIST..2 * (LIST + 2 * s)], s, a, n, m);
@@ -254,7 +256,7 @@ pub fn retire_ring(r: &mut [u8], s: usize) -> Reply
     retire::<Ring>(r, s)
 }
 
-// Collect, on a ring's record: (a) to (d), where the n screens to read, 1 or 2, show x and y.
+// Collect, on a ring's record, where the n screens to read, 1 or 2, show x and y (`collect` of `desk` takes them as a slice).
 // Precondition: the record encodes a desk (`RingEncoded`) and k does not overflow, as in every sound record; the board asks soundness
 // before every step.
 pub fn collect_ring(r: &mut [u8], s: usize, n: usize, x: u16, y: u16) -> u16

@@ -1,4 +1,4 @@
-use Prim.Native.Nat.{◌+◌, ◌≤◌}
+use Prim.Native.Nat.{◌+◌}
 use mathlib.Core.Path.{◌≡◌}
 use lib.ListN.{drop, take}
 use Rattle.rules.specs.Bytes.{words_of_bytes}

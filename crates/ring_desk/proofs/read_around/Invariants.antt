@@ -1,6 +1,5 @@
-use Prim.Native.Nat.{◌≤◌}
 use mathlib.Core.Path.{◌≡◌}
-use lib.ListN.{length, take}
+use lib.ListN.{take}
 use Rattle.rules.specs.Bytes.{words_of_bytes}
 use Rattle.ring_rules.specs.Ring.{rotate}
 use Rattle.ring_desk.proofs.read_around.Given as goal

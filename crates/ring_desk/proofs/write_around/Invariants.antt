@@ -1,7 +1,6 @@
-use Prim.Native.Nat.{◌≤◌}
 use mathlib.Core.List.{◌++◌}
 use mathlib.Core.Path.{◌≡◌}
-use lib.ListN.{drop, length, take}
+use lib.ListN.{drop, take}
 use Rattle.rules.specs.Bytes.{words_of_bytes}
 use Rattle.ring_rules.specs.Ring.{rotate}
 use Rattle.ring_desk.proofs.write_around.Given as goal

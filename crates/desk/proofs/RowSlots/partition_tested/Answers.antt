@@ -4,6 +4,7 @@ use native.Mathlib.Omega.{arith}
 use mathlib.Core.List.{List, ◌++◌}
 use mathlib.Core.Path.{refl, ap, ◌∙◌}
 use lib.ListN.{length}
+use borrow.Author.Rules.{rules}
 use borrow.Rule.Slice.PartMut.{mid_len, put_mid, same_len_mid}
 use Rattle.rules.specs.Bytes.{words_of_bytes}
 use Rattle.rules.specs.Table.{list_offset}
@@ -15,21 +16,21 @@ use Rattle.desk.proofs.RowSlots.partition_tested.Goals as goal
 
 pub slice_bounds-partition-end : goal.slice_bounds-partition-end
 slice_bounds-partition-end c =
-    let lent = c.requires.0 in
+    let lent = c.requires in
     let counts = desk_counts c.args._s (words_of_bytes c.args.r.now) lent.laid.reads in
     omega (arith, lent.whole, lent.laid.reads.room, c.count-a.ensures, c.count.ensures, counts.ready, counts.tested)
 
 pub partition-requires : goal.partition-requires
 partition-requires c =
-    let lent = c.requires.0 in
+    let lent = c.requires in
     let a = list_offset + c.count-a.result in
     let counts = desk_counts c.args._s (words_of_bytes c.args.r.now) lent.laid.reads in
     let wide = mid_len (2 * a) (2 * (a + c.count.result)) c.args.r.now (omega (arith, lent.whole, lent.laid.reads.room, c.count-a.ensures, c.count.ensures, counts.ready, counts.tested)) in
-    (omega (arith, wide, lent.laid.reads.bounded, lent.laid.reads.room, c.count.ensures, counts.tested), omega (arith, wide), c.requires.1)
+    (omega (arith, wide, lent.laid.reads.bounded, lent.laid.reads.room, c.count.ensures, counts.tested), omega (arith, wide), search rules)
 
 pub returns : goal.returns
 returns c =
-    let lent = c.requires.0 in
+    let lent = c.requires in
     let bytes = c.args.r.now in
     let words = words_of_bytes bytes in
     let a = list_offset + c.count-a.result in

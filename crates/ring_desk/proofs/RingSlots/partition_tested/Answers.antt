@@ -4,6 +4,7 @@ use native.Mathlib.Omega.{arith}
 use mathlib.Core.List.{List}
 use mathlib.Core.Path.{◌≡◌, refl, subst, ◌∙◌}
 use lib.ListN.{length}
+use borrow.Author.Rules.{rules}
 use borrow.Rule.Slice.PartMut.{mid_len}
 use Rattle.rules.specs.Bytes.{words_of_bytes}
 use Rattle.rules.specs.Table.{list_offset}
@@ -21,18 +22,17 @@ use Rattle.ring_desk.proofs.RingSlots.partition_tested.Goals.{Start}
 
 -- the list is lent whole
 whole : (o : Start) → 2 * (list_offset + 2 * o.args.s) ≤ length o.args.r.now
-whole o = omega (arith, o.requires.0.whole)
+whole o = omega (arith, o.requires.whole)
 
 pub partition_around-requires : goal.partition_around-requires
 partition_around-requires c =
-    let lent = c.requires.0 in (
+    let lent = c.requires in (
       record {
         bounded = lent.laid.reads.bounded;
         whole = mid_len (2 * list_offset) (2 * (list_offset + 2 * c.args.s)) c.args.r.now (whole (goal.at.partition_around-requires c).Start) ∙ omega arith;
         slot = c.first_tested-a.ensures.1;
       },
       omega (arith, c.count-n.ensures, tested_fits ring ring_laws c.args.s (words_of_bytes c.args.r.now) lent.laid),
-      c.requires.1,
     )
 
 pub returns : goal.returns
@@ -43,10 +43,11 @@ returns c =
     let a = c.first_tested-a.result in
     let n = c.count-n.result in
     let m = words_of_bytes c.args.m.now in
+    let sixteen : length c.args.m.now ≡ 16 = search rules in
     let part = c.partition_around.new.l in
     let most = whole (goal.at.returns c).Start in
     let wide = c.partition_around.auto.l ∙ mid_len (2 * list_offset) (2 * (list_offset + 2 * s)) bytes most in
     let many : length (words_of_bytes part) ≡ 2 * s = omega (arith, length-words part, wide) in
     let parted = subst (λ (slots : List ℕ). Parted slots (marks m) a n (words_of_bytes part)) (lent_words s bytes) c.partition_around.ensures in
-    reads_as s _ _ _ _ _ (partitioned_list s words c.requires.0.laid a n c.count-n.ensures.0 c.first_tested-a.ensures.0 m (words_of_bytes part) (omega (arith, length-words c.args.m.now, c.requires.1)) many parted)
+    reads_as s _ _ _ _ _ (partitioned_list s words c.requires.laid a n c.count-n.ensures.0 c.first_tested-a.ensures.0 m (words_of_bytes part) (omega (arith, length-words c.args.m.now, sixteen)) many parted)
     (words_put list_offset (list_offset + 2 * s) bytes part (omega arith) most wide) refl
