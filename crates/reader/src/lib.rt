@@ -51,8 +51,8 @@ pub struct Format {
     pub limits: Limits,
 }
 
-// The layout of a header and of a record. An enum, with a match in each of four functions: a trait with two impls would be no plainer, since
-// programs and the crates between name an edition by a value, and all of them would be generic.
+// The layout of a header and of a record. An enum, with a match in each of four functions: a trait with two impls would be no plainer,
+// since programs and the crates between name an edition by a value, and all of them would be generic.
 #[derive(Clone, Copy)]
 pub enum Version {
     // P, c, L; every record has its desk.
