@@ -51,7 +51,8 @@ pub struct Format {
     pub limits: Limits,
 }
 
-// The layout of a header and of a record.
+// The layout of a header and of a record. An enum, with a match in each of four functions: a trait with two impls would be no plainer,
+// since programs and the crates between name an edition by a value, and all of them would be generic.
 #[derive(Clone, Copy)]
 pub enum Version {
     // P, c, L; every record has its desk.
@@ -98,8 +99,8 @@ pub fn archive_edition(limits: Limits) -> Edition
     edition_for(Version::One, Padding::Allowed, limits)
 }
 
-// What ends a reading: the code that its line shows (0 if no code was read), the reason, and the offset of the first byte of the number that
-// is refused (0 if none is).
+// What ends a reading: the code that its line shows (0 if no code was read), the reason, and the offset of the first byte of the number
+// that is refused (0 if none is).
 #[derive(Clone, Copy)]
 pub struct Refusal {
     pub code: u16,
@@ -214,8 +215,8 @@ impl<'a> Cursor<'a> {
         Ok(value as u16)
     }
 
-    // Reads a number: groups of seven bits, lowest first; the top bit of a byte (128) says that another follows. A refused number leaves the
-    // cursor where it was.
+    // Reads a number: groups of seven bits, lowest first; the top bit of a byte (128) says that another follows. A refused number leaves
+    // the cursor where it was.
     pub fn read_number(&mut self, limit: u16) -> Result<u16, Refusal>
         ensures value { number_result result self.new.at ≡ (format_of self.old.format).read_number limit self.old.sheet.now self.old.at }
         ensures same { SameSheet self.old self.new }
