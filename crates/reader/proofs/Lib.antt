@@ -1,4 +1,3 @@
 -- Laws that the proofs cite.
 pub mod NumberLaws
-pub mod Answers
 pub mod Laws

@@ -1,35 +1,41 @@
 -- For each result of the readers, the result of the rules' readers: the value and the next offset, or what ends the reading.
-use Rattle.std.specs.Prelude.{ℕ}
+use Rattle.std.specs.Prelude.{◌≡◌, ℕ, false, Option, Some, None, Result, Ok, Err}
 use Rattle.rules.specs.Hall.{Hall, hall_of}
 use Rattle.rules.specs.Numbers.{Padding, Parsed, Refusal, allowed, barred, parsed, refusal_of, refused}
 use Rattle.sheet_rules.specs.Edition1.{Format, format_for}
 use Rattle.sheet_rules.specs.Edition2.{Version, edition_for, version1, version2}
-use Rattle.sheet_rules.specs.Sheet.{Carried, Edition, Record, last_desk, no_desk, record_for}
+use Rattle.sheet_rules.specs.Sheet.{Carried, Edition, Record, is_code, last_desk, no_desk, record_for}
+use Rattle.codes.specs.Code.{code_of}
+use Rattle.codes.specs.declared.Code.{Code}
 use Rattle.limits.specs.Room.{limits_of}
+use Rattle.reply.specs.Answer.{number_of}
 use Rattle.reader.specs.declared.Padding.{Padding as ReaderPadding}
 use Rattle.reader.specs.declared.Padding.TheVariants.{Allowed, Barred}
 use Rattle.reader.specs.declared.Refusal.{Refusal as ReaderRefusal}
-use Rattle.reader.specs.declared.Number.{Number}
-use Rattle.reader.specs.declared.Number.TheVariants.{Refused, Value}
-use Rattle.reader.specs.declared.ParsedRecord.{ParsedRecord}
-use Rattle.reader.specs.declared.ParsedRecord.TheVariants.{Refused as RefusedRecord, Whole as WholeRecord}
 use Rattle.reader.specs.declared.Format.{Format as ReaderFormat}
 use Rattle.reader.specs.declared.Version.{Version as ReaderVersion}
 use Rattle.reader.specs.declared.Version.TheVariants.{One, Two}
 use Rattle.reader.specs.declared.Edition.{Edition as ReaderEdition}
-use Rattle.reader.specs.declared.Carried.{Carried as CarriedOver}
-use Rattle.reader.specs.declared.Carried.TheVariants.{LastDesk, NoDesk}
 use Rattle.reader.specs.declared.Record.{Record as ReadRecord}
 use Rattle.reader.specs.declared.Header.{Header}
-use Rattle.reader.specs.declared.ParsedHeader.{ParsedHeader}
-use Rattle.reader.specs.declared.ParsedHeader.TheVariants.{Refused as RefusedHeader, Whole as WholeHeader}
+use Rattle.reader.specs.declared.Cursor.{Cursor}
 
 abbrev pub reason_of : ReaderRefusal → Refusal
-reason_of reason = refusal_of reason.code reason.number reason.offset
+reason_of refusal = refusal_of refusal.code (number_of refusal.reason) refusal.offset
 
-abbrev pub number_result : Number → Parsed ℕ
-number_result (Value value next) = parsed value next
-number_result (Refused reason) = refused (reason_of reason)
+-- A value that a cursor read, and the offset that it is at then.
+abbrev pub parsed_at : {T A : Type 0} → (T → A) → Result T ReaderRefusal → ℕ → Parsed A
+parsed_at value_of (Ok value) next = parsed (value_of value) next
+parsed_at value_of (Err refusal) next = refused (reason_of refusal)
+
+abbrev pub number_result : Result ℕ ReaderRefusal → ℕ → Parsed ℕ
+number_result (Ok value) next = parsed value next
+number_result (Err refusal) next = refused (reason_of refusal)
+
+-- The step with a code; or no step has it, and it is refused with 17.
+abbrev pub CodeRead : ℕ → Result Code ReaderRefusal → Type 0
+CodeRead number (Ok code) = code_of code ≡ number
+CodeRead number (Err refusal) = (reason_of refusal ≡ refusal_of number 17 0) × (is_code number ≡ false)
 
 -- The rules' format for a reader's format.
 abbrev pub padding_of : ReaderPadding → Padding
@@ -47,20 +53,28 @@ version_of Two = version2
 abbrev pub edition_of : ReaderEdition → Edition
 edition_of edition = edition_for (version_of edition.version) (format_of edition.format)
 
-abbrev pub carried_of : CarriedOver → Carried
-carried_of NoDesk = no_desk
-carried_of (LastDesk desk) = last_desk desk
+-- What a record leaves for the next: its desk, if there is a record before.
+abbrev pub carried_of : Option ℕ → Carried
+carried_of None = no_desk
+carried_of (Some desk) = last_desk desk
 
 abbrev pub record_of : ReadRecord → Record
-record_of entry = record_for entry.code entry.desk entry.screen entry.position entry.session
+record_of entry = record_for (code_of entry.code) entry.desk entry.screen entry.position entry.session
 
-abbrev pub record_result : ParsedRecord → Parsed Record
-record_result (WholeRecord entry next) = parsed (record_of entry) next
-record_result (RefusedRecord reason) = refused (reason_of reason)
+-- A record and the offset after it.
+abbrev pub record_result : Result (ReadRecord × ℕ) ReaderRefusal → Parsed Record
+record_result (Ok found) = parsed (record_of found.0) found.1
+record_result (Err refusal) = refused (reason_of refusal)
 
 abbrev pub header_of : Header → Hall
 header_of header = hall_of header.desks header.screens header.positions
 
-abbrev pub header_result : ParsedHeader → Parsed Hall
-header_result (WholeHeader header next) = parsed (header_of header) next
-header_result (RefusedHeader reason) = refused (reason_of reason)
+-- A header and the offset after it.
+abbrev pub header_result : Result (Header × ℕ) ReaderRefusal → Parsed Hall
+header_result (Ok found) = parsed (header_of found.0) found.1
+header_result (Err refusal) = refused (reason_of refusal)
+
+-- A cursor after a reading: in the same sheet, whose numbers are read as before.
+pub record SameSheet (old new : Cursor) : Type 0 where
+  pub sheet : new.sheet ≡ old.sheet
+  pub format : new.format ≡ old.format

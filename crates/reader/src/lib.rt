@@ -1,15 +1,20 @@
 #![tactic(auto)]
 
-ghost use Rattle.std.specs.Prelude.{◌≡◌, ◌≤◌, ◌<◌};
-ghost use Rattle.rules.specs.Numbers.{allowed, allows as allows_padded, barred, bind, judge as judged, refusal, refusal_of};
-ghost use Rattle.sheet_rules.specs.Edition1.{decode_field, decode_fields, decode_header, decode_record, decode_rest, edition1, format_for, with_code};
-ghost use Rattle.sheet_rules.specs.Edition2.{check_desk, decode_coded, decode_header2, decode_record2, desk_before, edition2, edition_for, expect_number, repeats as repeats_desk};
+ghost use Rattle.std.specs.Prelude.{◌≡◌, ℕ, OnErr};
+ghost use Rattle.rules.specs.Numbers.{allowed, allows as allows_padded, barred, judge as judged, refusal, refusal_of};
+ghost use Rattle.sheet_rules.specs.Edition1.{decode_field, decode_fields, decode_header, decode_record, decode_rest, edition1, format_for};
+ghost use Rattle.sheet_rules.specs.Edition2.{check_desk, decode_coded, decode_header2, decode_record2, decode_shorthand, decode_written_out, desk_before, edition2, edition_for, expect_number, repeats as repeats_desk};
 ghost use Rattle.sheet_rules.specs.Sheet.{begin_sheet, follows as follows_code};
+ghost use Rattle.codes.specs.Code.{code_of};
+ghost use Rattle.fields.specs.Field.{column_of};
 ghost use Rattle.limits.specs.Room.{limits_of};
-ghost use Rattle.reader.specs.Results.{carried_of, edition_of, format_of, header_result, number_result, padding_of, reason_of, record_result, version_of};
+ghost use Rattle.reply.specs.Answer.{number_of};
+ghost use Rattle.reader.specs.Results.{CodeRead, SameSheet, carried_of, edition_of, format_of, header_of, header_result, number_result, padding_of, parsed_at, reason_of, record_of, record_result, version_of};
 
-use fields::{DESK, POSITION, SCREEN, SESSION, follows};
+use codes::Code;
+use fields::{Field, follows};
 use limits::Limits;
+use reply::Reason;
 
 // The most bytes of a sheet.
 pub const MAX_BYTES: usize = 65536;
@@ -21,10 +26,22 @@ pub const READ_BYTES: usize = MAX_BYTES + 1;
 const MAX_NUMBER: u16 = 65535;
 
 // Whether padded numbers, those with a zero group at the high end, are accepted.
-#[derive(Clone, Copy)]
+#[derive(Clone, Copy, PartialEq, Eq)]
 pub enum Padding {
     Allowed,
     Barred,
+}
+
+impl Padding {
+    // Whether a number that is padded, or is not, is accepted.
+    fn allows(self, padded: bool) -> bool
+        ensures { result ≡ allows_padded (padding_of self) padded }
+    {
+        match self {
+            Padding::Allowed => true,
+            Padding::Barred => !padded,
+        }
+    }
 }
 
 // How numbers are read, and the limits of the room: a session is read against the room's largest.
@@ -55,11 +72,8 @@ fn edition_for(version: Version, padding: Padding, limits: Limits) -> Edition
     ensures { edition_of result ≡ edition_for (version_of version) (format_for (padding_of padding) (limits_of limits)) }
 {
     Edition {
-        version: version,
-        format: Format {
-            padding: padding,
-            limits: limits,
-        },
+        version,
+        format: Format { padding, limits },
     }
 }
 
@@ -84,350 +98,63 @@ pub fn archive_edition(limits: Limits) -> Edition
     edition_for(Version::One, Padding::Allowed, limits)
 }
 
-// What ends a reading: the code that its line shows (0 if no code was read), the reply number, and the offset of the first byte of the number
-// that is refused (0 if none is).
+// What ends a reading: the code that its line shows (0 if no code was read), the reason, and the offset of the first byte of the number that
+// is refused (0 if none is).
 #[derive(Clone, Copy)]
 pub struct Refusal {
     pub code: u16,
-    pub number: u16,
+    pub reason: Reason,
     pub offset: usize,
 }
 
-// The reply numbers. 15: the sheet stops before the number's end.
-const ENDS: u16 = 15;
+// A refusal that shows no offset, where no code was read.
+impl From<Reason> for Refusal {
+    ghost from_gives = { λ reason refusal. reason_of refusal ≡ refusal_of 0 (number_of reason) 0 };
 
-// 16: the number takes more than three bytes, or is larger than its limit.
-const TOO_LARGE: u16 = 16;
-
-// 17: no step has this code. (`reply::Reply::NoCode` has the same number, for records that were not read from a sheet.)
-const NO_CODE: u16 = 17;
-
-// 18: the sheet is too long.
-pub const TOO_LONG: u16 = 18;
-
-// 19: the number is padded.
-const PADDED: u16 = 19;
-
-// 20: a shorthand code in the first record, or a desk written out though it is the one before.
-const WRONG_DESK: u16 = 20;
-
-// 21: not a sheet of edition 2.
-const WRONG_EDITION: u16 = 21;
-
-// The refusal with a reply number that shows no offset: 1 to 3, 17, 18, 20 and 22. No code was read; `refuse_record` puts one in.
-pub fn refuse_with(number: u16) -> Refusal
-    ensures { reason_of result ≡ refusal_of 0 number 0 }
-{
-    Refusal {
-        code: 0,
-        number: number,
-        offset: 0,
+    fn from(reason: Reason) -> Refusal {
+        Refusal {
+            code: 0,
+            reason,
+            offset: 0,
+        }
     }
 }
 
-// A number of a sheet and the offset after it, or why it is refused.
-#[derive(Clone, Copy)]
-pub enum Number {
-    Value(u16, usize),
-    Refused(Refusal),
-}
+impl Refusal {
+    // The refusal of the number at an offset, where no code was read.
+    fn at(reason: Reason, offset: usize) -> Refusal
+        ensures { reason_of result ≡ refusal_of 0 (number_of reason) offset }
+    {
+        Refusal {
+            code: 0,
+            reason,
+            offset,
+        }
+    }
 
-// The refusal of the number at an offset (21 shows none, so 0), with code 0; `refuse_record` puts the code of a record.
-fn refuse(number: u16, at: usize) -> Number
-    ensures { number_result result ≡ refusal 0 number at }
-{
-    Number::Refused(Refusal {
-        code: 0,
-        number: number,
-        offset: at,
-    })
-}
-
-// Whether a number that is padded, or is not, is accepted.
-fn allows(padding: Padding, padded: bool) -> bool
-    ensures { result ≡ allows_padded (padding_of padding) padded }
-{
-    match padding {
-        Padding::Allowed => true,
-        Padding::Barred => !padded,
+    // The same refusal in a record whose code was read.
+    fn in_record(self, code: u16) -> Refusal
+        ensures { reason_of result ≡ refusal_of code (number_of self.reason) self.offset }
+    {
+        Refusal { code, ..self }
     }
 }
 
-// A number whose last byte was read: refused if it is over the limit, and then if it is padded and that is barred.
-fn judge(value: u32, padded: bool, at: usize, next: usize, padding: Padding, limit: u16) -> Number
-    ensures { number_result result ≡ judged (padding_of padding) limit at value padded next }
+// The step with a code that was read.
+fn step(code: u16) -> Result<Code, Refusal>
+    ensures { CodeRead code result }
 {
-    if (limit as u32) < value {
-        return refuse(TOO_LARGE, at);
-    }
-    if !allows(padding, padded) {
-        return refuse(PADDED, at);
-    }
-    Number::Value(value as u16, next)
-}
-
-// A byte as a 32-bit number.
-fn wide(byte: u8) -> u32
-    ensures { result ≡ byte }
-{
-    byte as u32
-}
-
-// Reads the number at an offset: groups of seven bits, lowest first; the top bit of a byte (128) says that another follows.
-pub fn read_number(sheet: &[u8], at: usize, format: Format, limit: u16) -> Number
-    ensures { number_result result ≡ (format_of format).read_number limit sheet.now at }
-{
-    let padding = format.padding;
-    if sheet.len() <= at {
-        return refuse(ENDS, at);
-    }
-    let first = wide(sheet[at]);
-    if first < 128 {
-        return judge(first, false, at, at + 1, padding, limit);
-    }
-    if sheet.len() <= at + 1 {
-        return refuse(ENDS, at);
-    }
-    let second = wide(sheet[at + 1]);
-    if second < 128 {
-        return judge(
-            first % 128 + 128 * second,
-            second == 0,
-            at,
-            at + 2,
-            padding,
-            limit,
-        );
-    }
-    if sheet.len() <= at + 2 {
-        return refuse(ENDS, at);
-    }
-    let third = wide(sheet[at + 2]);
-    if third < 128 {
-        return judge(
-            first % 128 + 128 * (second % 128 + 128 * third),
-            third == 0,
-            at,
-            at + 3,
-            padding,
-            limit,
-        );
-    }
-    refuse(TOO_LARGE, at)
-}
-
-// Reads a field that follows the code; one that does not is 0 and has no byte.
-// Precondition: the code is one of the five, as for `follows`.
-fn read_field(
-    sheet: &[u8],
-    at: usize,
-    format: Format,
-    code: u16,
-    field: usize,
-    limit: u16,
-) -> Number
-    requires { (1 ≤ code) × (code ≤ 5) × (field < 4) }
-    ensures { number_result result ≡ decode_field (format_of format).read_number (follows_code code field) limit sheet.now at }
-{
-    if follows(code, field) {
-        return read_number(sheet, at, format, limit);
-    }
-    Number::Value(0, at)
+    Code::try_from(code).map_err(|reason| Refusal::from(reason).in_record(code))
 }
 
 // A record of a sheet. A field that does not follow the code is 0.
 #[derive(Clone, Copy)]
 pub struct Record {
-    pub code: u16,
+    pub code: Code,
     pub desk: u16,
     pub screen: u16,
     pub position: u16,
     pub session: u16,
-}
-
-// What a record leaves for the next: its desk. Before the first record there is none.
-#[derive(Clone, Copy)]
-pub enum Carried {
-    NoDesk,
-    LastDesk(u16),
-}
-
-// A record and the offset after it, or what ends the reading.
-#[derive(Clone, Copy)]
-pub enum ParsedRecord {
-    Whole(Record, usize),
-    Refused(Refusal),
-}
-
-// The refusal of a record whose code was read.
-fn refuse_record(code: u16, reason: Refusal) -> ParsedRecord
-    ensures { record_result result ≡ refusal code reason.number reason.offset }
-{
-    ParsedRecord::Refused(Refusal {
-        code: code,
-        number: reason.number,
-        offset: reason.offset,
-    })
-}
-
-// The refusal of a record whose code no step has.
-fn refuse_code(code: u16) -> ParsedRecord
-    ensures { record_result result ≡ refusal code 17 0 }
-{
-    refuse_record(code, refuse_with(NO_CODE))
-}
-
-// Reads the fields after the desk.
-// Precondition: the code is one of the five, as for `follows`.
-fn read_rest(sheet: &[u8], at: usize, format: Format, code: u16, desk: u16) -> ParsedRecord
-    requires { (1 ≤ code) × (code ≤ 5) }
-    ensures { record_result result ≡ with_code code (decode_rest (format_of format) code desk sheet.now at) }
-{
-    match read_field(sheet, at, format, code, SCREEN, MAX_NUMBER) {
-        Number::Refused(reason) => refuse_record(code, reason),
-        Number::Value(screen, after_screen) => match read_field(
-            sheet,
-            after_screen,
-            format,
-            code,
-            POSITION,
-            MAX_NUMBER,
-        ) {
-            Number::Refused(reason) => refuse_record(code, reason),
-            Number::Value(position, after_position) => match read_field(
-                sheet,
-                after_position,
-                format,
-                code,
-                SESSION,
-                format.limits.sessions,
-            ) {
-                Number::Refused(reason) => refuse_record(code, reason),
-                Number::Value(session, next) => ParsedRecord::Whole(
-                    Record {
-                        code: code,
-                        desk: desk,
-                        screen: screen,
-                        position: position,
-                        session: session,
-                    },
-                    next,
-                ),
-            },
-        },
-    }
-}
-
-// Reads the fields of a record whose code was read.
-// Precondition: the code is one of the five, as for `follows`.
-fn read_fields(sheet: &[u8], at: usize, format: Format, code: u16) -> ParsedRecord
-    requires { (1 ≤ code) × (code ≤ 5) }
-    ensures { record_result result ≡ with_code code (decode_fields (format_of format) code sheet.now at) }
-{
-    match read_field(sheet, at, format, code, DESK, MAX_NUMBER) {
-        Number::Refused(reason) => refuse_record(code, reason),
-        Number::Value(desk, after_desk) => read_rest(sheet, after_desk, format, code, desk),
-    }
-}
-
-// Reads a record of edition 1: its code, and then its fields.
-fn read_record_1(sheet: &[u8], at: usize, format: Format) -> ParsedRecord
-    ensures { record_result result ≡ decode_record (format_of format) sheet.now at }
-{
-    match read_number(sheet, at, format, MAX_NUMBER) {
-        Number::Refused(reason) => ParsedRecord::Refused(reason),
-        Number::Value(code, after_code) => {
-            if code < 1 {
-                return refuse_code(code);
-            }
-            if 5 < code {
-                return refuse_code(code);
-            }
-            read_fields(sheet, after_code, format, code)
-        }
-    }
-}
-
-// Whether a desk is that of the record before.
-pub fn repeats(carried: Carried, desk: u16) -> bool
-    ensures { result ≡ repeats_desk (carried_of carried) desk }
-{
-    match carried {
-        Carried::NoDesk => false,
-        Carried::LastDesk(last) => last == desk,
-    }
-}
-
-// The desk that a shorthand code means. (Before the first record there is none; `check_desk` refuses a record that is read with this 0.)
-fn desk_before(carried: Carried) -> u16
-    ensures { result ≡ desk_before (carried_of carried) }
-{
-    match carried {
-        Carried::NoDesk => 0,
-        Carried::LastDesk(desk) => desk,
-    }
-}
-
-// A record of edition 2 whose fields were read: refused unless it has a shorthand code exactly if its desk is that of the record before.
-fn check_desk(shorthand: bool, carried: Carried, code: u16, fields: ParsedRecord) -> ParsedRecord
-    ensures { record_result result ≡ with_code code (bind (record_result fields) (check_desk shorthand (carried_of carried))) }
-{
-    match fields {
-        ParsedRecord::Refused(reason) => refuse_record(code, reason),
-        ParsedRecord::Whole(entry, next) => {
-            if repeats(carried, entry.desk) == shorthand {
-                return ParsedRecord::Whole(entry, next);
-            }
-            refuse_record(code, refuse_with(WRONG_DESK))
-        }
-    }
-}
-
-// Reads the rest of a record of edition 2 whose code was read.
-fn read_coded(sheet: &[u8], at: usize, format: Format, carried: Carried, code: u16) -> ParsedRecord
-    ensures { record_result result ≡ decode_coded (format_of format) (carried_of carried) code sheet.now at }
-{
-    if code < 1 {
-        return refuse_code(code);
-    }
-    if code <= 5 {
-        return check_desk(false, carried, code, read_fields(sheet, at, format, code));
-    }
-    if code < 9 {
-        return refuse_code(code);
-    }
-    if 13 < code {
-        return refuse_code(code);
-    }
-    let stands_for = code - 8;
-    check_desk(
-        true,
-        carried,
-        stands_for,
-        read_rest(sheet, at, format, stands_for, desk_before(carried)),
-    )
-}
-
-// Reads a record of edition 2, given what the record before left: its code, and then its fields.
-fn read_record_2(sheet: &[u8], at: usize, format: Format, carried: Carried) -> ParsedRecord
-    ensures { record_result result ≡ decode_record2 (format_of format) (carried_of carried) sheet.now at }
-{
-    match read_number(sheet, at, format, MAX_NUMBER) {
-        Number::Refused(reason) => ParsedRecord::Refused(reason),
-        Number::Value(code, after_code) => read_coded(sheet, after_code, format, carried, code),
-    }
-}
-
-// Reads the record at an offset, given what the record before left.
-pub fn read_record(sheet: &[u8], at: usize, edition: Edition, carried: Carried) -> ParsedRecord
-    ensures { record_result result ≡ (edition_of edition).decode_record (carried_of carried) sheet.now at }
-{
-    let format = edition.format;
-    let version = edition.version;
-    match version {
-        Version::One => read_record_1(sheet, at, format),
-        Version::Two => read_record_2(sheet, at, format, carried),
-    }
 }
 
 // The header of a sheet: P, c and L.
@@ -438,92 +165,248 @@ pub struct Header {
     pub positions: u16,
 }
 
-// The header and the offset after it, or what ends the reading.
-#[derive(Clone, Copy)]
-pub enum ParsedHeader {
-    Whole(Header, usize),
-    Refused(Refusal),
+// Whether a desk is that of the record before, if there is one.
+pub fn repeats(carried: Option<u16>, desk: u16) -> bool
+    ensures { result ≡ repeats_desk (carried_of carried) desk }
+{
+    carried == Some(desk)
 }
 
-// Reads P, c and L at an offset: the header of edition 1, and the end of that of edition 2.
-fn read_hall(sheet: &[u8], at: usize, format: Format) -> ParsedHeader
-    ensures { header_result result ≡ decode_header (format_of format).read_number sheet.now at }
+// The desk that a shorthand code means. (Before the first record there is none; `check_desk` refuses a record that is read with this 0.)
+fn desk_before(carried: Option<u16>) -> u16
+    ensures { result ≡ desk_before (carried_of carried) }
 {
-    match read_number(sheet, at, format, MAX_NUMBER) {
-        Number::Refused(reason) => ParsedHeader::Refused(reason),
-        Number::Value(desks, after_desks) => match read_number(
-            sheet,
-            after_desks,
-            format,
-            MAX_NUMBER,
-        ) {
-            Number::Refused(reason) => ParsedHeader::Refused(reason),
-            Number::Value(screens, after_screens) => match read_number(
-                sheet,
-                after_screens,
-                format,
-                MAX_NUMBER,
-            ) {
-                Number::Refused(reason) => ParsedHeader::Refused(reason),
-                Number::Value(positions, next) => ParsedHeader::Whole(
-                    Header {
-                        desks: desks,
-                        screens: screens,
-                        positions: positions,
-                    },
-                    next,
-                ),
-            },
-        },
+    carried.unwrap_or(0)
+}
+
+// A record of edition 2 whose fields were read: refused unless it has a shorthand code exactly if its desk is that of the record before.
+fn check_desk(shorthand: bool, carried: Option<u16>, entry: Record) -> Result<Record, Refusal>
+    ensures { (next : ℕ) → parsed_at record_of result next ≡ check_desk shorthand (carried_of carried) (record_of entry) next }
+{
+    if repeats(carried, entry.desk) != shorthand {
+        return Err(Refusal::from(Reason::WrongDesk));
     }
+    Ok(entry)
 }
 
-// Reads a number that must have one value.
-fn expect_number(sheet: &[u8], at: usize, format: Format, expected: u16) -> Number
-    ensures { number_result result ≡ expect_number (format_of format).read_number expected sheet.now at }
-{
-    match read_number(sheet, at, format, MAX_NUMBER) {
-        Number::Refused(reason) => Number::Refused(reason),
-        Number::Value(value, next) => {
-            if value == expected {
-                return Number::Value(value, next);
+// A sheet, how its numbers are read, and the offset of what is read next.
+#[derive(Clone, Copy)]
+pub struct Cursor<'a> {
+    pub sheet: &'a [u8],
+    pub format: Format,
+    pub at: usize,
+}
+
+impl<'a> Cursor<'a> {
+    // A number whose last byte was read: refused if it is over the limit, and then if it is padded and that is barred.
+    fn judge(&mut self, value: u32, padded: bool, next: usize, limit: u16) -> Result<u16, Refusal>
+        ensures value { number_result result self.new.at ≡ judged (padding_of self.old.format.padding) limit self.old.at value padded next }
+        ensures same { SameSheet self.old self.new }
+        ensures refused { OnErr result (self.new ≡ self.old) }
+    {
+        if u32::from(limit) < value {
+            return Err(Refusal::at(Reason::TooLarge, self.at));
+        }
+        if !self.format.padding.allows(padded) {
+            return Err(Refusal::at(Reason::Padded, self.at));
+        }
+        self.at = next;
+        Ok(value as u16)
+    }
+
+    // Reads a number: groups of seven bits, lowest first; the top bit of a byte (128) says that another follows. A refused number leaves the
+    // cursor where it was.
+    pub fn read_number(&mut self, limit: u16) -> Result<u16, Refusal>
+        ensures value { number_result result self.new.at ≡ (format_of self.old.format).read_number limit self.old.sheet.now self.old.at }
+        ensures same { SameSheet self.old self.new }
+        ensures refused { OnErr result (self.new ≡ self.old) }
+    {
+        let mut value = 0;
+        let mut next = self.at;
+        for weight in [1, 128, 128 * 128] {
+            if self.sheet.len() <= next {
+                return Err(Refusal::at(Reason::Ends, self.at));
             }
-            refuse(WRONG_EDITION, 0)
+            let byte = u32::from(self.sheet[next]);
+            next += 1;
+            value += weight * (byte % 128);
+            if byte < 128 {
+                return self.judge(value, weight != 1 && byte == 0, next, limit);
+            }
+        }
+        Err(Refusal::at(Reason::TooLarge, self.at))
+    }
+
+    // Reads a field that follows the code; one that does not is 0 and has no byte.
+    fn read_field(&mut self, code: Code, field: Field, limit: u16) -> Result<u16, Refusal>
+        ensures value { number_result result self.new.at ≡ decode_field (format_of self.old.format).read_number (follows_code (code_of code) (column_of field)) limit self.old.sheet.now self.old.at }
+        ensures same { SameSheet self.old self.new }
+    {
+        if follows(code, field) {
+            self.read_number(limit)
+        } else {
+            Ok(0)
+        }
+    }
+
+    // Reads the fields after the desk.
+    fn read_rest(&mut self, code: Code, desk: u16) -> Result<Record, Refusal>
+        ensures value { parsed_at record_of result self.new.at ≡ decode_rest (format_of self.old.format) (code_of code) desk self.old.sheet.now self.old.at }
+        ensures same { SameSheet self.old self.new }
+    {
+        let screen = self.read_field(code, Field::Screen, MAX_NUMBER)?;
+        let position = self.read_field(code, Field::Position, MAX_NUMBER)?;
+        let session = self.read_field(code, Field::Session, self.format.limits.sessions)?;
+        Ok(Record {
+            code,
+            desk,
+            screen,
+            position,
+            session,
+        })
+    }
+
+    // Reads the fields of a record whose code was read.
+    fn read_fields(&mut self, code: Code) -> Result<Record, Refusal>
+        ensures value { parsed_at record_of result self.new.at ≡ decode_fields (format_of self.old.format) (code_of code) self.old.sheet.now self.old.at }
+        ensures same { SameSheet self.old self.new }
+    {
+        let desk = self.read_field(code, Field::Desk, MAX_NUMBER)?;
+        self.read_rest(code, desk)
+    }
+
+    // Reads a record of edition 1: its code, and then its fields.
+    #[tactic(auto, unfolding(sheet_rules::specs::Edition1::decode_record))]
+    fn read_record_1(&mut self) -> Result<Record, Refusal>
+        ensures { parsed_at record_of result self.new.at ≡ decode_record (format_of self.old.format) self.old.sheet.now self.old.at }
+    {
+        let number = self.read_number(MAX_NUMBER)?;
+        let fields = self.read_fields(step(number)?);
+        fields.map_err(|refusal| refusal.in_record(number))
+    }
+
+    // Reads the fields of a record with a shorthand code.
+    fn read_shorthand(&mut self, carried: Option<u16>, code: Code) -> Result<Record, Refusal>
+        ensures { parsed_at record_of result self.new.at ≡ decode_shorthand (format_of self.old.format) (carried_of carried) (code_of code) self.old.sheet.now self.old.at }
+    {
+        let entry = self.read_rest(code, desk_before(carried))?;
+        check_desk(true, carried, entry)
+    }
+
+    // Reads the fields of a record of edition 2 with its desk written out.
+    fn read_written_out(&mut self, carried: Option<u16>, code: Code) -> Result<Record, Refusal>
+        ensures { parsed_at record_of result self.new.at ≡ decode_written_out (format_of self.old.format) (carried_of carried) (code_of code) self.old.sheet.now self.old.at }
+    {
+        let entry = self.read_fields(code)?;
+        check_desk(false, carried, entry)
+    }
+
+    // Reads the rest of a record of edition 2 whose code was read.
+    fn read_coded(&mut self, carried: Option<u16>, number: u16) -> Result<Record, Refusal>
+        ensures { parsed_at record_of result self.new.at ≡ decode_coded (format_of self.old.format) (carried_of carried) number self.old.sheet.now self.old.at }
+    {
+        match number {
+            9..=13 => {
+                let stands_for = number - 8;
+                self.read_shorthand(carried, step(stands_for)?)
+                    .map_err(|refusal| refusal.in_record(stands_for))
+            }
+            _ => self
+                .read_written_out(carried, step(number)?)
+                .map_err(|refusal| refusal.in_record(number)),
+        }
+    }
+
+    // Reads a record of edition 2, given what the record before left: its code, and then its fields.
+    #[tactic(auto, unfolding(sheet_rules::specs::Edition2::decode_record2))]
+    fn read_record_2(&mut self, carried: Option<u16>) -> Result<Record, Refusal>
+        ensures { parsed_at record_of result self.new.at ≡ decode_record2 (format_of self.old.format) (carried_of carried) self.old.sheet.now self.old.at }
+    {
+        let code = self.read_number(MAX_NUMBER)?;
+        self.read_coded(carried, code)
+    }
+
+    // Reads P, c and L: the header of edition 1, and the end of that of edition 2.
+    #[tactic(auto, unfolding(sheet_rules::specs::Edition1::decode_header))]
+    fn read_hall(&mut self) -> Result<Header, Refusal>
+        ensures { parsed_at header_of result self.new.at ≡ decode_header (format_of self.old.format).read_number self.old.sheet.now self.old.at }
+    {
+        let desks = self.read_number(MAX_NUMBER)?;
+        let screens = self.read_number(MAX_NUMBER)?;
+        let positions = self.read_number(MAX_NUMBER)?;
+        Ok(Header {
+            desks,
+            screens,
+            positions,
+        })
+    }
+
+    // Reads a number that must have one value.
+    fn expect_number(&mut self, expected: u16) -> Result<u16, Refusal>
+        ensures value { number_result result self.new.at ≡ expect_number (format_of self.old.format).read_number expected self.old.sheet.now self.old.at }
+        ensures same { SameSheet self.old self.new }
+    {
+        let value = self.read_number(MAX_NUMBER)?;
+        if value != expected {
+            return Err(Refusal::from(Reason::WrongEdition));
+        }
+        Ok(value)
+    }
+
+    // Reads a header of edition 2: 0, 2, and then P, c and L.
+    #[tactic(auto, unfolding(sheet_rules::specs::Edition2::decode_header2))]
+    fn read_header_2(&mut self) -> Result<Header, Refusal>
+        ensures { parsed_at header_of result self.new.at ≡ decode_header2 (format_of self.old.format).read_number self.old.sheet.now self.old.at }
+    {
+        self.expect_number(0)?;
+        self.expect_number(2)?;
+        self.read_hall()
+    }
+
+    // Reads the header.
+    fn read_header(&mut self, version: Version) -> Result<Header, Refusal>
+        ensures { parsed_at header_of result self.new.at ≡ (edition_for (version_of version) (format_of self.old.format)).decode_header self.old.sheet.now self.old.at }
+    {
+        match version {
+            Version::One => self.read_hall(),
+            Version::Two => self.read_header_2(),
         }
     }
 }
 
-// Reads a header of edition 2: 0, 2, and then P, c and L.
-fn read_header_2(sheet: &[u8], at: usize, format: Format) -> ParsedHeader
-    ensures { header_result result ≡ decode_header2 (format_of format).read_number sheet.now at }
+// Reads the record at an offset, given what the record before left, its desk; the result is the record and the offset after it.
+pub fn read_record(
+    sheet: &[u8],
+    at: usize,
+    edition: Edition,
+    carried: Option<u16>,
+) -> Result<(Record, usize), Refusal>
+    ensures { record_result result ≡ (edition_of edition).decode_record (carried_of carried) sheet.now at }
 {
-    match expect_number(sheet, at, format, 0) {
-        Number::Refused(reason) => ParsedHeader::Refused(reason),
-        Number::Value(_, after_zero) => match expect_number(sheet, after_zero, format, 2) {
-            Number::Refused(reason) => ParsedHeader::Refused(reason),
-            Number::Value(_, after_edition) => read_hall(sheet, after_edition, format),
-        },
-    }
+    let mut cursor = Cursor {
+        sheet,
+        format: edition.format,
+        at,
+    };
+    let entry = match edition.version {
+        Version::One => cursor.read_record_1()?,
+        Version::Two => cursor.read_record_2(carried)?,
+    };
+    Ok((entry, cursor.at))
 }
 
-// Reads the header at an offset.
-fn read_header(sheet: &[u8], at: usize, edition: Edition) -> ParsedHeader
-    ensures { header_result result ≡ (edition_of edition).decode_header sheet.now at }
-{
-    let format = edition.format;
-    let version = edition.version;
-    match version {
-        Version::One => read_hall(sheet, at, format),
-        Version::Two => read_header_2(sheet, at, format),
-    }
-}
-
-// Begins to read a sheet: refuses one that is too long, and reads the header.
-pub fn begin_sheet(sheet: &[u8], edition: Edition) -> ParsedHeader
+// Begins to read a sheet: refuses one that is too long, and reads the header; the result is the header and the offset after it.
+pub fn begin_sheet(sheet: &[u8], edition: Edition) -> Result<(Header, usize), Refusal>
     ensures { header_result result ≡ begin_sheet (edition_of edition) sheet.now }
 {
     if MAX_BYTES < sheet.len() {
-        return ParsedHeader::Refused(refuse_with(TOO_LONG));
+        return Err(Refusal::from(Reason::TooLong));
     }
-    read_header(sheet, 0, edition)
+    let mut cursor = Cursor {
+        sheet,
+        format: edition.format,
+        at: 0,
+    };
+    let header = cursor.read_header(edition.version)?;
+    Ok((header, cursor.at))
 }

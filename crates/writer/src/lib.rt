@@ -3,14 +3,17 @@
 
 ghost use Rattle.std.specs.Prelude.{◌≤◌, ◌<◌, ◌++◌};
 ghost use Rattle.buffer.specs.Put.{Fits, Put};
+ghost use Rattle.codes.specs.Code.{code_of};
+ghost use Rattle.fields.specs.Field.{column_of};
 ghost use Rattle.reader.specs.Results.{carried_of, edition_of, header_of, record_of};
 ghost use Rattle.sheet_rules.specs.Edition1.{encode_field, encode_header, encode_number, encode_record, encode_rest};
 ghost use Rattle.sheet_rules.specs.Edition2.{encode_header2, encode_record2, shorthand_for};
 ghost use Rattle.sheet_rules.specs.Sheet.{follows as follows_code};
 
 use buffer::put_byte;
-use fields::{DESK, POSITION, SCREEN, SESSION, follows};
-use reader::{Carried, Edition, Header, Record, Version, repeats};
+use codes::Code;
+use fields::{Field, follows};
+use reader::{Edition, Header, Record, Version, repeats};
 
 // Puts a number: groups of seven bits, lowest first; the top bit of a byte (128) says that another follows.
 // Precondition: the buffer has room for it.
@@ -18,90 +21,91 @@ fn put_number(out: &mut [u8], at: usize, value: u16) -> usize
     requires { Fits out.old at (encode_number value) }
     ensures { Put out.old out.new at (encode_number value) result }
 {
-    if value < 128 {
-        return put_byte(out, at, value as u8);
+    let mut next = at;
+    let mut rest = value;
+    while 128 <= rest {
+        next = put_byte(out, next, (rest % 128 + 128) as u8);
+        rest /= 128;
     }
-    let second = put_byte(out, at, (value % 128 + 128) as u8);
-    let high = value / 128;
-    if high < 128 {
-        return put_byte(out, second, high as u8);
-    }
-    let third = put_byte(out, second, (high % 128 + 128) as u8);
-    put_byte(out, third, (high / 128) as u8)
+    put_byte(out, next, rest as u8)
 }
 
 // Puts a field if it follows the code.
-// Precondition: the code is one of the five, as for `follows`, and the buffer has room for the field.
-fn put_field(out: &mut [u8], at: usize, code: u16, field: usize, value: u16) -> usize
-    requires { (1 ≤ code) × (code ≤ 5) × (field < 4) × Fits out.old at (encode_field (follows_code code field) value) }
-    ensures { Put out.old out.new at (encode_field (follows_code code field) value) result }
+// Precondition: the buffer has room for the field.
+#[tactic(auto, using(buffer::proofs::Laws::Put::put_none))]
+fn put_field(out: &mut [u8], at: usize, code: Code, field: Field, value: u16) -> usize
+    requires { Fits out.old at (encode_field (follows_code (code_of code) (column_of field)) value) }
+    ensures { Put out.old out.new at (encode_field (follows_code (code_of code) (column_of field)) value) result }
 {
     if follows(code, field) {
-        return put_number(out, at, value);
+        put_number(out, at, value)
+    } else {
+        at
     }
-    at
 }
 
 // Puts the fields after the desk.
-// Precondition: the code is one of the five, as for `follows`, and the buffer has room for the fields.
+// Precondition: the buffer has room for the fields.
 fn put_rest(out: &mut [u8], at: usize, entry: Record) -> usize
-    requires { (1 ≤ entry.code) × (entry.code ≤ 5) × Fits out.old at (encode_rest (record_of entry)) }
+    requires { Fits out.old at (encode_rest (record_of entry)) }
     ensures { Put out.old out.new at (encode_rest (record_of entry)) result }
 {
     let code = entry.code;
-    let after_screen = put_field(out, at, code, SCREEN, entry.screen);
-    let after_position = put_field(out, after_screen, code, POSITION, entry.position);
-    put_field(out, after_position, code, SESSION, entry.session)
+    let after_screen = put_field(out, at, code, Field::Screen, entry.screen);
+    let after_position = put_field(out, after_screen, code, Field::Position, entry.position);
+    put_field(out, after_position, code, Field::Session, entry.session)
 }
 
 // Puts a record with its desk written out: its code, and then its fields.
-// Precondition: the code is one of the five, as for `follows`, and the buffer has room for the record.
+// Precondition: the buffer has room for the record.
+#[tactic(auto, unfolding(sheet_rules::specs::Edition1::encode_record))]
 fn put_written_out(out: &mut [u8], at: usize, entry: Record) -> usize
-    requires { (1 ≤ entry.code) × (entry.code ≤ 5) × Fits out.old at (encode_record (record_of entry)) }
+    requires { Fits out.old at (encode_record (record_of entry)) }
     ensures { Put out.old out.new at (encode_record (record_of entry)) result }
 {
     let code = entry.code;
-    let after_code = put_number(out, at, code);
-    let after_desk = put_field(out, after_code, code, DESK, entry.desk);
+    let after_code = put_number(out, at, code.number());
+    let after_desk = put_field(out, after_code, code, Field::Desk, entry.desk);
     put_rest(out, after_desk, entry)
 }
 
 // Puts a record with a shorthand code: the code, and then the fields after the desk.
-// Precondition: the code is one of the five, as for `follows`, and the buffer has room for the record.
+// Precondition: the buffer has room for the record.
 fn put_shorthand(out: &mut [u8], at: usize, entry: Record) -> usize
-    requires { (1 ≤ entry.code) × (entry.code ≤ 5) × Fits out.old at (encode_number (shorthand_for entry.code) ++ encode_rest (record_of entry)) }
-    ensures { Put out.old out.new at (encode_number (shorthand_for entry.code) ++ encode_rest (record_of entry)) result }
+    requires { Fits out.old at (encode_number (shorthand_for (code_of entry.code)) ++ encode_rest (record_of entry)) }
+    ensures { Put out.old out.new at (encode_number (shorthand_for (code_of entry.code)) ++ encode_rest (record_of entry)) result }
 {
-    let after_code = put_number(out, at, entry.code + 8);
+    let after_code = put_number(out, at, entry.code.number() + 8);
     put_rest(out, after_code, entry)
 }
 
 // Puts a record of edition 2, given what the record before left.
-// Precondition: the code is one of the five, as for `follows`, and the buffer has room for the record.
-fn put_record_2(out: &mut [u8], at: usize, carried: Carried, entry: Record) -> usize
-    requires { (1 ≤ entry.code) × (entry.code ≤ 5) × Fits out.old at (encode_record2 (carried_of carried) (record_of entry)) }
+// Precondition: the buffer has room for the record.
+#[tactic(auto, unfolding(sheet_rules::specs::Edition2::encode_record2))]
+fn put_record_2(out: &mut [u8], at: usize, carried: Option<u16>, entry: Record) -> usize
+    requires { Fits out.old at (encode_record2 (carried_of carried) (record_of entry)) }
     ensures { Put out.old out.new at (encode_record2 (carried_of carried) (record_of entry)) result }
 {
     if repeats(carried, entry.desk) {
-        return put_shorthand(out, at, entry);
+        put_shorthand(out, at, entry)
+    } else {
+        put_written_out(out, at, entry)
     }
-    put_written_out(out, at, entry)
 }
 
 // Puts a record, given what the record before left.
-// Precondition: the code is one of the five, as for `follows`, and the buffer has room for the record.
+// Precondition: the buffer has room for the record.
 pub fn put_record(
     out: &mut [u8],
     at: usize,
     edition: Edition,
-    carried: Carried,
+    carried: Option<u16>,
     entry: Record,
 ) -> usize
-    requires { (1 ≤ entry.code) × (entry.code ≤ 5) × Fits out.old at ((edition_of edition).encode_record (carried_of carried) (record_of entry)) }
+    requires { Fits out.old at ((edition_of edition).encode_record (carried_of carried) (record_of entry)) }
     ensures { Put out.old out.new at ((edition_of edition).encode_record (carried_of carried) (record_of entry)) result }
 {
-    let version = edition.version;
-    match version {
+    match edition.version {
         Version::One => put_written_out(out, at, entry),
         Version::Two => put_record_2(out, at, carried, entry),
     }
@@ -109,6 +113,7 @@ pub fn put_record(
 
 // Puts P, c and L: the header of edition 1, and the end of that of edition 2.
 // Precondition: the buffer has room for them.
+#[tactic(auto, unfolding(sheet_rules::specs::Edition1::encode_header))]
 fn put_hall(out: &mut [u8], at: usize, header: Header) -> usize
     requires { Fits out.old at (encode_header (header_of header)) }
     ensures { Put out.old out.new at (encode_header (header_of header)) result }
@@ -120,6 +125,7 @@ fn put_hall(out: &mut [u8], at: usize, header: Header) -> usize
 
 // Puts a header of edition 2: 0, 2, and then P, c and L.
 // Precondition: the buffer has room for it.
+#[tactic(auto, unfolding(sheet_rules::specs::Edition2::encode_header2))]
 fn put_header_2(out: &mut [u8], at: usize, header: Header) -> usize
     requires { Fits out.old at (encode_header2 (header_of header)) }
     ensures { Put out.old out.new at (encode_header2 (header_of header)) result }
@@ -135,8 +141,7 @@ pub fn put_header(out: &mut [u8], at: usize, edition: Edition, header: Header) -
     requires { Fits out.old at ((edition_of edition).encode_header (header_of header)) }
     ensures { Put out.old out.new at ((edition_of edition).encode_header (header_of header)) result }
 {
-    let version = edition.version;
-    match version {
+    match edition.version {
         Version::One => put_hall(out, at, header),
         Version::Two => put_header_2(out, at, header),
     }

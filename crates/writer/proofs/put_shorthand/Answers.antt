@@ -1,9 +1,6 @@
--- `writer::put_shorthand` meets its contract.
+-- `writer::put_shorthand` meets its contract: one part is put after another.
 use Rattle.buffer.proofs.Laws.Put.{put_on}
 use Rattle.writer.proofs.put_shorthand.Goals as goal
 
 pub returns : goal.returns
-returns c =
-    let code = c.put_number-after_code in
-    let rest = c.put_rest in
-    put_on code.ensures rest.ensures
+returns c = put_on (rw c.number.ensures at c.put_number-after_code.ensures) c.put_rest.ensures
