@@ -2,7 +2,7 @@
 use Rattle.std.specs.Prelude.{◌≡◌, ℕ, List, length}
 use Rattle.rules.specs.Hall.{Hall, Limits}
 use Rattle.rules.specs.Steps.{Answer}
-use Rattle.rules.specs.Table.{open_table}
+use Rattle.board.specs.Kind.{Kind}
 
-abbrev pub OpeningAnswer : Limits → Hall → ℕ → Answer → Type 0
-OpeningAnswer limits hall words answer = (t : List ℕ) → length t ≡ words → answer ≡ (open_table limits hall t).answer
+abbrev pub OpeningAnswer : Kind → Limits → Hall → ℕ → Answer → Type 0
+OpeningAnswer kind limits hall words answer = (t : List ℕ) → length t ≡ words → answer ≡ (kind.opens limits hall t).answer

@@ -5,7 +5,8 @@ use Rattle.rules.specs.Bytes.{words_of_bytes}
 use Rattle.rules.specs.Hall.{Hall, Limits}
 use Rattle.rules.specs.Runs.{answer_request, request_for}
 use Rattle.rules.specs.Steps.{Call, Collect, Drop, Result, Retire, Step, Swap, Take, ◌numbered◌, ◌sends◌, decide, first_no, perform_step, step_questions}
-use Rattle.rules.specs.Table.{decode, hall_in, open_table, step_table, table_after_step}
+use Rattle.rules.specs.Table.{hall_in}
+use Rattle.board.specs.Kind.{Kind}
 use Rattle.reply.specs.Answer.{Reply, table_result}
 use Rattle.reply.specs.declared.Reason.{Reason}
 use Rattle.reply.specs.declared.Reason.TheVariants.{NoCode}
@@ -18,25 +19,25 @@ pub record Matches (result : Result (List ℕ)) (before : List ℕ) (r : Reply) 
   pub last : drop (2 * length (words_of_bytes before)) after ≡ drop (2 * length (words_of_bytes before)) before
 
 -- A step did what the rules do in a room with these limits, and so did an opening.
-abbrev pub Stepped : Limits → Call → List ℕ → Reply → List ℕ → Type 0
-Stepped limits call before = Matches (step_table limits (words_of_bytes before) call) before
+abbrev pub Stepped : Kind → Limits → Call → List ℕ → Reply → List ℕ → Type 0
+Stepped kind limits call before = Matches (kind.step limits (words_of_bytes before) call) before
 
 -- A request was answered as in the rules: its step was, or 17 for another code.
-abbrev pub Requested : Limits → Option Call → List ℕ → Reply → List ℕ → Type 0
-Requested limits asked before = Matches (answer_request (step_table limits) (words_of_bytes before) asked) before
+abbrev pub Requested : Kind → Limits → Option Call → List ℕ → Reply → List ℕ → Type 0
+Requested kind limits asked before = Matches (answer_request (kind.step limits) (words_of_bytes before) asked) before
 
-abbrev pub Opened : Limits → Hall → List ℕ → Reply → List ℕ → Type 0
-Opened limits hall before = Matches (open_table limits hall (words_of_bytes before)) before
+abbrev pub Opened : Kind → Limits → Hall → List ℕ → Reply → List ℕ → Type 0
+Opened kind limits hall before = Matches (kind.opens limits hall (words_of_bytes before)) before
 
 -- A step of an admitted desk, all but the message number: its own questions, and if none is answered no, what it does.
-unfoldable pub admitted_step : Limits → List ℕ → ℕ → Step → Result (List ℕ)
-admitted_step limits table d step =
+unfoldable pub admitted_step : Kind → Limits → List ℕ → ℕ → Step → Result (List ℕ)
+admitted_step kind limits table d step =
     let hall = hall_in table in
-    let state = decode hall table in
-    decide (first_no (step_questions limits hall state d step)) table (perform_step hall state d step).session (table_after_step table d step)
+    let state = kind.state table in
+    decide (first_no (step_questions limits hall state d step)) table (perform_step hall state d step).session (kind.after table d step)
 
-abbrev pub Performed : Limits → ℕ → Step → List ℕ → Reply → List ℕ → Type 0
-Performed limits d step before = Matches (admitted_step limits (words_of_bytes before) d step) before
+abbrev pub Performed : Kind → Limits → ℕ → Step → List ℕ → Reply → List ℕ → Type 0
+Performed kind limits d step before = Matches (admitted_step kind limits (words_of_bytes before) d step) before
 
 -- A step of the code, as one of the rules.
 abbrev pub step_of : Sent → Step

@@ -1,14 +1,16 @@
 #![tactic(auto)]
 
-ghost use Rattle.std.specs.Prelude.{◌≡◌, ◌+◌, ◌-◌, ◌*◌, ◌<◌, ◌≤◌, length, set, drop as drop_words};
+ghost use Rattle.std.specs.Prelude.{◌≡◌, ◌+◌, ◌-◌, ◌*◌, ◌<◌, ◌≤◌, length, set, take, drop as drop_words, [], ◌∷◌};
 ghost use Rattle.rules.specs.Bytes.{words_of_bytes};
 ghost use Rattle.rules.specs.Hall.{hall_limits, hall_of, max_all_screens, max_desks, max_positions, training_limits};
 ghost use Rattle.rules.specs.Lists.{chunks, every};
 ghost use Rattle.rules.specs.Messages.{next_in};
 ghost use Rattle.rules.specs.Runs.{request_for};
-ghost use Rattle.rules.specs.Steps.{Collect, Drop, Retire, Swap, Take, ◌numbered◌, ◌sends◌, advance, in_range};
+ghost use Rattle.rules.specs.Steps.{Collect, Drop, Retire, Swap, Take, ◌numbered◌, ◌sends◌, advance, collect_seeing, in_range};
 ghost use Rattle.words.specs.Written.{Written};
-ghost use Rattle.rules.specs.Table.{header_words, in_hall, in_limits, max_words, need as hall_need, record_sound, start_for, width_for};
+ghost use Rattle.rules.specs.Table.{header_words, in_hall, in_limits, max_words};
+ghost use Rattle.board.specs.Kind.{Kind, Laws, RetiredAs, SoundRecord, first, need_of, start_for};
+ghost use Rattle.board.specs.FirstLaws.{first_laws};
 ghost use Rattle.limits.specs.Room.{limits_of};
 ghost use Rattle.reply.specs.Answer.{answer_of};
 ghost use Rattle.board.specs.Admission.{Admits, admission_of, header_of, screen_for, soundness_of};
@@ -73,15 +75,69 @@ impl Board {
     pub const MAX_WORDS: usize = 2403;
 
     pub const MAX_BYTES: usize = 2 * Board::MAX_WORDS;
+}
 
-    // The words that a hall needs: 3 + L + S + P times the words of a record.
-    pub fn need(desks: u16, screens: u16, positions: u16) -> usize
-        ensures { result ≡ hall_need (hall_of desks screens positions) }
-    {
-        let p = desks as usize;
-        let s = p * screens as usize;
-        HEADER + (positions as usize + (s + p * record_words(s)))
+// What differs between boards: the records of their desks. The rules of a kind of board are a value, `kind`.
+pub trait Records {
+    ghost kind: { Kind };
+
+    // The words of a record, in a hall of s screens. Precondition: s is at most the product of two 16-bit numbers.
+    fn record_words(s: usize) -> usize
+        requires { s ≤ 65535 * 65535 }
+        ensures { result ≡ kind.width s };
+
+    // Whether a record is sound. Precondition: it is whole (the board has shown that the table is long enough).
+    fn sound_record(r: &[u8], s: usize) -> bool
+        requires { (s ≤ max_all_screens) × (length r.now ≡ 2 * kind.width s) }
+        ensures { result ≡ kind.record_sound s (words_of_bytes r.now) };
+
+    // Retire, on a record. Precondition, here and for a collect: it is sound; the board asks soundness before every step.
+    fn retire(r: &mut [u8], s: usize) -> Reply
+        requires { SoundRecord kind s r.old }
+        ensures { RetiredAs kind s (words_of_bytes r.old) (answer_of result) (words_of_bytes r.new) };
+
+    // Collect, on a record, where the n screens to read, 1 or 2, show x and y.
+    fn collect(r: &mut [u8], s: usize, n: usize, x: u16, y: u16) -> u16
+        requires { SoundRecord kind s r.old × (1 ≤ n) × (n ≤ 2) }
+        ensures session { result ≡ (collect_seeing s (take n (x ∷ y ∷ [])) (kind.desk s (words_of_bytes r.old))).session }
+        ensures record { words_of_bytes r.new ≡ kind.collected s (take n (x ∷ y ∷ [])) (words_of_bytes r.old) };
+
+    ghost laws: { Laws kind };
+}
+
+// The first board: a desk's list begins at the first slot of its record.
+#[derive(Clone, Copy)]
+pub struct Row;
+
+impl Records for Row {
+    ghost kind = { first };
+
+    fn record_words(s: usize) -> usize {
+        record_words(s)
     }
+
+    fn sound_record(r: &[u8], s: usize) -> bool {
+        sound_record(r, s)
+    }
+
+    fn retire(r: &mut [u8], s: usize) -> Reply {
+        retire_record(r, s)
+    }
+
+    fn collect(r: &mut [u8], s: usize, n: usize, x: u16, y: u16) -> u16 {
+        collect_record(r, s, n, x, y)
+    }
+
+    ghost laws = { first_laws };
+}
+
+// The words that a hall needs: 3 + L + S + P times the words of a record.
+pub fn need<K: Records>(desks: u16, screens: u16, positions: u16) -> usize
+    ensures { result ≡ need_of K.kind (hall_of desks screens positions) }
+{
+    let p = desks as usize;
+    let s = p * screens as usize;
+    HEADER + (positions as usize + (s + p * K::record_words(s)))
 }
 
 // The limits of the hall.
@@ -123,11 +179,11 @@ pub fn in_limits(limits: Limits, desks: u16, screens: u16, positions: u16) -> bo
 
 // The offset of the record of desk d, with d counted from 0, in a hall of l positions and s screens.
 // Precondition: the numbers are within the limits. The end of the last record is the start of one after it, so d may be P.
-fn record_start(l: usize, s: usize, d: usize) -> usize
+fn record_start<K: Records>(l: usize, s: usize, d: usize) -> usize
     requires { (l ≤ max_positions) × (s ≤ max_all_screens) × (d ≤ max_desks) }
-    ensures { (result ≡ start_for l s d) × (result ≤ max_words) }
+    ensures { (result ≡ start_for K.kind l s d) × (result ≤ max_words + max_desks) }
 {
-    HEADER + l + s + d * record_words(s)
+    HEADER + l + s + d * K::record_words(s)
 }
 
 // The offset of screen i of desk d, both counted from 1, in a hall of l positions and c screens per desk.
@@ -141,15 +197,15 @@ pub fn screen_at(l: usize, c: usize, d: u16, i: u16) -> usize
 
 // Whether the record of each desk is sound.
 // Precondition: the numbers are within the limits, and the table is long enough.
-fn sound_records(t: &[u8], p: usize, l: usize, s: usize) -> bool
-    requires { (p ≤ max_desks) × (l ≤ max_positions) × (s ≤ max_all_screens) × (2 * start_for l s p ≤ length t.now) }
-    ensures { result ≡ every (record_sound s) (chunks p (width_for s) (drop_words (header_words + l + s) (words_of_bytes t.now))) }
+fn sound_records<K: Records>(t: &[u8], p: usize, l: usize, s: usize) -> bool
+    requires { (p ≤ max_desks) × (l ≤ max_positions) × (s ≤ max_all_screens) × (2 * start_for K.kind l s p ≤ length t.now) }
+    ensures { result ≡ every (K.kind.record_sound s) (chunks p (K.kind.width s) (drop_words (header_words + l + s) (words_of_bytes t.now))) }
 {
-    let size = record_words(s);
+    let size = K::record_words(s);
     for d in 0..p {
-        let a = record_start(l, s, d);
+        let a = record_start::<K>(l, s, d);
         let e = a + size;
-        if !sound_record(&t[2 * a..2 * e], s) {
+        if !K::sound_record(&t[2 * a..2 * e], s) {
             return false;
         }
     }
@@ -166,8 +222,8 @@ pub struct Hall {
 }
 
 // Reads the header of a table: its hall, unless a number is out of range or the table is too short for the hall.
-fn read_header(t: &[u8], limits: Limits) -> Result<Hall, Reason>
-    ensures { result ≡ header_of (limits_of limits) (words_of_bytes t.now) }
+fn read_header<K: Records>(t: &[u8], limits: Limits) -> Result<Hall, Reason>
+    ensures { result ≡ header_of K.kind (limits_of limits) (words_of_bytes t.now) }
 {
     let n = t.len() >> 1;
     if n < HEADER {
@@ -179,7 +235,7 @@ fn read_header(t: &[u8], limits: Limits) -> Result<Hall, Reason>
     if !in_limits(limits, desks, screens, positions) {
         return Err(Reason::Unsound);
     }
-    if n < Board::need(desks, screens, positions) {
+    if n < need::<K>(desks, screens, positions) {
         return Err(Reason::Unsound);
     }
     let p = desks as usize;
@@ -196,11 +252,11 @@ fn read_header(t: &[u8], limits: Limits) -> Result<Hall, Reason>
 
 // Asks whether a table is sound, in a room with these limits, and finds its hall: once for a call, and once for a run of steps or for a sheet,
 // because every step leaves a sound table sound, with the same hall.
-pub fn check(t: &[u8], limits: Limits) -> Result<Hall, Reason>
-    ensures { result ≡ soundness_of (limits_of limits) (words_of_bytes t.now) }
+pub fn check<K: Records>(t: &[u8], limits: Limits) -> Result<Hall, Reason>
+    ensures { result ≡ soundness_of K.kind (limits_of limits) (words_of_bytes t.now) }
 {
-    let hall = read_header(t, limits)?;
-    if !sound_records(t, hall.desks, hall.positions, hall.all) {
+    let hall = read_header::<K>(t, limits)?;
+    if !sound_records::<K>(t, hall.desks, hall.positions, hall.all) {
         return Err(Reason::Unsound);
     }
     Ok(hall)
@@ -220,9 +276,9 @@ struct Location {
 
 // What every step asks first of a sound table: is the desk 1 to P, is the message number the desk's next. Precondition, here, for each
 // function whose name ends in `_in` and for `request`: the table is sound in a room with these limits, and this is its hall.
-fn admit(t: &[u8], limits: Limits, hall: Hall, message: u16, desk: u16) -> Result<Location, Reason>
-    requires { Ok hall ≡ soundness_of (limits_of limits) (words_of_bytes t.now) }
-    ensures { result ≡ admission_of (words_of_bytes t.now) message desk }
+fn admit<K: Records>(t: &[u8], limits: Limits, hall: Hall, message: u16, desk: u16) -> Result<Location, Reason>
+    requires { Ok hall ≡ soundness_of K.kind (limits_of limits) (words_of_bytes t.now) }
+    ensures { result ≡ admission_of K.kind (words_of_bytes t.now) message desk }
 {
     let p = hall.desks;
     let l = hall.positions;
@@ -231,8 +287,8 @@ fn admit(t: &[u8], limits: Limits, hall: Hall, message: u16, desk: u16) -> Resul
         return Err(Reason::NoDesk);
     }
     let d = desk as usize;
-    let a = record_start(l, s, d - 1);
-    let e = record_start(l, s, d);
+    let a = record_start::<K>(l, s, d - 1);
+    let e = record_start::<K>(l, s, d);
     let next = a + tail_offset(s);
     if word(t, next) != message {
         return Err(Reason::OtherMessage);
@@ -247,22 +303,22 @@ fn admit(t: &[u8], limits: Limits, hall: Hall, message: u16, desk: u16) -> Resul
     })
 }
 
-// The next message number of a desk in a sound table; 0 for a desk that the hall does not have.
+// The next message number of a desk in a sound table of the first board; 0 for a desk that the hall does not have.
 pub fn next_in(t: &[u8], limits: Limits, hall: Hall, desk: u16) -> u16
-    requires { Ok hall ≡ soundness_of (limits_of limits) (words_of_bytes t.now) }
+    requires { Ok hall ≡ soundness_of first (limits_of limits) (words_of_bytes t.now) }
     ensures { result ≡ next_in (words_of_bytes t.now) desk }
 {
     if !in_range(desk, hall.desks) {
         return 0;
     }
     let s = hall.all;
-    let a = record_start(hall.positions, s, desk as usize - 1);
+    let a = record_start::<Row>(hall.positions, s, desk as usize - 1);
     word(t, a + tail_offset(s))
 }
 
 // What the opening of a hall asks, in order, of its three numbers and of the words that the table has.
-pub fn opening(limits: Limits, desks: u16, screens: u16, positions: u16, words: usize) -> Reply
-    ensures { OpeningAnswer (limits_of limits) (hall_of desks screens positions) words (answer_of result) }
+pub fn opening<K: Records>(limits: Limits, desks: u16, screens: u16, positions: u16, words: usize) -> Reply
+    ensures { OpeningAnswer K.kind (limits_of limits) (hall_of desks screens positions) words (answer_of result) }
 {
     if !in_range(desks, Board::MAX_DESKS) {
         return Err(Reason::BadDesks);
@@ -276,18 +332,18 @@ pub fn opening(limits: Limits, desks: u16, screens: u16, positions: u16, words: 
     if !within(limits, desks, screens, positions) {
         return Err(Reason::OverLimits);
     }
-    if words < Board::need(desks, screens, positions) {
+    if words < need::<K>(desks, screens, positions) {
         return Err(Reason::TableShort);
     }
     Ok(0)
 }
 
 // Opening writes P, c, L and zeros up to the need.
-pub fn open(t: &mut [u8], limits: Limits, desks: u16, screens: u16, positions: u16) -> Reply
-    ensures { Opened (limits_of limits) (hall_of desks screens positions) t.old result t.new }
+pub fn open<K: Records>(t: &mut [u8], limits: Limits, desks: u16, screens: u16, positions: u16) -> Reply
+    ensures { Opened K.kind (limits_of limits) (hall_of desks screens positions) t.old result t.new }
 {
-    opening(limits, desks, screens, positions, t.len() >> 1)?;
-    let n = Board::need(desks, screens, positions);
+    opening::<K>(limits, desks, screens, positions, t.len() >> 1)?;
+    let n = need::<K>(desks, screens, positions);
     clear(&mut t[0..2 * n]);
     put_word(t, DESKS, desks);
     put_word(t, SCREENS, screens);
@@ -306,7 +362,7 @@ pub fn move_on(t: &mut [u8], next: usize, message: u16)
 
 // Take, of an admitted desk. Precondition, here and for the other steps: the table is sound in a room with these limits, it has the desk,
 // and this is its location. (Only a swap asks the limits again.) The message number is left to `move_on`.
-fn take_at(
+fn take_at<K: Records>(
     t: &mut [u8],
     limits: Limits,
     desk: u16,
@@ -314,8 +370,8 @@ fn take_at(
     screen: u16,
     position: u16,
 ) -> Reply
-    requires { Admits (limits_of limits) (words_of_bytes t.old) desk location }
-    ensures { Performed (limits_of limits) desk (Take screen position) t.old result t.new }
+    requires { Admits K.kind (limits_of limits) (words_of_bytes t.old) desk location }
+    ensures { Performed K.kind (limits_of limits) desk (Take screen position) t.old result t.new }
 {
     let c = location.screens;
     let l = location.positions;
@@ -338,9 +394,9 @@ fn take_at(
 }
 
 // Drop, of an admitted desk.
-fn drop_at(t: &mut [u8], limits: Limits, desk: u16, location: Location, screen: u16) -> Reply
-    requires { Admits (limits_of limits) (words_of_bytes t.old) desk location }
-    ensures { Performed (limits_of limits) desk (Drop screen) t.old result t.new }
+fn drop_at<K: Records>(t: &mut [u8], limits: Limits, desk: u16, location: Location, screen: u16) -> Reply
+    requires { Admits K.kind (limits_of limits) (words_of_bytes t.old) desk location }
+    ensures { Performed K.kind (limits_of limits) desk (Drop screen) t.old result t.new }
 {
     let c = location.screens;
     let l = location.positions;
@@ -357,7 +413,7 @@ fn drop_at(t: &mut [u8], limits: Limits, desk: u16, location: Location, screen: 
 }
 
 // Swap, of an admitted desk.
-fn swap_at(
+fn swap_at<K: Records>(
     t: &mut [u8],
     limits: Limits,
     desk: u16,
@@ -365,8 +421,8 @@ fn swap_at(
     position: u16,
     session: u16,
 ) -> Reply
-    requires { Admits (limits_of limits) (words_of_bytes t.old) desk location }
-    ensures { Performed (limits_of limits) desk (Swap position session) t.old result t.new }
+    requires { Admits K.kind (limits_of limits) (words_of_bytes t.old) desk location }
+    ensures { Performed K.kind (limits_of limits) desk (Swap position session) t.old result t.new }
 {
     if !in_range(position, location.positions) {
         return Err(Reason::NoPosition);
@@ -391,19 +447,19 @@ fn swap_at(
 }
 
 // Retire, of an admitted desk: on its record.
-fn retire_at(t: &mut [u8], limits: Limits, desk: u16, location: Location) -> Reply
-    requires { Admits (limits_of limits) (words_of_bytes t.old) desk location }
-    ensures { Performed (limits_of limits) desk Retire t.old result t.new }
+fn retire_at<K: Records>(t: &mut [u8], limits: Limits, desk: u16, location: Location) -> Reply
+    requires { Admits K.kind (limits_of limits) (words_of_bytes t.old) desk location }
+    ensures { Performed K.kind (limits_of limits) desk Retire t.old result t.new }
 {
     let a = location.start;
     let e = location.end;
-    retire_record(&mut t[2 * a..2 * e], location.all)
+    K::retire(&mut t[2 * a..2 * e], location.all)
 }
 
 // Collect, of an admitted desk: on its record, with the next two screens of the hall or the last one alone.
-fn collect_at(t: &mut [u8], limits: Limits, desk: u16, location: Location) -> Reply
-    requires { Admits (limits_of limits) (words_of_bytes t.old) desk location }
-    ensures { Performed (limits_of limits) desk Collect t.old result t.new }
+fn collect_at<K: Records>(t: &mut [u8], limits: Limits, desk: u16, location: Location) -> Reply
+    requires { Admits K.kind (limits_of limits) (words_of_bytes t.old) desk location }
+    ensures { Performed K.kind (limits_of limits) desk Collect t.old result t.new }
 {
     let s = location.all;
     let a = location.start;
@@ -413,9 +469,9 @@ fn collect_at(t: &mut [u8], limits: Limits, desk: u16, location: Location) -> Re
     let x = word(t, at);
     if k + 1 < s {
         let y = word(t, at + 1);
-        Ok(collect_record(&mut t[2 * a..2 * e], s, 2, x, y))
+        Ok(K::collect(&mut t[2 * a..2 * e], s, 2, x, y))
     } else {
-        Ok(collect_record(&mut t[2 * a..2 * e], s, 1, x, 0))
+        Ok(K::collect(&mut t[2 * a..2 * e], s, 1, x, 0))
     }
 }
 
@@ -436,36 +492,36 @@ pub enum Step {
 }
 
 // A step of an admitted desk.
-fn step_at(t: &mut [u8], limits: Limits, desk: u16, location: Location, step: Step) -> Reply
-    requires { Admits (limits_of limits) (words_of_bytes t.old) desk location }
-    ensures { Performed (limits_of limits) desk (step_of step) t.old result t.new }
+fn step_at<K: Records>(t: &mut [u8], limits: Limits, desk: u16, location: Location, step: Step) -> Reply
+    requires { Admits K.kind (limits_of limits) (words_of_bytes t.old) desk location }
+    ensures { Performed K.kind (limits_of limits) desk (step_of step) t.old result t.new }
 {
     match step {
-        Step::Take { screen, position } => take_at(t, limits, desk, location, screen, position),
-        Step::Drop { screen } => drop_at(t, limits, desk, location, screen),
-        Step::Swap { position, session } => swap_at(t, limits, desk, location, position, session),
-        Step::Retire => retire_at(t, limits, desk, location),
-        Step::Collect => collect_at(t, limits, desk, location),
+        Step::Take { screen, position } => take_at::<K>(t, limits, desk, location, screen, position),
+        Step::Drop { screen } => drop_at::<K>(t, limits, desk, location, screen),
+        Step::Swap { position, session } => swap_at::<K>(t, limits, desk, location, position, session),
+        Step::Retire => retire_at::<K>(t, limits, desk, location),
+        Step::Collect => collect_at::<K>(t, limits, desk, location),
     }
 }
 
 // A step, in a sound table: its desk is admitted, it is done, and if it is accepted its message number moves on.
-fn step_in(t: &mut [u8], limits: Limits, hall: Hall, message: u16, desk: u16, step: Step) -> Reply
-    requires { Ok hall ≡ soundness_of (limits_of limits) (words_of_bytes t.old) }
-    ensures { Stepped (limits_of limits) (desk sends step_of step numbered message) t.old result t.new }
+fn step_in<K: Records>(t: &mut [u8], limits: Limits, hall: Hall, message: u16, desk: u16, step: Step) -> Reply
+    requires { Ok hall ≡ soundness_of K.kind (limits_of limits) (words_of_bytes t.old) }
+    ensures { Stepped K.kind (limits_of limits) (desk sends step_of step numbered message) t.old result t.new }
 {
-    let location = admit(t, limits, hall, message, desk)?;
-    let session = step_at(t, limits, desk, location, step)?;
+    let location = admit::<K>(t, limits, hall, message, desk)?;
+    let session = step_at::<K>(t, limits, desk, location, step)?;
     move_on(t, location.next, message);
     Ok(session)
 }
 
 // A step: the table is asked whether it is sound, and the step is done in its hall.
-pub fn do_step(t: &mut [u8], limits: Limits, message: u16, desk: u16, step: Step) -> Reply
-    ensures { Stepped (limits_of limits) (desk sends step_of step numbered message) t.old result t.new }
+pub fn do_step<K: Records>(t: &mut [u8], limits: Limits, message: u16, desk: u16, step: Step) -> Reply
+    ensures { Stepped K.kind (limits_of limits) (desk sends step_of step numbered message) t.old result t.new }
 {
-    let hall = check(t, limits)?;
-    step_in(t, limits, hall, message, desk, step)
+    let hall = check::<K>(t, limits)?;
+    step_in::<K>(t, limits, hall, message, desk, step)
 }
 
 // The step that a code requests; the numbers that its code lacks are ignored. A code outside 1 to 5 is refused with 17.
@@ -483,7 +539,7 @@ fn requested(code: u16, screen: u16, position: u16, session: u16) -> Result<Step
 
 // The step that a code requests, in a sound table; the numbers that its code lacks are ignored. A code outside 1 to 5 is answered 17, and
 // nothing is written.
-pub fn request(
+pub fn request<K: Records>(
     t: &mut [u8],
     limits: Limits,
     hall: Hall,
@@ -494,9 +550,9 @@ pub fn request(
     position: u16,
     session: u16,
 ) -> Reply
-    requires { Ok hall ≡ soundness_of (limits_of limits) (words_of_bytes t.old) }
-    ensures { Requested (limits_of limits) (request_for code message desk screen position session) t.old result t.new }
+    requires { Ok hall ≡ soundness_of K.kind (limits_of limits) (words_of_bytes t.old) }
+    ensures { Requested K.kind (limits_of limits) (request_for code message desk screen position session) t.old result t.new }
 {
     let step = requested(code, screen, position, session)?;
-    step_in(t, limits, hall, message, desk, step)
+    step_in::<K>(t, limits, hall, message, desk, step)
 }

@@ -1,3 +1,3 @@
 -- The definitions that the contracts of this crate cite, beside those of the rules.
-pub mod RingAdmission
-pub mod RingResults
+pub mod RingKind
+pub mod RingLaws

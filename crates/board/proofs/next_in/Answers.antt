@@ -4,6 +4,8 @@ use Rattle.rules.specs.Bytes.{words_of_bytes}
 use Rattle.rules.specs.Table.{hall_in, next_word, start_for, tail_offset}
 use Rattle.rules.proofs.Laws.History.StepEffects.{in_range_lem}
 use Rattle.rules.proofs.Laws.Table.TableSteps.{known, record_within}
+use Rattle.board.specs.Kind.{first}
+use Rattle.board.specs.FirstLaws.{first_laws}
 use Rattle.limits.specs.Room.{limits_of}
 use Rattle.words.proofs.Laws.{length-words}
 use Rattle.board.specs.declared.Hall.{Hall}
@@ -17,7 +19,7 @@ use Rattle.board.proofs.next_in.Goals.{Start, After-tail_offset}
 abbrev words : Start → List ℕ
 words o = words_of_bytes o.args.t.now
 
-numbers : (o : Start) → SoundHall (limits_of o.args.limits) (words o) o.args.hall
+numbers : (o : Start) → SoundHall first (limits_of o.args.limits) (words o) o.args.hall
 numbers o = sound-hall o.requires
 
 -- the offset of the desk's next message number
@@ -35,14 +37,14 @@ overflow_sub-desk c = omega (arith, in_range_lem c.args.desk c.args.hall.desks (
 
 pub record_start-a-requires : goal.record_start-a-requires
 record_start-a-requires c =
-    let b = hall_bounded (numbers (goal.at.record_start-a-requires c).Start) in
+    let b = hall_bounded first_laws (numbers (goal.at.record_start-a-requires c).Start) in
     omega (arith, b.positions, b.all, b.desks, in_range_lem c.args.desk c.args.hall.desks (said_true c.in_range.ensures c.if-not-in_range.false))
 
 pub tail_offset-requires : goal.tail_offset-requires
-tail_offset-requires c = omega (arith, (hall_bounded (numbers (goal.at.tail_offset-requires c).Start)).all)
+tail_offset-requires c = omega (arith, (hall_bounded first_laws (numbers (goal.at.tail_offset-requires c).Start)).all)
 
 pub overflow_add-a : goal.overflow_add-a
-overflow_add-a c = omega (arith, c.record_start-a.ensures.1, c.tail_offset.ensures, (hall_bounded (numbers (goal.at.overflow_add-a c).Start)).all)
+overflow_add-a c = omega (arith, c.record_start-a.ensures.1, c.tail_offset.ensures, (hall_bounded first_laws (numbers (goal.at.overflow_add-a c).Start)).all)
 
 pub word-requires : goal.word-requires
 word-requires c =

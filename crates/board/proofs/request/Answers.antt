@@ -5,10 +5,10 @@ use Rattle.board.proofs.ResultLaws.{matches_unchanged}
 use Rattle.board.proofs.request.Goals as goal
 
 pub returns-in_err-step : goal.returns-in_err-step
-returns-in_err-step c =
+returns-in_err-step g c =
     let p = err_from_is_err_and c.from_residual.result c.from_residual.ensures.1 in
     let none = c.in_err-step.ensures in
     rw (p.1, p.2, none.0, none.1 c.args.message c.args.desk) (matches_unchanged refl)
 
 pub returns : goal.returns
-returns c = rw (c.in_ok-step.ensures c.args.message c.args.desk) c.step_in.ensures
+returns g c = rw (c.in_ok-step.ensures c.args.message c.args.desk) c.step_in.ensures

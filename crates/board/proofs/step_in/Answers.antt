@@ -5,22 +5,27 @@ use Rattle.board.proofs.AdmissionLaws.{admits, refused_desk}
 use Rattle.board.proofs.MessageLaws.{not_stepped, number_in_bytes, stepped}
 use Rattle.board.proofs.ResultLaws.{matches_unchanged}
 use Rattle.board.proofs.step_in.Goals as goal
+use Rattle.board.proofs.step_in.Given.{Over}
+use Rattle.board.specs.Kind.{Laws}
+
+laws : (g : Over) → Laws g.K.Records.kind
+laws g = g.met.K.Records.laws
 
 pub returns-in_err-location : goal.returns-in_err-location
-returns-in_err-location c =
+returns-in_err-location g c =
     let p = err_from_is_err_and c.from_residual.result c.from_residual.ensures.1 in
-    rw (p.1, p.2) (matches_unchanged (refused_desk _ _ _ c.requires c.in_err-location.ensures))
+    rw (p.1, p.2) (matches_unchanged (refused_desk (laws g) _ _ _ c.requires c.in_err-location.ensures))
 
 pub step_at-requires : goal.step_at-requires
-step_at-requires c = (admits c.requires c.in_ok-location.ensures).admits_desk
+step_at-requires g c = (admits (laws g) c.requires c.in_ok-location.ensures).admits_desk
 
 pub returns-in_err-session : goal.returns-in_err-session
-returns-in_err-session c =
+returns-in_err-session g c =
     let p = err_from_is_err_and c.from_residual-in_err-session.result c.from_residual-in_err-session.ensures.1 in
-    rw (p.1, p.2) (not_stepped (admits c.requires c.in_ok-location.ensures) (step_of c.args.step) c.in_err-session.ensures)
+    rw (p.1, p.2) (not_stepped (laws g) (admits (laws g) c.requires c.in_ok-location.ensures) (step_of c.args.step) c.in_err-session.ensures)
 
 pub move_on-requires : goal.move_on-requires
-move_on-requires c = number_in_bytes c.args.t.now c.step_at.new.t (admits c.requires c.in_ok-location.ensures) c.step_at.auto.t
+move_on-requires g c = number_in_bytes (laws g) c.args.t.now c.step_at.new.t (admits (laws g) c.requires c.in_ok-location.ensures) c.step_at.auto.t
 
 pub returns : goal.returns
-returns c = stepped (admits c.requires c.in_ok-location.ensures) (step_of c.args.step) c.in_ok-session.ensures c.step_at.auto.t c.move_on.ensures
+returns g c = stepped (laws g) (admits (laws g) c.requires c.in_ok-location.ensures) (step_of c.args.step) c.in_ok-session.ensures c.step_at.auto.t c.move_on.ensures
