@@ -23,7 +23,7 @@ use Rattle.sheet_rules.proofs.Laws.Run.{Asks, record_asks}
 use Rattle.sheet_rules.proofs.Laws.Sheet.{records_end, records_more, records_stop}
 use Rattle.tally.specs.Counts.{to_tally}
 use Rattle.tally.specs.declared.Tally.{Tally}
-use Rattle.sheet.specs.Batch.{Batch, Numbered, PartialBatch, Progress, RoomFor, batches_left, record_room, remaining_calls, remaining_output, remaining_records}
+use Rattle.sheet.specs.Batch.{Batch, PartialBatch, Progress, RoomFor, batches_left, record_room, remaining_calls, remaining_output, remaining_records}
 use Rattle.sheet.proofs.Laws.Batches.{emitted_append, emitted_none}
 use Rattle.sheet.specs.declared.State.{State}
 
@@ -162,6 +162,16 @@ module _ {edition : Edition} {sheet : List ℕ} {was : State} {before : List ℕ
   pub batch_finished : {table_next : List ℕ} {out_next : Buffer} → PartialBatch edition sheet (Some is) after out_after None table_next out_next
       → Batch edition sheet (Some was) before out None table_next out_next
   batch_finished partial = record { partial = on partial; progress = record { fewer = omega arith; numbered = tt } }
+
+  -- or because there is no more room
+  pub batch_full : RoomFor record_room out → (RoomFor record_room out_after → ⊥) → Batch edition sheet (Some was) before out (Some is) after out_after
+  batch_full room full = record {
+    partial = batch.partial;
+    progress = record {
+      fewer = ⊎_elim (λ first. absurd (full (omega (arith, first, room, batch.partial.put.long)))) (λ fewer. fewer) batch.fewer;
+      numbered = batch.numbered;
+    };
+  }
 
 -- where nothing was left to do, nothing is done
 pub batch_of-none : {edition : Edition} {sheet before : List ℕ} {out : Buffer} → Batch edition sheet None before out None before out

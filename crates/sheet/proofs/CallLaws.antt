@@ -1,11 +1,10 @@
 -- What a record does, by what is known of the table.
-use Prim.Native.Nat.{ℕ, ◌≤◌, ◌<◌}
+use Prim.Native.Nat.{ℕ}
 use mathlib.Core.Bool.{Bool, true, false, cond}
 use mathlib.Core.List.{List}
 use mathlib.Core.Option.{Option, none, some}
 use mathlib.Core.Path.{◌≡◌, refl, sym, ap, subst, ◌∙◌}
-use lib.Dec.{eqb, leb}
-use borrow.Author.Tests.{le-leb}
+use lib.Dec.{eqb}
 use Rattle.rules.specs.Bytes.{IsBytes, words_of_bytes}
 use Rattle.rules.specs.Hall.{Limits}
 use Rattle.rules.specs.Messages.{next_in, send}
@@ -19,7 +18,7 @@ use Rattle.rules.proofs.Laws.Bytes.Bytes.{words_are_16}
 use Rattle.reply.specs.Answer.{Reply}
 use Rattle.reply.specs.declared.Reason.{Reason}
 use Rattle.reply.specs.declared.Reason.TheVariants.{NoCode}
-use Rattle.std.specs.Prelude.{Result as OkOrErr, Ok, Err}
+use Rattle.std.specs.Prelude.{Result as OkOrErr, Err}
 use Rattle.board.specs.Admission.{soundness_of}
 use Rattle.board.specs.Results.{Matches, Requested}
 use Rattle.board.specs.Kind.{first}

@@ -151,6 +151,7 @@ fn put_record(
 // is a state after it unless the last line was put. Where there is none before, nothing is left to do.
 // Precondition: the buffer has room for a record's line and the last line, so that each batch makes progress; the record number is at most
 // the offset, so that it does not overflow, and the state's soundness is the table's, as in every state that `start` and `fill` return.
+#[tactic(auto, using(crate::proofs::BatchLaws::batch_full))]
 pub fn fill(
     sheet: &[u8],
     edition: Edition,

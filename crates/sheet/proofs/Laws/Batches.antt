@@ -1,5 +1,5 @@
 -- Laws of batches one after another.
-use Rattle.std.specs.Prelude.{ℕ, suc, ◌+◌, ◌-◌, ◌≤◌, ◌<◌, ◌≡◌, refl, List, [], ◌∷◌, ◌++◌, length, Option, Some, None, IsSome, IsNone, true, false}
+use Rattle.std.specs.Prelude.{ℕ, suc, ◌+◌, ◌≤◌, ◌<◌, ◌≡◌, refl, List, [], ◌∷◌, ◌++◌, length, Option, Some, None, IsSome, IsNone, true, false}
 use Rattle.std.proofs.Common.{arith, sym, ap, ◌∙◌, append_assoc, append-nil}
 use Rattle.rules.specs.Hall.{Limits}
 use Rattle.rules.specs.Messages.{send}

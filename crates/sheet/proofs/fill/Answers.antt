@@ -1,8 +1,5 @@
 -- `sheet::fill` meets its contract.
-use native.Mathlib.Omega.{arith}
-use mathlib.Core.Path.{sym, ◌∙◌}
-use Rattle.std.proofs.Common.{le-leb}
-use Rattle.sheet.proofs.BatchLaws.{batch_finished, batch_full, batch_of-none, in_batch_first, in_batch_next}
+use Rattle.sheet.proofs.BatchLaws.{batch_finished, batch_of-none, in_batch_first, in_batch_next}
 use Rattle.sheet.proofs.fill.Goals as goal
 
 pub returns-in_err-current-clause-batch : goal.returns-in_err-current-clause-batch
