@@ -176,10 +176,11 @@ fn begin(sheet: &[u8], edition: Edition, table: &mut [u8]) -> Result<State, Refu
     requires { words_of_bytes table.old ≡ lent_table }
     ensures { Begun edition sheet.now result table.new }
 {
+    let limits = edition.format.limits;
     let (header, next) = begin_sheet(sheet, edition)?;
     open::<Row>(
         table,
-        edition.format.limits,
+        limits,
         header.desks,
         header.screens,
         header.positions,
@@ -193,7 +194,7 @@ fn begin(sheet: &[u8], edition: Edition, table: &mut [u8]) -> Result<State, Refu
             refused: 0,
             handed_back: 0,
         },
-        soundness: check::<Row>(table, edition.format.limits),
+        soundness: check::<Row>(table, limits),
     })
 }
 
