@@ -1,7 +1,7 @@
 // What a program's arguments ask for; the same for every program that reads a sheet from standard input.
 #![tactic(auto)]
 
-ghost use Rattle.std.specs.Prelude.{◌≤◌, length};
+ghost use Rattle.std.specs.Prelude.{◌≤◌, length, IfSome};
 ghost use Rattle.arguments.specs.Asks.{Asks};
 
 use std::env::FillError;
@@ -22,15 +22,12 @@ pub fn request_for(arguments: usize, first: &[u8]) -> Request
     ensures { Asks result arguments first.now }
 {
     if arguments < 2 {
-        return Request::Run;
+        Request::Run
+    } else if arguments == 2 && first == b"--help".as_slice() {
+        Request::Help
+    } else {
+        Request::Unknown
     }
-    if 2 < arguments {
-        return Request::Unknown;
-    }
-    if first == b"--help".as_slice() {
-        return Request::Help;
-    }
-    Request::Unknown
 }
 
 // How many arguments a program has, with its name.
@@ -44,12 +41,9 @@ pub fn argument_count<E: Env>(env: &E) -> usize {
     usize::MAX
 }
 
-// Puts an argument at the start of the buffer, and returns its length; or 0 where there is none, or it does not fit.
-pub fn argument<E: Env>(env: &E, index: usize, buffer: &mut [u8]) -> usize
-    ensures { result ≤ length buffer.new }
+// Puts an argument at the start of the buffer, and returns its length; or `None` where there is none, or it does not fit.
+pub fn argument<E: Env>(env: &E, index: usize, buffer: &mut [u8]) -> Option<usize>
+    ensures { IfSome result (λ n. n ≤ length buffer.new) }
 {
-    match env.arg(index, buffer) {
-        Ok(n) => n,
-        Err(_) => 0,
-    }
+    env.arg(index, buffer).ok()
 }

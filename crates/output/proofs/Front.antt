@@ -1,14 +1,21 @@
 -- What an output took of a whole that was handed to it in parts.
 use Rattle.std.proofs.Common.{arith, List, ℕ, ◌≡◌, ◌+◌, ◌++◌, Option, Result, Ok, Err, OnErr, OnOk, length, take, sym, ap, subst, ◌∙◌, length-append}
-use Rattle.std.proofs.KnownBytes.{Appends-trans}
-use Rattle.std.proofs.Math.Seq.{take-append-add}
+use Rattle.std.proofs.KnownBytes.{Appends-kept, Appends-trans}
+use Rattle.std.proofs.Math.Seq.{take-append-add, take-append_seam}
 use Rattle.std.proofs.lemmas.List.{take-append-le, take_all}
-use Rattle.std.specs.Io.KnownBytes.{Appends}
+use Rattle.std.specs.Io.KnownBytes.{Appends, Keeps}
 use Rattle.output.specs.Taken.{TakesFront}
 
 -- all of it
 pub front_all : (before after : Option (List ℕ)) (all : List ℕ) → Appends before after all → TakesFront before after all
 front_all before after all whole = (length all, omega arith, subst (Appends before after) (sym (take_all (length all) all (omega arith))) whole)
+
+-- the part that is done, where the output stayed as it was then
+pub front_kept : (before mid after : Option (List ℕ)) (done rest all : List ℕ) → Appends before mid done → Keeps mid after → done ++ rest ≡ all
+    → TakesFront before after all
+front_kept before mid after done rest all was kept joined =
+    let front : done ≡ take (length done) all = sym (take-append_seam done rest) ∙ ap (take (length done)) joined in
+    (length done, omega (arith, length-append done rest, ap length joined), subst (Appends before after) front (Appends-kept before mid after done was kept))
 
 -- the parts that are done, and the first bytes of the next
 pub front_next : (before mid after : Option (List ℕ)) (done part rest all : List ℕ) → Appends before mid done → TakesFront mid after part

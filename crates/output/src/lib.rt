@@ -16,17 +16,21 @@ pub fn write_all<W: Write>(to: &mut W, bytes: &[u8]) -> Result<()>
     ensures all { OnOk result (Appends (W.contents to.old) (W.contents to.new) bytes.now) }
     ensures front { OnErr result (TakesFront (W.contents to.old) (W.contents to.new) bytes.now) }
 {
-    let mut done = 0;
-    while done < bytes.len() {
-        match to.write(&bytes[done..]) {
-            Ok(0) => return Err(Error::from(ErrorKind::WriteZero)),
-            Ok(more) => {
-                done = done + more;
-            }
-            Err(why) => return Err(why),
+    let mut rest = bytes;
+    while !rest.is_empty() {
+        match to.write(rest)? {
+            0 => return Err(Error::from(ErrorKind::WriteZero)),
+            more => rest = &rest[more..],
         }
     }
     Ok(())
+}
+
+// What was handed to an output: how many bytes, and whether it took them all, or why not.
+#[derive(Clone, Copy)]
+pub struct Handed {
+    pub bytes: usize,
+    pub taken: Result<()>,
 }
 
 // The most bytes of a system's message and its number.

@@ -40,3 +40,7 @@ pub taken_whole : {T E : Type 0} (r : Result T E) (before after : Option (List �
     → Appends before after bytes
 taken_whole (Ok t) before after bytes ok taken = taken
 taken_whole (Err e) before after bytes ok taken = cc
+
+pub taken_ok : {T E : Type 0} (r : Result T E) (before after : Option (List ℕ)) (bytes : List ℕ) → Taken r before after bytes → OnOk r (Appends before after bytes)
+taken_ok (Ok t) before after bytes taken = taken
+taken_ok (Err e) before after bytes taken = tt

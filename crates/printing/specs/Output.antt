@@ -1,6 +1,6 @@
 -- How much of a sheet's output was handed over. Document 01, "The day sheet": "The sheet program reads standard input and prints".
-use Rattle.std.specs.Prelude.{ℕ, ◌≤◌, ◌≡◌, Bool, true, false, List, ◌++◌, ◌⊎◌, Option, IfSome, length, drop}
-use Rattle.std.specs.Io.KnownBytes.{Appends}
+use Rattle.std.specs.Prelude.{ℕ, ◌≤◌, ◌≡◌, Bool, true, false, List, ◌++◌, ◌⊎◌, Option, length, drop}
+use Rattle.program.specs.Outcome.{WritesKnown}
 use Rattle.rules.specs.Messages.{send}
 use Rattle.rules.specs.Steps.{Call, end}
 use Rattle.sheet.specs.Batch.{calls_of, remaining_calls, remaining_output, start_table}
@@ -32,4 +32,4 @@ OfInput edition complete bytes = ((complete ≡ false) × (bytes ≡ 0)) ⊎ ((s
 
 -- The output holds all that the rules print for a sheet: for all of the input, if its bytes are known.
 abbrev pub PrintsKnown : Edition → Option (List ℕ) → Option (List ℕ) → Option (List ℕ) → Type 0
-PrintsKnown edition known before after = (sheet : List ℕ) × IfSome known (λ bytes. sheet ≡ bytes) × Appends before after (printed edition sheet)
+PrintsKnown edition = WritesKnown (printed edition)

@@ -1,6 +1,6 @@
 -- How many bytes were handed over for the sheet on standard input.
-use Rattle.std.specs.Prelude.{ℕ, ◌≡◌, Bool, false, List, ◌⊎◌, Option, IfSome, length}
-use Rattle.std.specs.Io.KnownBytes.{Appends}
+use Rattle.std.specs.Prelude.{ℕ, ◌≡◌, Bool, false, List, ◌⊎◌, Option, length}
+use Rattle.program.specs.Outcome.{WritesKnown}
 use Rattle.sheet_rules.specs.Rewriting.{rewrite}
 use Rattle.sheet_rules.specs.Sheet.{Edition}
 
@@ -14,4 +14,4 @@ OfInput from to complete bytes = ((complete ≡ false) × (bytes ≡ 0)) ⊎ OfS
 
 -- The output holds all that is to be written for a sheet: for all of the input, if its bytes are known.
 abbrev pub RewritesKnown : Edition → Edition → Option (List ℕ) → Option (List ℕ) → Option (List ℕ) → Type 0
-RewritesKnown from to known before after = (sheet : List ℕ) × IfSome known (λ bytes. sheet ≡ bytes) × Appends before after (rewrite from to sheet)
+RewritesKnown from to = WritesKnown (rewrite from to)

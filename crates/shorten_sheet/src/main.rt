@@ -1,64 +1,29 @@
 // Reads a sheet of the archive from standard input and writes it in shortest form to standard output, or, if it is refused, one line.
 #![tactic(auto)]
 
-use arguments::{Request, argument, argument_count, request_for};
 use board::hall_limits;
-use output::{fail, write_all};
+use program::{program, run};
 use reader::{archive_edition, edition_1};
 use rewriting::rewrite_input;
-use std::io::{Result, Write};
-
-// Prints the help, or says why it could not be written.
-fn print_help<W: Write>(to: &mut W) -> Result<()> {
-    write_all(to, b"usage: shorten_sheet < SHEET\n\n")?;
-    write_all(
-        to,
-        b"Rewrites a day sheet of the archive: the same records, each number in its shortest form.\n",
-    )?;
-    write_all(
-        to,
-        b"A sheet that is refused gives one line instead: the reply number, a space, and the\n",
-    )?;
-    write_all(
-        to,
-        b"offset of the number that is refused (15 and 16), or 0.\n\n",
-    )?;
-    write_all(
-        to,
-        b"An error of reading or writing is a line on standard error; the exit status stays 0.\n",
-    )
-}
 
 fn main(rt: HostRuntime) {
-    // A longer argument does not fit, and is read as an empty one.
-    let mut first = [0u8; 8];
-    let n = argument(&rt, 1, &mut first);
-    match request_for(argument_count(&rt), &first[..n]) {
-        Request::Run => {
-            rewrite_input(
-                &mut rt.stdin(),
-                &mut rt.stdout(),
-                &mut rt.stderr(),
-                archive_edition(hall_limits()),
-                edition_1(hall_limits()),
-                b"shorten_sheet: cannot read standard input",
-                b"shorten_sheet: cannot write standard output",
-            );
-        }
-        Request::Help => {
-            if let Err(why) = print_help(&mut rt.stdout()) {
-                fail(
-                    &mut rt.stderr(),
-                    b"shorten_sheet: cannot write standard output",
-                    why,
-                );
-            }
-        }
-        Request::Unknown => {
-            let _ = write_all(
-                &mut rt.stderr(),
-                b"usage: shorten_sheet < SHEET, or shorten_sheet --help\n",
-            );
-        }
-    }
+    let program = program!(
+        "shorten_sheet",
+        "\
+Rewrites a day sheet of the archive: the same records, each number in its shortest form.
+A sheet that is refused gives one line instead: the reply number, a space, and the
+offset of the number that is refused (15 and 16), or 0.
+"
+    );
+    let old = archive_edition(hall_limits());
+    let new = edition_1(hall_limits());
+    run(
+        &rt,
+        &mut rt.stdout(),
+        &mut rt.stderr(),
+        &program,
+        |to, errors| {
+            rewrite_input(&mut rt.stdin(), to, errors, old, new, &program.messages);
+        },
+    );
 }

@@ -22,8 +22,8 @@ loop-done-preserved g c =
     let done = c.loop-done.done in
     let rest = length buffer - done in
     let long : length c.read.new.buf ≡ rest = search rules in
-    let few : c.in-Ok.more ≤ rest = omega (arith, c.in-Ok.ensures.bound.0) in
-    let joined = grown done rest c.in-Ok.more buffer c.read.new.buf (omega arith) long few in
+    let few : c.in_ok-more.more ≤ rest = omega (arith, c.in_ok-more.ensures.bound.0) in
+    let joined = grown done rest c.in_ok-more.more buffer c.read.new.buf (omega arith) long few in
     let remaining = g.R.Read.remaining in
-    let all = Consumes-trans (remaining c.args.from.now) (remaining c.loop-done.from) (remaining c.read.new.self) _ _ c.loop-done.invariant.1 c.in-Ok.ensures.bytes.0 in
+    let all = Consumes-trans (remaining c.args.from.now) (remaining c.loop-done.from) (remaining c.read.new.self) _ _ c.loop-done.invariant.1 c.in_ok-more.ensures.bytes.0 in
     (search rules, subst (Consumes (remaining c.args.from.now) (remaining c.read.new.self)) (sym joined) all)

@@ -1,5 +1,6 @@
-use Rattle.std.proofs.Common.{arith, rules, ◌≡◌, take, length, subst, ◌∙◌, length-take-le}
+use Rattle.std.proofs.Common.{arith, rules, ◌≡◌, true, take, length, subst, ◌∙◌, length-take-le}
 use Rattle.std.proofs.lemmas.List.{take_all}
+use Rattle.std.proofs.lemmas.Result.{on_ok_weaker}
 use Rattle.std.specs.Io.KnownBytes.{Appends}
 use Rattle.rules.specs.Bytes.{words_of_bytes}
 use Rattle.reader.specs.Results.{edition_of}
@@ -7,7 +8,7 @@ use Rattle.sheet.specs.Batch.{remaining_output}
 use Rattle.sheet_rules.proofs.Laws.Sheet.{lent_bytes}
 use Rattle.sheet_rules.specs.Lines.{printed}
 use Rattle.printing.proofs.Laws.Output.{finished_bytes, reached_batch, reached_fits, reached_start}
-use Rattle.printing.proofs.Taken.{front_of, next_front, taken_first, taken_next, taken_whole}
+use Rattle.printing.proofs.Taken.{front_of, next_front, taken_first, taken_next, taken_ok, taken_whole}
 use Rattle.printing.proofs.print.Goals as goal
 
 pub start-first-requires : goal.start-first-requires
@@ -24,12 +25,16 @@ loop-taken-init g c =
     let front = front_of part (remaining_output edition c.args.sheet.now start.result.state (words_of_bytes start.new.table)) whole start.result.put started.output long in
     (search rules, search rules, started.numbered, started.some, reached_start started, start.ensures.checked, taken_first c.write_all-taken.result _ _ part _ c.write_all-taken.ensures.all c.write_all-taken.ensures.front front)
 
-pub returns-then-ended-clause-all : goal.returns-then-ended-clause-all
-returns-then-ended-clause-all g c = λ complete.
+pub returns-else-not-state-clause-all : goal.returns-else-not-state-clause-all
+returns-else-not-state-clause-all g c =
     let inv = c.loop-taken.invariant in
-    let bytes = finished_bytes inv.4 c.if-ended.true in
-    let was = taken_whole c.loop-taken.taken _ _ _ c.loop-taken-test.ensures.value inv.6 in
-    subst (Appends (g.W.Write.contents c.args.to.now) (g.W.Write.contents c.loop-taken.to)) (take_all c.loop-taken.bytes (printed (edition_of c.args.edition) c.args.sheet.now) (omega (arith, bytes))) was
+    let whole = printed (edition_of c.args.edition) c.args.sheet.now in
+    let before = g.W.Write.contents c.args.to.now in
+    let after = g.W.Write.contents c.loop-taken.to in
+    let finished : c.loop-taken.state.finished ≡ true = search rules in
+    let bytes = finished_bytes inv.4 finished in
+    let all : take c.loop-taken.bytes whole ≡ whole = take_all c.loop-taken.bytes whole (omega (arith, bytes)) in
+    on_ok_weaker c.loop-taken.taken (subst (Appends before after) all) (taken_ok c.loop-taken.taken before after _ inv.6)
 
 pub overflow_add-bytes : goal.overflow_add-bytes
 overflow_add-bytes g c =
