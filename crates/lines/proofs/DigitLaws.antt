@@ -1,12 +1,14 @@
--- The digits of a number are those of its tenth, and then the last.
+-- The digits of a number, here and in the library.
 use Prim.Native.Nat.{ℕ, zero, suc, ◌+◌, ◌/◌, ◌%◌, ◌^◌, ◌≤◌, ◌<◌}
 use native.Mathlib.Omega.{arith}
 use native.Mathlib.Nat.{pow-succ', pow-zero}
-use mathlib.Core.Path.{◌≡◌, refl, ap, ◌∙◌}
+use mathlib.Core.Path.{◌≡◌, refl, sym, ap, ◌∙◌}
 use mathlib.Core.Bool.{Bool, true, false, cond}
 use mathlib.Core.List.{List, [], ◌∷◌, ◌++◌}
 use lib.Dec.{ltb}
 use borrow.Author.Tests.{lt-ltb, le-ltb}
+use Rattle.std.specs.Fmt.{decimal as printed}
+use Rattle.std.proofs.lemmas.Fmt.{decimal_by_steps}
 use Rattle.sheet_rules.specs.Lines.{decimal, digits}
 
 -- how many digits there may be does not matter, once they are enough
@@ -21,12 +23,15 @@ digits_enough (suc most) value few =
     by_size true same = refl
     by_size false same = ap (λ (front : List ℕ). front ++ ((48 + value % 10) ∷ [])) same
 
-pub decimal_one : (value : ℕ) → value < 10 → decimal value ≡ (48 + value) ∷ []
+-- what the library prints of a number is what the rules say
+pub printed_is_decimal : (value : ℕ) → value < 2 ^ 64 → printed value ≡ decimal value
 unfolding decimal
-decimal_one value small = simp (lt-ltb value 10 small)
+printed_is_decimal value fits = decimal_by_steps (λ (n : ℕ) (bytes : List ℕ). n < 2 ^ 64 → bytes ≡ decimal n) one more value fits fits
+  where
+    one : (n : ℕ) → n < 10 → n < 2 ^ 64 → (48 + n) ∷ [] ≡ decimal n
+    one n small _ = simp (lt-ltb n 10 small)
 
-pub decimal_more : (value : ℕ) → 10 ≤ value → value < 2 ^ 64 → decimal value ≡ decimal (value / 10) ++ ((48 + value % 10) ∷ [])
-unfolding decimal
-decimal_more value large fits =
-    ap (λ (small : Bool). cond {A = List ℕ} small ((48 + value) ∷ []) (digits 19 (value / 10) ++ ((48 + value % 10) ∷ []))) (le-ltb value 10 large)
-    ∙ ap (λ (front : List ℕ). front ++ ((48 + value % 10) ∷ [])) (digits_enough 18 (value / 10) (omega arith))
+    more : (n : ℕ) (bytes : List ℕ) → 10 ≤ n → (n / 10 < 2 ^ 64 → bytes ≡ decimal (n / 10)) → n < 2 ^ 64 → bytes ++ ((48 + n % 10) ∷ []) ≡ decimal n
+    more n bytes large same below =
+        ap (λ (front : List ℕ). front ++ ((48 + n % 10) ∷ [])) (same (omega arith) ∙ sym (digits_enough 18 (n / 10) (omega arith)))
+        ∙ sym (ap (λ (small : Bool). cond {A = List ℕ} small ((48 + n) ∷ []) (digits 19 (n / 10) ++ ((48 + n % 10) ∷ []))) (le-ltb n 10 large))

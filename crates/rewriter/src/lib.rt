@@ -3,20 +3,17 @@
 #![tactic(auto)]
 
 ghost use Rattle.std.specs.Prelude.{◌≡◌, ◌+◌, ◌≤◌, length};
-ghost use Rattle.reader.specs.Results.{carried_of, edition_of, header_of, header_result, record_of};
-ghost use Rattle.sheet_rules.specs.Rewriting.{refused_sheet_line, rewrite as rewritten, write_reading};
-ghost use Rattle.sheet_rules.specs.Sheet.{max_bytes, open_sheet, opened};
-ghost use Rattle.rewriter.specs.Build.{BuiltOf, PutUnlessLong, records_from};
+ghost use Rattle.reader.specs.Results.{carried_of, edition_of, header_result, reason_of, record_of};
+ghost use Rattle.sheet_rules.specs.Rewriting.{refused_sheet_line, rewrite as rewritten};
+ghost use Rattle.sheet_rules.specs.Sheet.{max_bytes, open_sheet};
+ghost use Rattle.rewriter.specs.Build.{Builds, BuiltOf, PutUnlessLong, records_from};
 ghost use Rattle.rewriter.specs.Output.{output_of, write_whole};
 
-use board::{Board, opening};
-use buffer::fits;
+use board::{Board, Row, opening};
+use buffer::Buffer;
 use lines::{put_refused_sheet, refused_sheet_length};
-use reader::{
-    Carried, Edition, Header, MAX_BYTES, ParsedHeader, ParsedRecord, Record, Refusal, TOO_LONG,
-    begin_sheet, read_record, refuse_with,
-};
-use reply::number;
+use reader::{Edition, Header, MAX_BYTES, Record, Refusal, begin_sheet, read_record};
+use reply::Reason;
 use writer::{put_header, put_record};
 
 // No record has more bytes: it has at most five numbers, each of at most three.
@@ -25,55 +22,30 @@ const RECORD_BYTES: usize = 15;
 // Room for the longest sheet, and for one record more.
 const ROOM: usize = MAX_BYTES + RECORD_BYTES;
 
-// The result of writing, which writes all bytes or none.
-#[derive(Clone, Copy)]
-pub enum Written {
-    // So many bytes, from the start of the buffer.
-    Bytes(usize),
-    // They do not fit.
-    NoRoom,
-}
-
 // Reads the header of a sheet, and asks the opening's questions.
-fn open_sheet(sheet: &[u8], edition: Edition) -> ParsedHeader
+fn open_sheet(sheet: &[u8], edition: Edition) -> Result<(Header, usize), Refusal>
     ensures { header_result result ≡ open_sheet (edition_of edition) sheet.now }
 {
-    match begin_sheet(sheet, edition) {
-        ParsedHeader::Refused(reason) => ParsedHeader::Refused(reason),
-        ParsedHeader::Whole(header, next) => {
-            let r = opening(
-                edition.format.limits,
-                header.desks,
-                header.screens,
-                header.positions,
-                Board::MAX_WORDS,
-            );
-            let reply_number = number(r);
-            if reply_number != 0 {
-                return ParsedHeader::Refused(refuse_with(reply_number));
-            }
-            ParsedHeader::Whole(header, next)
-        }
-    }
+    let (header, next) = begin_sheet(sheet, edition)?;
+    opening::<Row>(
+        edition.format.limits,
+        header.desks,
+        header.screens,
+        header.positions,
+        Board::MAX_WORDS,
+    )?;
+    Ok((header, next))
 }
 
-// The offset up to which the records were put, or what ends their reading.
-#[derive(Clone, Copy)]
-enum Built {
-    Upto(usize),
-    Refused(Refusal),
-}
-
-// Puts a record, unless 65,536 bytes are exceeded already; the result is the offset after it.
-// Precondition: the code is one of the five, as for `put_record`, and the buffer has room for the longest sheet and one record more.
-fn put_unless_long(out: &mut [u8], at: usize, to: Edition, carried: Carried, entry: Record) -> usize
-    requires { (1 ≤ entry.code) × (entry.code ≤ 5) × (max_bytes + 15 ≤ length out.old) }
-    ensures { PutUnlessLong out.old out.new at ((edition_of to).encode_record (carried_of carried) (record_of entry)) result }
+// Puts a record, unless 65,536 bytes are exceeded already.
+// Precondition: the buffer has room for the longest sheet and one record more.
+fn put_unless_long(out: &mut Buffer<'_>, to: Edition, carried: Option<u16>, entry: Record)
+    requires { max_bytes + 15 ≤ length out.old.bytes.now }
+    ensures { PutUnlessLong out.old out.new ((edition_of to).encode_record (carried_of carried) (record_of entry)) }
 {
-    if MAX_BYTES < at {
-        return at;
+    if out.len <= MAX_BYTES {
+        put_record(out, to, carried, entry);
     }
-    put_record(out, at, to, carried, entry)
 }
 
 // Puts the records from an offset on. All of them are read, also where the sheet becomes too long, because one may be refused.
@@ -83,81 +55,71 @@ fn put_records(
     from: Edition,
     first: usize,
     to: Edition,
-    out: &mut [u8],
-    start: usize,
-) -> Built
-    requires { max_bytes + 15 ≤ length out.old }
-    ensures { BuiltOf (edition_of to) (records_from (edition_of from) sheet.now first) out.old start result out.new }
+    out: &mut Buffer<'_>,
+) -> Result<(), Refusal>
+    requires { max_bytes + 15 ≤ length out.old.bytes.now }
+    ensures { BuiltOf (edition_of to) (records_from (edition_of from) sheet.now first) out.old result out.new }
 {
     let mut offset = first;
-    let mut carried = Carried::NoDesk;
-    let mut at = start;
+    let mut carried = None;
     while offset < sheet.len() {
-        match read_record(sheet, offset, from, carried) {
-            ParsedRecord::Refused(reason) => return Built::Refused(reason),
-            ParsedRecord::Whole(entry, next) => {
-                at = put_unless_long(out, at, to, carried, entry);
-                carried = Carried::LastDesk(entry.desk);
-                offset = next;
-            }
-        }
+        let (entry, next) = read_record(sheet, offset, from, carried)?;
+        put_unless_long(out, to, carried, entry);
+        carried = Some(entry.desk);
+        offset = next;
     }
-    Built::Upto(at)
+    Ok(())
 }
 
-// Writes the line of a refused sheet, if the buffer has room for it.
-fn write_refused(out: &mut [u8], reason: Refusal) -> Written
-    ensures { output_of result out.new ≡ write_whole out.old (refused_sheet_line reason.number reason.offset) }
+// Builds the sheet in an empty buffer: its header, and then its records; or says what ends the reading, or that it is too long.
+// Precondition: the buffer has room for the longest sheet and one record more.
+fn build(sheet: &[u8], from: Edition, to: Edition, out: &mut Buffer<'_>) -> Result<(), Refusal>
+    requires { (out.old.len ≡ 0) × (max_bytes + 15 ≤ length out.old.bytes.now) }
+    ensures { Builds (edition_of from) (edition_of to) sheet.now result out.new }
 {
-    let reply_number = reason.number as u64;
-    let offset = reason.offset as u64;
-    if fits(out.len(), 0, refused_sheet_length(reply_number, offset)) {
-        return Written::Bytes(put_refused_sheet(out, 0, reply_number, offset));
+    let (header, first) = open_sheet(sheet, from)?;
+    put_header(out, to, header);
+    put_records(sheet, from, first, to, out)?;
+    if MAX_BYTES < out.len {
+        return Err(Refusal::from(Reason::TooLong));
     }
-    Written::NoRoom
+    Ok(())
 }
 
-// Writes bytes, if the buffer has room for them.
-fn write_bytes(out: &mut [u8], bytes: &[u8]) -> Written
+// Writes the line of a refused sheet, if the buffer has room for it: how many bytes it has.
+fn write_refused(out: &mut [u8], refusal: Refusal) -> Option<usize>
+    ensures { output_of result out.new ≡ write_whole out.old (refused_sheet_line (reason_of refusal).number (reason_of refusal).offset) }
+{
+    let reply_number = u64::from(refusal.reason.number());
+    let offset = refusal.offset as u64;
+    let mut line = Buffer::new(out);
+    if !line.fits(refused_sheet_length(reply_number, offset)) {
+        return None;
+    }
+    put_refused_sheet(&mut line, reply_number, offset);
+    Some(line.len)
+}
+
+// Writes bytes, if the buffer has room for them: how many they are.
+fn write_bytes(out: &mut [u8], bytes: &[u8]) -> Option<usize>
     ensures { output_of result out.new ≡ write_whole out.old bytes.now }
 {
     if out.len() < bytes.len() {
-        return Written::NoRoom;
+        return None;
     }
     out[..bytes.len()].copy_from_slice(bytes);
-    Written::Bytes(bytes.len())
+    Some(bytes.len())
 }
 
-// Writes a sheet whose header was read, if the buffer has room for it; or the line of a refused sheet.
-fn write_opened(
-    sheet: &[u8],
-    from: Edition,
-    header: Header,
-    first: usize,
-    to: Edition,
-    out: &mut [u8],
-) -> Written
-    ensures { output_of result out.new ≡ write_whole out.old (write_reading (edition_of to) (opened (header_of header) (records_from (edition_of from) sheet.now first))) }
-{
-    let mut built = [0u8; ROOM];
-    let start = put_header(&mut built, 0, to, header);
-    match put_records(sheet, from, first, to, &mut built, start) {
-        Built::Refused(reason) => write_refused(out, reason),
-        Built::Upto(end) => {
-            if MAX_BYTES < end {
-                return write_refused(out, refuse_with(TOO_LONG));
-            }
-            write_bytes(out, &built[..end])
-        }
-    }
-}
-
-// Writes a sheet in another edition, if the buffer has room for it; or the line of a refused sheet, if the buffer has room for that.
-pub fn rewrite(sheet: &[u8], from: Edition, to: Edition, out: &mut [u8]) -> Written
+// Writes a sheet in another edition, if the buffer has room for it; or the line of a refused sheet, if the buffer has room for that: how
+// many bytes, from the start of the buffer. If they do not fit, nothing is written.
+pub fn rewrite(sheet: &[u8], from: Edition, to: Edition, out: &mut [u8]) -> Option<usize>
     ensures { output_of result out.new ≡ write_whole out.old (rewritten (edition_of from) (edition_of to) sheet.now) }
 {
-    match open_sheet(sheet, from) {
-        ParsedHeader::Refused(reason) => write_refused(out, reason),
-        ParsedHeader::Whole(header, first) => write_opened(sheet, from, header, first, to, out),
+    let mut bytes = [0u8; ROOM];
+    let mut built = Buffer::new(&mut bytes);
+    match build(sheet, from, to, &mut built) {
+        Ok(()) => write_bytes(out, built.written()),
+        Err(refusal) => write_refused(out, refusal),
     }
 }

@@ -1,5 +1,6 @@
--- The theorems about a whole sheet: `start`, and then `fill` until the state is finished, each from the state and the table that the last one left.
-use Rattle.std.specs.Prelude.{ℕ, suc, ◌≤◌, ◌≡◌, true, List, ◌++◌, length, take}
+-- The theorems about a whole sheet: `start`, and then `fill` until there is no state, each from the state and the table that the last one left.
+use Rattle.std.specs.Prelude.{ℕ, suc, ◌≤◌, ◌≡◌, List, ◌++◌, length, Option, IsNone}
+use Rattle.buffer.specs.declared.Buffer.{Buffer}
 use Rattle.std.proofs.Common.{sym, ap, ◌∙◌, arith}
 use Rattle.sheet_rules.specs.Lines.{printed}
 use Rattle.sheet_rules.specs.Sheet.{Edition}
@@ -8,15 +9,15 @@ use Rattle.sheet.proofs.Laws.Batches.{batches_bounded, batches_emitted, batches_
 use Rattle.sheet.proofs.Laws.Batches.{final_table_kept}
 use Rattle.sheet.specs.declared.State.{State}
 
-module _ (edition : Edition) (sheet out : List ℕ) (first : State) (table out_after : List ℕ) (put : ℕ) (started : Started edition sheet out first table out_after put)
+module _ (edition : Edition) (sheet : List ℕ) (out : Buffer) (first : Option State) (table : List ℕ) (out_after : Buffer) (started : Started edition sheet out first table out_after)
     (batches : List BatchResult) (each : Batches edition sheet first table batches) where
-  -- Once the state is finished, the bytes of the batches are exactly what the rules print for the sheet.
-  pub whole_sheet : (last_state first batches).finished ≡ true → take put out_after ++ bytes_of batches ≡ printed edition sheet
+  -- Once there is no state, the bytes of the batches are exactly what the rules print for the sheet.
+  pub whole_sheet : IsNone (last_state first batches) → started.bytes ++ bytes_of batches ≡ printed edition sheet
   whole_sheet finished =
-      ap (λ (rest : List ℕ). take put out_after ++ rest) (emitted_all (batches_emitted edition sheet first table batches each) finished) ∙ started.output
+      ap (λ (rest : List ℕ). started.bytes ++ rest) (emitted_all (batches_emitted edition sheet first table batches each) finished) ∙ started.output
 
   -- And the table is the one after all calls of the sheet.
-  pub whole-table : (last_state first batches).finished ≡ true → last_table table batches ≡ sheet_table edition sheet
+  pub whole-table : IsNone (last_state first batches) → last_table table batches ≡ sheet_table edition sheet
   whole-table finished =
       sym (final_table_at_end edition sheet (last_state first batches) (last_table table batches) finished)
       ∙ final_table_kept (batches_emitted edition sheet first table batches each)

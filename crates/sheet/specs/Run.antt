@@ -3,7 +3,7 @@ use Rattle.std.specs.Prelude.{ℕ, List}
 use Rattle.rules.specs.Bytes.{words_of_bytes}
 use Rattle.rules.specs.Hall.{Limits}
 use Rattle.board.specs.Results.{Matches}
-use Rattle.reply.specs.declared.Reply.{Reply}
+use Rattle.reply.specs.Answer.{Reply}
 use Rattle.sheet_rules.specs.Run.{run_record}
 use Rattle.sheet_rules.specs.Sheet.{Record}
 

@@ -1,46 +1,36 @@
 -- `lines::put_end` meets its contract.
-use native.Mathlib.Omega.{arith}
-use mathlib.Core.List.{[]}
-use lib.ListN.{length-append}
-use Rattle.sheet_rules.specs.Lines.{decimal, end_line}
-use Rattle.lines.proofs.FrontLaws.{rest_put}
+use mathlib.Core.List.{[], ◌∷◌}
+use Rattle.buffer.specs.Put.{Fits}
+use Rattle.buffer.proofs.Laws.Put.{front_fits as front_of, put_on, rest_fits as after_bytes}
+use Rattle.sheet_rules.specs.Lines.{decimal, end_line, spaced}
+use Rattle.lines.proofs.FrontLaws.{front_fits, rest_fits, rest_put}
 use Rattle.lines.proofs.put_end.Goals as goal
+use Rattle.lines.proofs.put_end.Goals.{After-put, After-put_number}
 
-pub put_byte-after_e-requires : goal.put_byte-after_e-requires
+after_end : (c : After-put) → Fits c.put.new.self (spaced (c.args.accepted ∷ c.args.refused ∷ c.args.handed_back ∷ []))
 unfolding end_line
-put_byte-after_e-requires c = omega arith
+after_end c = after_bytes (spaced (c.args.accepted ∷ c.args.refused ∷ c.args.handed_back ∷ [])) c.put.ensures c.requires
 
-pub put_byte-after_n-requires : goal.put_byte-after_n-requires
-unfolding end_line
-put_byte-after_n-requires c = omega arith
+after_accepted : (c : After-put_number) → Fits c.put_number.new.out (spaced (c.args.refused ∷ c.args.handed_back ∷ []))
+after_accepted c = rest_fits (decimal c.args.accepted) 32 (spaced (c.args.refused ∷ c.args.handed_back ∷ [])) c.put_number.ensures (after_end (goal.at.After-put_number c).After-put)
 
-pub put_byte-after_d-requires : goal.put_byte-after_d-requires
+pub put-requires : goal.put-requires
 unfolding end_line
-put_byte-after_d-requires c = omega arith
-
-pub put_byte-after_end-requires : goal.put_byte-after_end-requires
-unfolding end_line
-put_byte-after_end-requires c = omega arith
-
-pub put_number-after_accepted-requires : goal.put_number-after_accepted-requires
-unfolding end_line
-put_number-after_accepted-requires c = simp length-append (omega (arith, simp length-append at c.requires))
-
-pub put_number-after_refused-requires : goal.put_number-after_refused-requires
-unfolding end_line
-put_number-after_refused-requires c = simp length-append (omega (arith, simp length-append at c.requires, simp length-append at c.put_number-after_accepted.ensures.offset))
+put-requires c = front_of c.args.out.now (101 ∷ 110 ∷ 100 ∷ 32 ∷ []) (spaced (c.args.accepted ∷ c.args.refused ∷ c.args.handed_back ∷ [])) c.requires
 
 pub put_number-requires : goal.put_number-requires
-unfolding end_line
-put_number-requires c = simp length-append (omega (arith, simp length-append at c.requires, simp length-append at c.put_number-after_accepted.ensures.offset, simp length-append at c.put_number-after_refused.ensures.offset))
+put_number-requires c = front_fits (decimal c.args.accepted) 32 (spaced (c.args.refused ∷ c.args.handed_back ∷ [])) c.put.new.self (after_end (goal.at.put_number-requires c).After-put)
+
+pub put_number-requires-2 : goal.put_number-requires-2
+put_number-requires-2 c = front_fits (decimal c.args.refused) 32 (spaced (c.args.handed_back ∷ [])) c.put_number.new.out (after_accepted (goal.at.put_number-requires-2 c).After-put_number)
+
+pub put_number-requires-3 : goal.put_number-requires-3
+put_number-requires-3 c = rest_fits (decimal c.args.refused) 32 (spaced (c.args.handed_back ∷ [])) c.put_number-2.ensures (after_accepted (goal.at.put_number-requires-3 c).After-put_number)
 
 pub returns : goal.returns
 unfolding end_line
 returns c =
     let a = c.args in
-    rest_put [] 101 c.put_byte-after_e.ensures
-    (rest_put [] 110 c.put_byte-after_n.ensures
-    (rest_put [] 100 c.put_byte-after_d.ensures
-    (rest_put [] 32 c.put_byte-after_end.ensures
-    (rest_put (decimal a.accepted) 32 c.put_number-after_accepted.ensures
-    (rest_put (decimal a.refused) 32 c.put_number-after_refused.ensures c.put_number.ensures)))))
+    put_on c.put.ensures
+    (rest_put (decimal a.accepted) 32 c.put_number.ensures
+    (rest_put (decimal a.refused) 32 c.put_number-2.ensures c.put_number-3.ensures))

@@ -1,6 +1,7 @@
 -- `rewriter::open_sheet` meets its contract.
-use Prim.Native.Nat.{ℕ}
 use mathlib.Core.Path.{◌≡◌, sym, ap, ◌∙◌}
+use Rattle.std.proofs.lemmas.Result.{err_from_is_err_and}
+use Rattle.board.specs.Kind.{first}
 use Rattle.board.specs.Opening.{OpeningAnswer}
 use Rattle.rules.specs.Hall.{Hall, Limits}
 use Rattle.rules.specs.Numbers.{refused}
@@ -15,23 +16,21 @@ use Rattle.rewriter.proofs.SheetLaws.{opening_number_lem, sheet_opens, sheet_ref
 use Rattle.rewriter.proofs.open_sheet.Goals as goal
 
 -- the number of the opening, in the rules' terms
-opening_is : (edition : Edition) (hall : Hall) {number : ℕ} {answer : Answer} → OpeningAnswer (limits_of edition.format.limits) hall max_words answer
-    → number ≡ answer.number
-    → opening_number (edition_of edition).limits hall ≡ number
-opening_is edition hall said is_number =
-    ap (λ (limits : Limits). opening_number limits hall) (edition_limits edition)
-    ∙ opening_number_lem (limits_of edition.format.limits) hall said is_number
+opening_is : (edition : Edition) (hall : Hall) {answer : Answer} → OpeningAnswer first (limits_of edition.format.limits) hall max_words answer
+    → opening_number (edition_of edition).limits hall ≡ answer.number
+opening_is edition hall said = ap (λ (limits : Limits). opening_number limits hall) (edition_limits edition) ∙ opening_number_lem (limits_of edition.format.limits) hall said
 
-pub returns-then-reply_number-ne0 : goal.returns-then-reply_number-ne0
-returns-then-reply_number-ne0 c =
+pub returns-in_err-opening : goal.returns-in_err-opening
+returns-in_err-opening c =
     let a = c.args in
-    let read = sym c.begin_sheet.ensures ∙ ap header_result c.in-Whole.is in
-    let opening = opening_is a.edition (header_of c.in-Whole.header) c.opening-r.ensures c.number-reply_number.ensures in
-    ap refused c.refuse_with.ensures ∙ sheet_refused (edition_of a.edition) a.sheet.now read opening c.if-reply_number-ne0.true
+    let p = err_from_is_err_and c.from_residual-in_err-opening.result c.from_residual-in_err-opening.ensures.1 in
+    let read = sym c.begin_sheet.ensures ∙ ap header_result c.in_ok-header.was in
+    let opening = opening_is a.edition (header_of c.in_ok-header.header) c.in_err-opening.ensures in
+    rw p.1 (ap refused p.2 ∙ sheet_refused (edition_of a.edition) a.sheet.now read c.in_err-opening.field-0.0 opening)
 
-pub returns-else-reply_number-ne0 : goal.returns-else-reply_number-ne0
-returns-else-reply_number-ne0 c =
+pub returns : goal.returns
+returns c =
     let a = c.args in
-    let read = sym c.begin_sheet.ensures ∙ ap header_result c.in-Whole.is in
-    let opening = opening_is a.edition (header_of c.in-Whole.header) c.opening-r.ensures c.number-reply_number.ensures in
-    sheet_opens (edition_of a.edition) a.sheet.now read opening c.if-reply_number-ne0.false
+    let read = sym c.begin_sheet.ensures ∙ ap header_result c.in_ok-header.was in
+    let opening = opening_is a.edition (header_of c.in_ok-header.header) c.in_ok-opening.ensures in
+    sheet_opens (edition_of a.edition) a.sheet.now read opening

@@ -8,4 +8,4 @@ pub put_record-requires : goal.put_record-requires
 put_record-requires c =
     let to = c.args.to in
     let fits = record_at_most_15 (version_of to.version) (format_of to.format) (carried_of c.args.carried) (record_of c.args.entry) in
-    (c.requires.0, c.requires.1, omega (arith, fits, c.requires.2, c.if-at-gt-MAX_BYTES.false))
+    omega (arith, fits, c.requires, c.if-out-le-MAX_BYTES.true)

@@ -5,4 +5,4 @@ use Rattle.writer.proofs.put_hall.Goals as goal
 
 pub returns : goal.returns
 unfolding encode_header
-returns c = put_on c.put_number-after_desks.ensures (put_on c.put_number-after_screens.ensures c.put_number.ensures)
+returns c = put_on c.put_number.ensures (put_on c.put_number-2.ensures c.put_number-3.ensures)

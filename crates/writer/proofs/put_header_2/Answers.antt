@@ -5,4 +5,4 @@ use Rattle.writer.proofs.put_header_2.Goals as goal
 
 pub returns : goal.returns
 unfolding encode_header2
-returns c = put_on c.put_number-after_zero.ensures (put_on c.put_number-after_edition.ensures c.put_hall.ensures)
+returns c = put_on c.put_number.ensures (put_on c.put_number-2.ensures c.put_hall.ensures)

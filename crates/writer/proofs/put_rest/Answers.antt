@@ -3,4 +3,4 @@ use Rattle.buffer.proofs.Laws.Put.{put_on}
 use Rattle.writer.proofs.put_rest.Goals as goal
 
 pub returns : goal.returns
-returns c = put_on c.put_field-after_screen.ensures (put_on c.put_field-after_position.ensures c.put_field.ensures)
+returns c = put_on c.put_field.ensures (put_on c.put_field-2.ensures c.put_field-3.ensures)

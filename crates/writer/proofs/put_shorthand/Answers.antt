@@ -3,4 +3,4 @@ use Rattle.buffer.proofs.Laws.Put.{put_on}
 use Rattle.writer.proofs.put_shorthand.Goals as goal
 
 pub returns : goal.returns
-returns c = put_on (rw c.number.ensures at c.put_number-after_code.ensures) c.put_rest.ensures
+returns c = put_on (rw c.number.ensures at c.put_number.ensures) c.put_rest.ensures

@@ -5,4 +5,4 @@ use Rattle.writer.proofs.put_written_out.Goals as goal
 
 pub returns : goal.returns
 unfolding encode_record
-returns c = put_on (rw c.number.ensures at c.put_number-after_code.ensures) (put_on c.put_field-after_desk.ensures c.put_rest.ensures)
+returns c = put_on (rw c.number.ensures at c.put_number.ensures) (put_on c.put_field.ensures c.put_rest.ensures)
