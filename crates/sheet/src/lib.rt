@@ -21,7 +21,7 @@ use limits::Limits;
 use lines::{put_end, put_line};
 use reader::{Edition, Refusal, begin_sheet, read_record};
 use reply::{Reason, Reply, number, session};
-use tally::{Tally, add_step_lent};
+use tally::Tally;
 
 // The most bytes of a record's line, and of the last line.
 const ROOM: usize = 84 + 67;
@@ -136,11 +136,13 @@ fn put_record(
                 u64::from(reply_number),
                 u64::from(reply_session),
             );
+            let mut tally = state.tally;
+            tally.add_step(code, reply_number, reply_session);
             Some(State {
                 offset: next,
                 index: state.index + 1,
                 carried: Some(entry.desk),
-                tally: add_step_lent(state.tally, code, reply_number, reply_session),
+                tally,
                 ..state
             })
         }

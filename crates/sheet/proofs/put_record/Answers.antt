@@ -30,7 +30,7 @@ returns-in-Ok-clause-partial c =
     let ran = rw c.number-code.ensures at c.run_record-reply.ensures in
     let same_limits = ap (λ (limits : Limits). run_record limits (words_of_bytes c.args.table.now) (record_of c.in-Ok.entry)) (sym (edition_limits c.args.edition)) in
     record_ran (edition_lawful c.args.edition (omega arith)) c.if-sheet-state.false read c.run_record-reply.result (ran.words ∙ same_limits)
-    c.number-reply_number.ensures c.session-reply_session.ensures (rw c.number-code.ensures at c.add_step_lent.ensures)
+    c.number-reply_number.ensures c.session-reply_session.ensures (rw c.number-code.ensures at c.add_step.ensures)
     (rw (c.from.ensures, c.from-in-Ok.ensures, c.from-in-Ok-2.ensures, c.number-code.ensures) at c.put_line.ensures)
 
 pub returns-in-Ok-clause-progress : goal.returns-in-Ok-clause-progress
