@@ -50,6 +50,7 @@ fn beginning(r: &[u8], s: usize) -> usize
 
 // Whether none of n slots of the list l, from slot a on and around, holds x. They are one part of l, or two.
 // Precondition, here and in each function on a list below: l is the whole list, and a is one of its slots (`ListFrom`).
+// They are parameters, and no type of their own: some of the functions read l, and some write it.
 fn lacks_around(l: &[u8], s: usize, a: usize, n: usize, x: u16) -> bool
     requires { (ListFrom s l.now a) × (n ≤ 2 * s) }
     ensures { result ≡ lacks_word x (take n (rotate a (words_of_bytes l.now))) }
