@@ -1,5 +1,5 @@
 -- How much of a sheet's output was handed over. Document 01, "The day sheet": "The sheet program reads standard input and prints".
-use Rattle.std.specs.Prelude.{ℕ, ◌≤◌, ◌≡◌, Bool, true, false, List, ◌++◌, ◌⊎◌, Option, length, drop}
+use Rattle.std.specs.Prelude.{ℕ, ◌≤◌, ◌≡◌, Bool, true, false, List, ◌++◌, ◌⊎◌, Option, IsNone, length, drop}
 use Rattle.program.specs.Outcome.{WritesKnown}
 use Rattle.rules.specs.Messages.{send}
 use Rattle.rules.specs.Steps.{Call, end}
@@ -8,9 +8,9 @@ use Rattle.sheet.specs.declared.State.{State}
 use Rattle.sheet_rules.specs.Lines.{printed}
 use Rattle.sheet_rules.specs.Sheet.{Edition, reading}
 
--- A state in the run of a sheet: the remaining output is the whole output without its first so many bytes, and the table is the one after
+-- A state in the run of a sheet, or none after the last line: the remaining output is the whole output without its first so many bytes, and the table is the one after
 -- the calls before the state.
-pub record Reached (edition : Edition) (sheet : List ℕ) (bytes : ℕ) (state : State) (table : List ℕ) : Type 0 where
+pub record Reached (edition : Edition) (sheet : List ℕ) (bytes : ℕ) (state : Option State) (table : List ℕ) : Type 0 where
   pub within : bytes ≤ length (printed edition sheet)
   pub output : remaining_output edition sheet state table ≡ drop bytes (printed edition sheet)
   pub calls : List Call
@@ -21,10 +21,10 @@ pub record Reached (edition : Edition) (sheet : List ℕ) (bytes : ℕ) (state :
 -- (`Whole.complete_output`).
 pub record HandedOver (edition : Edition) (sheet : List ℕ) (complete : Bool) (bytes : ℕ) : Type 0 where
   pub some : 1 ≤ bytes
-  pub state : State
+  pub state : Option State
   pub table : List ℕ
   pub reached : Reached edition sheet bytes state table
-  pub finished : complete ≡ true → state.finished ≡ true
+  pub finished : complete ≡ true → IsNone state
 
 -- What was handed over of the sheet on standard input, whichever it was; or nothing, because it could not be read.
 abbrev pub OfInput : Edition → Bool → ℕ → Type 0

@@ -10,6 +10,7 @@ ghost use Rattle.sheet_rules.specs.Lines.{printed};
 ghost use Rattle.printing.specs.Output.{HandedOver, OfInput, PrintsKnown};
 
 use board::Board;
+use buffer::Buffer;
 use output::{Handed, write_all};
 use program::{Messages, work_on_input};
 use reader::Edition;
@@ -26,16 +27,16 @@ pub fn print<W: Write>(sheet: &[u8], edition: Edition, to: &mut W) -> Handed
     ensures front { TakesFront (W.contents to.old) (W.contents to.new) (take result.bytes (printed (edition_of edition) sheet.now)) }
 {
     let mut table = [0u8; Board::MAX_BYTES];
-    let mut out = [0u8; BATCH_BYTES];
-    let first = start(sheet, edition, &mut table, &mut out);
-    let mut state = first.state;
-    let mut bytes = first.put;
-    let mut taken = write_all(to, &out[..first.put]);
-    while taken.is_ok() && !state.finished {
-        let filled = fill(sheet, edition, state, &mut table, &mut out);
-        state = filled.state;
-        bytes += filled.put;
-        taken = write_all(to, &out[..filled.put]);
+    let mut batch = [0u8; BATCH_BYTES];
+    let mut out = Buffer::new(&mut batch);
+    let mut state = start(sheet, edition, &mut table, &mut out);
+    let mut bytes = out.len;
+    let mut taken = write_all(to, out.written());
+    while taken.is_ok() && state.is_some() {
+        out.clear();
+        state = fill(sheet, edition, state, &mut table, &mut out);
+        bytes += out.len;
+        taken = write_all(to, out.written());
     }
     Handed { bytes, taken }
 }

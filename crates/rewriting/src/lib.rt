@@ -12,7 +12,7 @@ ghost use Rattle.rewriting.specs.Input.{OfInput, OfSheet, RewritesKnown};
 use output::{Handed, write_all};
 use program::{Messages, work_on_input};
 use reader::Edition;
-use rewriter::{Written, rewrite};
+use rewriter::rewrite;
 use std::io::{Error, ErrorKind, Read, Write};
 
 // The most bytes of an output.
@@ -27,11 +27,11 @@ pub fn write_rewritten<W: Write>(sheet: &[u8], from: Edition, to: Edition, outpu
 {
     let mut out = [0u8; OUTPUT_BYTES];
     match rewrite(sheet, from, to, &mut out) {
-        Written::Bytes(n) => Handed {
+        Some(n) => Handed {
             bytes: n,
             taken: write_all(output, &out[..n]),
         },
-        Written::NoRoom => Handed {
+        None => Handed {
             bytes: 0,
             taken: Err(Error::from(ErrorKind::WriteZero)),
         },
