@@ -309,7 +309,7 @@ fn admit<K: Records>(
     })
 }
 
-// The next message number of a desk in a sound table of the first board; 0 for a desk that the hall does not have.
+// The next message number of a desk in a sound table of the first board; 0, as the rules say, for a desk that the hall does not have.
 pub fn next_in(t: &[u8], limits: Limits, hall: Hall, desk: u16) -> u16
     requires { Ok hall ≡ soundness_of first (limits_of limits) (words_of_bytes t.now) }
     ensures { result ≡ next_in (words_of_bytes t.now) desk }

@@ -173,7 +173,8 @@ pub fn repeats(carried: Option<u16>, desk: u16) -> bool
     carried == Some(desk)
 }
 
-// The desk that a shorthand code means. (Before the first record there is none; `check_desk` refuses a record that is read with this 0.)
+// The desk that a shorthand code means. (Before the first record there is none, and the rules say 0; `check_desk` refuses a record that is
+// read with it.)
 fn desk_before(carried: Option<u16>) -> u16
     ensures { result ≡ desk_before (carried_of carried) }
 {
@@ -375,7 +376,8 @@ impl<'a> Cursor<'a> {
     }
 }
 
-// Reads the record at an offset, given what the record before left, its desk; the result is the record and the offset after it.
+// Reads the record at an offset, given what the record before left, its desk; the result is the record and the offset after it. (No cursor is
+// lent: a sheet is run in batches, and between them there is only the offset.)
 pub fn read_record(
     sheet: &[u8],
     at: usize,

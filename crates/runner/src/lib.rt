@@ -71,7 +71,8 @@ fn do_steps(steps: &[u8], replies: &mut [u8], table: &mut [u8], limits: Limits, 
     }
 }
 
-// A run of steps: each is done as a single call would, after one check of the table, and its reply is written.
+// A run of steps: each is done as a single call would, after one check of the table, and its reply is written. (Three slices, as C lends
+// them.)
 pub fn run(steps: &[u8], replies: &mut [u8], table: &mut [u8], limits: Limits) -> Reply
     ensures { lent_result result replies.new table.new ≡ run_bytes (limits_of limits) steps.now (lent_of replies.old table.old) }
 {

@@ -31,7 +31,7 @@ fn hands_back(code: Code, number: u16, session: u16) -> bool
 }
 
 impl Tally {
-    // Counts a step with this code and answer. A code outside 1 to 5 counts nothing.
+    // Counts a step with this code and answer. A code outside 1 to 5 counts nothing. (Numbers, as the promise is for every pair of them.)
     pub fn add_step(&mut self, code: u16, number: u16, session: u16)
         ensures { to_tally self.new ≡ add_step (to_tally self.old) code (answer_with number session) }
     {
