@@ -3,6 +3,13 @@
 
 ghost use Rattle.std.specs.Prelude.{[], ◌∷◌, ◌≡◌, ◌+◌, ◌≤◌, leb, length};
 
+// Whether so many bytes fit into a slice of this length from an offset on.
+pub fn fits(length: usize, at: usize, count: usize) -> bool
+    ensures { result ≡ leb (at + count) length }
+{
+    at <= length && count <= length - at
+}
+
 // A slice that is lent, and how many of its first bytes were put into it, one after another.
 #[derive(Drop)]
 pub struct Buffer<'a> {
@@ -34,7 +41,7 @@ impl<'a> Buffer<'a> {
     pub fn fits(&self, count: usize) -> bool
         ensures { result ≡ leb (self.now.len + count) (length self.now.bytes.now) }
     {
-        count <= self.bytes.len() - self.len
+        fits(self.bytes.len(), self.len, count)
     }
 
     // From here on bytes are put from the start again.

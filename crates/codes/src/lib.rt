@@ -36,7 +36,7 @@ impl TryFrom<u16> for Code {
             3 => Ok(Code::Swap),
             4 => Ok(Code::Retire),
             5 => Ok(Code::Collect),
-            _ => Err(Reason::NoCode),
+            0 | 6..=65535 => Err(Reason::NoCode),
         }
     }
 }
