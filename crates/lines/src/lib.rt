@@ -1,5 +1,6 @@
 // Each `put_` function puts bytes into a buffer that its caller lends, after those that it put before.
 // Precondition of each: the buffer has room for exactly those bytes.
+// They don't use `write!`: no contract says when it succeeds, and these functions always put their bytes.
 #![tactic(auto)]
 
 ghost use Rattle.std.specs.Prelude.{[], ◌∷◌, ◌++◌, ◌≡◌, length};
