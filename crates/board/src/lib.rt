@@ -371,7 +371,7 @@ pub fn open<K: Records>(
 
 // Ends an accepted step: the desk's next message number, word `next`, becomes the one after the step's; 0 comes after 65,535.
 // Precondition: the table has that word.
-pub fn move_on(t: &mut [u8], next: usize, message: u16)
+fn move_on(t: &mut [u8], next: usize, message: u16)
     requires { 2 * next + 1 < length t.old }
     ensures { Written t.old (set (words_of_bytes t.old) next (advance message)) t.new }
 {

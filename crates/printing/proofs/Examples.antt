@@ -1,5 +1,6 @@
 -- What the contract admits and refuses, for the empty sheet: its whole output, its first line, and other numbers of bytes.
-use Rattle.std.specs.Prelude.{ℕ, ◌≡◌, refl, Bool, true, false, List, [], length, drop, Option, Some, None, Ok}
+use Rattle.std.specs.Prelude.{ℕ, ◌≡◌, refl, Bool, true, false, List, [], length, drop, Option, Some, None, Err}
+use Rattle.reply.specs.declared.Reason.TheVariants.{Unsound}
 use Rattle.sheet.specs.Batch.{remaining_output}
 use Rattle.std.proofs.Common.{arith}
 use Rattle.rules.specs.Numbers.{decode_number}
@@ -11,7 +12,7 @@ use Rattle.printing.specs.Output.{HandedOver}
 use Rattle.printing.proofs.Whole.{complete_output}
 
 abbrev empty_state : State
-empty_state = record { offset = 0; index = 0; carried = None; tally = record { accepted = 0; refused = 0; handed_back = 0 }; soundness = Ok (record { desks = 0; screens = 0; positions = 0; all = 0 }) }
+empty_state = record { offset = 0; index = 0; carried = None; tally = record { accepted = 0; refused = 0; handed_back = 0 }; soundness = Err Unsound }
 
 -- `0 0 15 0` and `end 0 0 0`, each with its newline, are 19 bytes;
 pub all_of_empty : HandedOver hall_edition [] true 19

@@ -80,6 +80,11 @@ module _ (ref_ptr : ℕ × ℕ) (ghost_name : GName) where
       λ was. (let same : 65538 ≡ 65537 = ap (λ (buffer : Buffer). buffer.len) (was.long (omega arith)) in omega (arith, same)),
     )
 
+  -- No byte changes, either.
+  module _ (words other : List ℕ) (within : 65537 ≤ length words) (within_other : 65537 ≤ length other) (changed : other ≡ words → ⊥) where
+    pub no_byte_put : PutUnlessLong (lent words 65537 within) (lent other 65537 within_other) (1 ∷ []) → ⊥
+    no_byte_put was = changed (ap (λ (buffer : Buffer). buffer.bytes.now) (was.long (omega arith)))
+
   -- The records of `two` behind a header of three bytes, with one byte of the buffer left: nothing ends their reading, and they end at offset 10.
   pub built :
       BuiltOf hall_edition (records_from archive_edition two 3)
