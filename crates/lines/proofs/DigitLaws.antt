@@ -23,13 +23,17 @@ digits_enough (suc most) value few =
     by_size true same = refl
     by_size false same = ap (λ (front : List ℕ). front ++ ((48 + value % 10) ∷ [])) same
 
+pub decimal_one : (value : ℕ) → value < 10 → decimal value ≡ (48 + value) ∷ []
+unfolding decimal
+decimal_one value small = simp (lt-ltb value 10 small)
+
 -- what the library prints of a number is what the rules say
 pub printed_is_decimal : (value : ℕ) → value < 2 ^ 64 → printed value ≡ decimal value
 unfolding decimal
 printed_is_decimal value fits = decimal_by_steps (λ (n : ℕ) (bytes : List ℕ). n < 2 ^ 64 → bytes ≡ decimal n) one more value fits fits
   where
     one : (n : ℕ) → n < 10 → n < 2 ^ 64 → (48 + n) ∷ [] ≡ decimal n
-    one n small _ = simp (lt-ltb n 10 small)
+    one n small _ = sym (decimal_one n small)
 
     more : (n : ℕ) (bytes : List ℕ) → 10 ≤ n → (n / 10 < 2 ^ 64 → bytes ≡ decimal (n / 10)) → n < 2 ^ 64 → bytes ++ ((48 + n % 10) ∷ []) ≡ decimal n
     more n bytes large same below =

@@ -11,13 +11,25 @@ ghost use Rattle.buffer.specs.Put.{Fits, Put};
 
 use buffer::Buffer;
 
+// The decimal digits of a number. (Most numbers of a line have one digit, and it is put faster by itself.)
+fn put_digits(out: &mut Buffer<'_>, value: u64)
+    requires { Fits out.old (decimal value) }
+    ensures { Put out.old out.new (decimal value) }
+{
+    if value < 10 {
+        out.put_byte(b'0' + value as u8);
+    } else {
+        let mut digits = itoa::Buffer::new();
+        out.put(digits.format(value).as_bytes());
+    }
+}
+
 // A number in decimal and the byte after it, a space or the end of the line.
 fn put_number(out: &mut Buffer<'_>, value: u64, after: u8)
     requires { Fits out.old (decimal value ++ (after ∷ [])) }
     ensures { Put out.old out.new (decimal value ++ (after ∷ [])) }
 {
-    let mut digits = itoa::Buffer::new();
-    out.put(digits.format(value).as_bytes());
+    put_digits(out, value);
     out.put_byte(after);
 }
 
