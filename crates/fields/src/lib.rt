@@ -17,16 +17,12 @@ pub enum Field {
     Session,
 }
 
-// Whether a field follows a code: a row for each step, a column for desk, screen, position and session.
+// A row for take, drop, swap, retire and collect; a column for desk, screen, position and session.
+const FIELDS: [u8; 20] = [1, 1, 1, 0, 1, 1, 0, 0, 1, 0, 1, 1, 1, 0, 0, 0, 1, 0, 0, 0];
+
+// Whether a field follows a code.
 pub fn follows(code: Code, field: Field) -> bool
     ensures { result ≡ follows_code (code_of code) (column_of field) }
 {
-    let row = match code {
-        Code::Take => [true, true, true, false],
-        Code::Drop => [true, true, false, false],
-        Code::Swap => [true, false, true, true],
-        Code::Retire => [true, false, false, false],
-        Code::Collect => [true, false, false, false],
-    };
-    row[field as usize]
+    FIELDS[(code.number() as usize - 1) * 4 + field as usize] == 1
 }

@@ -8,7 +8,6 @@ use Rattle.sheet_rules.specs.Sheet.{Carried, Edition, Record, is_code, last_desk
 use Rattle.codes.specs.Code.{code_of}
 use Rattle.codes.specs.declared.Code.{Code}
 use Rattle.limits.specs.Room.{limits_of}
-use Rattle.reply.specs.Answer.{number_of}
 use Rattle.reader.specs.declared.Padding.{Padding as ReaderPadding}
 use Rattle.reader.specs.declared.Padding.TheVariants.{Allowed, Barred}
 use Rattle.reader.specs.declared.Refusal.{Refusal as ReaderRefusal}
@@ -21,7 +20,7 @@ use Rattle.reader.specs.declared.Header.{Header}
 use Rattle.reader.specs.declared.Cursor.{Cursor}
 
 abbrev pub reason_of : ReaderRefusal → Refusal
-reason_of refusal = refusal_of refusal.code (number_of refusal.reason) refusal.offset
+reason_of refusal = refusal_of refusal.code refusal.number refusal.offset
 
 -- A value that a cursor read, and the offset that it is at then.
 abbrev pub parsed_at : {T A : Type 0} → (T → A) → Result T ReaderRefusal → ℕ → Parsed A

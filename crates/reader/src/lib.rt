@@ -99,25 +99,32 @@ pub fn archive_edition(limits: Limits) -> Edition
     edition_for(Version::One, Padding::Allowed, limits)
 }
 
-// What ends a reading: the code that its line shows (0 if no code was read), the reason, and the offset of the first byte of the number
-// that is refused (0 if none is).
+// What ends a reading: the code that its line shows (0 if no code was read), the reply number, and the offset of the first byte of the
+// number that is refused (0 if none is).
 #[derive(Clone, Copy)]
 pub struct Refusal {
     pub code: u16,
-    pub reason: Reason,
+    pub number: u16,
     pub offset: usize,
 }
 
-// A refusal that shows no offset, where no code was read.
+// The refusal with a reply number that shows no offset, where no code was read. (A number and no `Reason`: the promise is for every number.)
+pub fn refuse_with(number: u16) -> Refusal
+    ensures { reason_of result ≡ refusal_of 0 number 0 }
+{
+    Refusal {
+        code: 0,
+        number,
+        offset: 0,
+    }
+}
+
+// The refusal for a reason, which shows no offset.
 impl From<Reason> for Refusal {
     ghost from_gives = { λ reason refusal. reason_of refusal ≡ refusal_of 0 (number_of reason) 0 };
 
     fn from(reason: Reason) -> Refusal {
-        Refusal {
-            code: 0,
-            reason,
-            offset: 0,
-        }
+        refuse_with(reason.number())
     }
 }
 
@@ -127,15 +134,14 @@ impl Refusal {
         ensures { reason_of result ≡ refusal_of 0 (number_of reason) offset }
     {
         Refusal {
-            code: 0,
-            reason,
             offset,
+            ..Refusal::from(reason)
         }
     }
 
     // The same refusal in a record whose code was read.
     fn in_record(self, code: u16) -> Refusal
-        ensures { reason_of result ≡ refusal_of code (number_of self.reason) self.offset }
+        ensures { reason_of result ≡ refusal_of code self.number self.offset }
     {
         Refusal { code, ..self }
     }

@@ -5,7 +5,6 @@ use Rattle.std.proofs.Math.Option.{none, some}
 use Rattle.std.specs.Borrow.{GName}
 use Rattle.buffer.specs.Put.{Put, overwrite_at}
 use Rattle.buffer.specs.declared.Buffer.{Buffer}
-use Rattle.reply.specs.declared.Reason.TheVariants.{TooLarge}
 use Rattle.rules.specs.Numbers.{decode_number, refusal_of}
 use Rattle.sheet_rules.specs.Edition1.{archive_edition, decode_record, encode_number, encode_record, hall_edition}
 use Rattle.sheet_rules.specs.Edition2.{decode_record2, encode_record2, hall_edition2}
@@ -99,8 +98,8 @@ module _ (ref_ptr : ℕ × ℕ) (ghost_name : GName) where
 
   -- What ends the reading of `refused_at6`; nothing ends that of `two`.
   pub built-refused :
-      BuiltOf hall_edition (records_from archive_edition refused_at6 3) one (Err (record { code = 4; reason = TooLarge; offset = 6 })) one
-      × (BuiltOf hall_edition (records_from archive_edition two 3) one (Err (record { code = 4; reason = TooLarge; offset = 6 })) one → ⊥)
+      BuiltOf hall_edition (records_from archive_edition refused_at6 3) one (Err (record { code = 4; number = 16; offset = 6 })) one
+      × (BuiltOf hall_edition (records_from archive_edition two 3) one (Err (record { code = 4; number = 16; offset = 6 })) one → ⊥)
       × (BuiltOf hall_edition (records_from archive_edition refused_at6 3) one (Ok tt) three → ⊥)
   unfolding decode_record decode_number
   built-refused = (
@@ -126,7 +125,7 @@ module _ (to : Edition) (records : Records) (out out_after : Buffer) (bytes : Li
   pub says_built : BuiltOf to records out (Ok tt) out_after → PutRecords to records out out_after
   says_built was = was
 
-  pub says_refused : BuiltOf to records out (Err (record { code = 4; reason = TooLarge; offset = 6 })) out_after → ending_in records ≡ some (refusal_of 4 16 6)
+  pub says_refused : BuiltOf to records out (Err (record { code = 4; number = 16; offset = 6 })) out_after → ending_in records ≡ some (refusal_of 4 16 6)
   says_refused was = was
 
   -- At offset 65,536 a byte is put; and a retire that ends at 65,536 was put, one that would end at 65,537 need not be.

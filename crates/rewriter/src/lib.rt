@@ -90,7 +90,7 @@ fn build(sheet: &[u8], from: Edition, to: Edition, out: &mut Buffer<'_>) -> Resu
 fn write_refused(out: &mut [u8], refusal: Refusal) -> Option<usize>
     ensures { output_of result out.new ≡ write_whole out.old (refused_sheet_line (reason_of refusal).number (reason_of refusal).offset) }
 {
-    let reply_number = u64::from(refusal.reason.number());
+    let reply_number = u64::from(refusal.number);
     let offset = refusal.offset as u64;
     let mut line = Buffer::new(out);
     if !line.fits(refused_sheet_length(reply_number, offset)) {

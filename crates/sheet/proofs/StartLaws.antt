@@ -9,11 +9,14 @@ use Rattle.rules.specs.Bytes.{words_of_bytes}
 use Rattle.rules.specs.Hall.{Hall, Limits}
 use Rattle.rules.specs.Numbers.{Refusal, parsed, refusal_of}
 use Rattle.rules.specs.Steps.{Answer, Result, decide}
-use Rattle.rules.specs.Table.{open_table, opened_table}
+use Rattle.rules.specs.Table.{open_table, opened_table, sound}
+use Rattle.board.specs.Admission.{soundness_of}
+use Rattle.board.specs.Kind.{first}
 use Rattle.buffer.specs.Put.{Put}
 use Rattle.buffer.specs.declared.Buffer.{Buffer}
 use Rattle.reply.specs.Answer.{Reply, answer_of, number_of, table_result}
 use Rattle.reply.specs.declared.Reason.{Reason}
+use Rattle.reply.specs.declared.Reason.TheVariants.{Unsound}
 use Rattle.reply.proofs.Numbers.{not_0}
 use Rattle.sheet_rules.specs.Lines.{answer_line, end_line, line, lines_from, lines_of, printed, refusal_line}
 use Rattle.sheet_rules.specs.Sheet.{Edition, Records, after_opening, begin_sheet, if_opens, lent_table, opening_number, reading, unopened}
@@ -24,6 +27,11 @@ use Rattle.reader.specs.declared.Edition.{Edition as ReaderEdition}
 use Rattle.sheet.specs.Batch.{Opens, Started, calls_of, remaining_records, start_table}
 use Rattle.sheet.proofs.Laws.Length.{line_some}
 use Rattle.sheet.specs.declared.State.{State}
+
+-- a table that was not opened is not sound
+pub lent_unsound : (limits : Limits) {words : List ℕ} → words ≡ lent_table → Err Unsound ≡ soundness_of first limits words
+unfolding soundness_of sound lent_table
+lent_unsound limits is = sym (ap (soundness_of first limits) is)
 
 -- The header was read, and the board replied to the opening.
 module _ (edition : Edition) (sheet : List ℕ) {hall : Hall} {next : ℕ} {after : List ℕ} (read : begin_sheet edition sheet ≡ parsed hall next) where

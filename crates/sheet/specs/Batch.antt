@@ -14,6 +14,7 @@ use Rattle.buffer.specs.declared.Buffer.{Buffer}
 use Rattle.reader.specs.Results.{carried_of, edition_of, reason_of}
 use Rattle.reader.specs.declared.Edition.{Edition as ReaderEdition}
 use Rattle.reader.specs.declared.Refusal.{Refusal}
+use Rattle.reply.specs.declared.Reason.TheVariants.{Unsound}
 use Rattle.sheet_rules.specs.Lines.{lines_from, printed}
 use Rattle.sheet_rules.specs.Run.{calls_in}
 use Rattle.sheet_rules.specs.Sheet.{Edition, Reading, Records, decode_records, lent_table, opened, opening_number, reading, unopened}
@@ -55,6 +56,16 @@ batches_left sheet (Some state) = suc (length sheet - state.offset)
 abbrev pub Checked : ReaderEdition → Option State → List ℕ → Type 0
 Checked edition None bytes = Unit {0}
 Checked edition (Some state) bytes = state.soundness ≡ soundness_of first (limits_of edition.format.limits) (words_of_bytes bytes)
+
+-- A batch leaves the table as sound as it was, also where no state is left to say so.
+abbrev pub SameSoundness : ReaderEdition → List ℕ → List ℕ → Type 0
+SameSoundness edition before after =
+    soundness_of first (limits_of edition.format.limits) (words_of_bytes after) ≡ soundness_of first (limits_of edition.format.limits) (words_of_bytes before)
+
+-- Where the reading ends before a record no hall was opened, and the table is not sound.
+abbrev pub NoneOpened : ReaderEdition → Option State → List ℕ → Type 0
+NoneOpened edition None bytes = Err Unsound ≡ soundness_of first (limits_of edition.format.limits) (words_of_bytes bytes)
+NoneOpened edition (Some state) bytes = Unit {0}
 
 -- A record's number is at most its offset, so that it does not overflow.
 abbrev pub Numbered : Option State → Type 0

@@ -11,7 +11,7 @@ ghost use Rattle.reader.specs.Results.{edition_of, reason_of};
 ghost use Rattle.sheet_rules.specs.Lines.{end_line, refusal_line};
 ghost use Rattle.sheet_rules.specs.Sheet.{lent_table, record_for};
 ghost use Rattle.tally.specs.Counts.{to_tally};
-ghost use Rattle.sheet.specs.Batch.{Batch, Begun, Checked, Numbered, PartialBatch, Progress, RoomFor, Started, end_room, record_room};
+ghost use Rattle.sheet.specs.Batch.{Batch, Begun, Checked, NoneOpened, Numbered, PartialBatch, Progress, RoomFor, SameSoundness, Started, end_room, record_room};
 ghost use Rattle.sheet.specs.Run.{Ran};
 
 use board::{Hall, Row, check, next_in, open, request};
@@ -84,7 +84,7 @@ fn stop(out: &mut Buffer<'_>, index: u64, tally: Tally, refusal: Refusal)
         out,
         index,
         u64::from(refusal.code),
-        u64::from(refusal.reason.number()),
+        u64::from(refusal.number),
         refusal.offset as u64,
     );
     finish(out, tally);
@@ -105,6 +105,7 @@ fn put_record(
     ensures partial { PartialBatch (edition_of edition) sheet.now (Some state) (words_of_bytes table.old) out.old result (words_of_bytes table.new) out.new }
     ensures progress { Progress sheet.now (Some state) result }
     ensures checked { Checked edition result table.new }
+    ensures kept { SameSoundness edition table.old table.new }
 {
     if sheet.len() <= state.offset {
         finish(out, state.tally);
@@ -164,6 +165,7 @@ pub fn fill(
     requires { Numbered state × RoomFor record_room out.old × Checked edition state table.old }
     ensures batch { Batch (edition_of edition) sheet.now state (words_of_bytes table.old) out.old result (words_of_bytes table.new) out.new }
     ensures checked { Checked edition result table.new }
+    ensures kept { SameSoundness edition table.old table.new }
 {
     let mut current = state?;
     while out.fits(ROOM) {
@@ -213,6 +215,7 @@ pub fn start(
     requires { (words_of_bytes table.old ≡ lent_table) × RoomFor record_room out.old }
     ensures started { Started (edition_of edition) sheet.now out.old result (words_of_bytes table.new) out.new }
     ensures checked { Checked edition result table.new }
+    ensures unopened { NoneOpened edition result table.new }
 {
     match begin(sheet, edition, table) {
         Err(refusal) => {

@@ -42,3 +42,9 @@ pub returns-in-Ok-clause-checked : goal.returns-in-Ok-clause-checked
 returns-in-Ok-clause-checked c =
     let are : IsBytes c.args.table.now = search rules in
     still_checked (limits_of c.args.edition.format.limits) c.args.table.now (record_of c.in-Ok.entry) are c.requires.2 (rw c.number-code.ensures at c.run_record-reply.ensures)
+
+pub returns-in-Ok-clause-kept : goal.returns-in-Ok-clause-kept
+returns-in-Ok-clause-kept c =
+    let are : IsBytes c.args.table.now = search rules in
+    sym (still_checked (limits_of c.args.edition.format.limits) c.args.table.now (record_of c.in-Ok.entry) are c.requires.2 (rw c.number-code.ensures at c.run_record-reply.ensures))
+    ∙ c.requires.2

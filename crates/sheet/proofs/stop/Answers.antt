@@ -13,4 +13,4 @@ finish-requires c =
     omega (arith, line-length c.args.index c.from.result c.from-2.result c.args.refusal.offset, c.requires, line.len, line.long)
 
 pub returns : goal.returns
-returns c = put_on (rw (c.from.ensures, c.from-2.ensures, c.number.ensures) at c.put_line.ensures) c.finish.ensures
+returns c = put_on (rw (c.from.ensures, c.from-2.ensures) at c.put_line.ensures) c.finish.ensures
