@@ -29,7 +29,7 @@ NAME = r"[\w'′-]+"
 WORD = re.compile(NAME)
 # A declaration of a definition, a record, a field or a constructor; of an item or a field of the code.
 ANTT = re.compile(rf"^\s*(?:abbrev |unfoldable |pub |data |record |infix\w* \d+ )*({NAME}|◌\S+◌)(?=[ ]*[:({{]| [a-zA-Z({{])", re.M)
-RATTLE = re.compile(r'\b(?:fn|const|struct|enum|let|impl) (?:mut )?(\w+)|^\s*(?:pub )?(\w+)\s*[:(,]', re.M)
+RATTLE = re.compile(r'\b(?:fn|const|struct|enum|type|trait|let|impl) (?:mut )?(\w+)|^\s*(?:pub )?(\w+)\s*(?:[:(,]|= \d+,)', re.M)
 RECORD = re.compile(rf'^( *)(?:pub )?(?:record|data) ({NAME})', re.M)
 
 

@@ -109,6 +109,29 @@ pub fn copy(n: u16) -> u16
 fn helper(n: u16, s: &str) -> u32 {
     n as u32 + 1
 }
+
+pub trait Rows {
+    ghost width: { ℕ };
+
+    fn first(r: &[u8]) -> u8
+        requires { width ≤ length r.now };
+
+    fn last(r: &[u8]) -> u8;
+}
+
+impl Rows for Board {
+    fn first(r: &[u8]) -> u8 {
+        r[0]
+    }
+}
+
+impl<'a> Part<'a> {
+    pub fn put(&mut self, byte: u8)
+        requires { self.old.size ≤ 9 }
+    {
+        self.len += 1;
+    }
+}
 ''',
     'crates/board/proofs/add/Answers.antt': '''
 use Rattle.board.proofs.add.Goals as goal
@@ -182,6 +205,9 @@ length-map (x ∷ l) = ap suc (length-map l)
     'crates/board/src/lib.rt': BEFORE['crates/board/src/lib.rt']
         .replace('n < 10', 'n < 20')
         .replace('n as usize + 1', '1 + n as usize')
+        .replace('width ≤ length', 'width < length')
+        .replace('r[0]', 'r[0] + 0')
+        .replace('size ≤ 9', 'size ≤ 8')
         .replace('result ≤ n', 'result < n + 1')
         .replace('{\n    n\n}\n\nfn helper', '{\n    n + 0\n}\n\nfn helper')
         .replace('pub fn need(n: u16) -> usize', 'pub fn need(\n        n: u16,\n    ) -> usize')
@@ -201,18 +227,21 @@ del AFTER['crates/rules/proofs/Laws/Lists.antt']
 EXPECTED = '''
 board
   definitions: 1 new, 0 stayed
-  promises: 2 changed, 2 stayed
+  promises: 4 changed, 3 stayed
   proofs: 2 changed, 3 stayed
-  code: 3 changed, 4 stayed
+  code: 4 changed, 8 stayed
   definitions new:
     Results.Result
   promises changed:
+    board::Part::put
+    board::Rows::first
     board::add
     board::copy
   proofs changed:
     Laws.open-law
     board::add
   code changed:
+    board::Board::first
     board::Board::need
     board::copy
     board::helper
@@ -242,19 +271,19 @@ rules
 
 all crates
   definitions: 3 changed, 2 new, 1 gone, 1 in another file, 3 stayed
-  promises: 3 changed, 5 stayed
+  promises: 5 changed, 6 stayed
   proofs: 3 changed, 1 gone, 1 in another file, 7 stayed
-  code: 3 changed, 4 stayed
+  code: 4 changed, 8 stayed
 '''
 
 MARKDOWN = [
     '| crate | kind | changed | new | gone | in another file | stayed |',
     '| `board` | definitions | 0 | 1 | 0 | 0 | 0 |',
     '| `rules` | proofs | 1 | 0 | 1 | 1 | 4 |',
-    '| all | promises | 3 | 0 | 0 | 0 | 5 |',
+    '| all | promises | 5 | 0 | 0 | 0 | 6 |',
     'Nothing moved in `quiet`.',
     '- definitions, changed: `Steps.Step`, `Steps.two_more`, `Steps.◌sends◌`',
-    '- promises, changed: `board::add`, `board::copy`',
+    '- promises, changed: `board::Part::put`, `board::Rows::first`, `board::add`, `board::copy`',
 ]
 
 checks = 0

@@ -41,6 +41,22 @@ def items_of(text):
         yield start, body.rstrip('\n')
 
 
+# A module's first line, or lines, and the indented lines below it.
+MODULE = re.compile(r'^module\b(?:.*\n)??.*\bwhere\n((?:(?:  .*)?\n|  .*$)*)', re.M)
+
+
+def modules_of(text):
+    """What stands in each module of a file, not indented, with the place in the file of each place in it."""
+    for found in MODULE.finditer(text):
+        lines, places, at = [], [], found.start(1)
+        for line in found[1].splitlines(keepends=True):
+            cut = 2 if line.startswith('  ') else 0
+            lines.append(line[cut:])
+            places += range(at + cut, at + len(line))
+            at += len(line)
+        yield ''.join(lines), [*places, at]
+
+
 def signature_of(item):
     """The name that an item declares and its type as written, or None."""
     found = re.match(r'(?:abbrev|unfoldable) (?:pub )?(\S+) : (.*)', item, re.S)
@@ -77,7 +93,10 @@ class Names:
         by_type = collections.defaultdict(list)
         for family in FAMILIES:
             self.add(self.neighbours, family)
+        texts = list(texts)
+        # it grows: modules stand in modules
         for text in texts:
+            texts += [inner for inner, _ in modules_of(text)]
             for _, item in items_of(text):
                 if signature := signature_of(item):
                     by_type[signature[1]].append(signature[0])
@@ -368,3 +387,6 @@ def changes_of(text, names):
             clauses.append((start, item))
     if clauses:
         yield from of_clauses(text, clauses, names)
+    for inner, places in modules_of(text):
+        for change in changes_of(inner, names):
+            yield change._replace(start=places[change.start], end=places[change.end - 1] + 1, new=change.new.replace('\n', '\n  '))

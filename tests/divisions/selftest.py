@@ -3,8 +3,9 @@
 
 usage: tests/divisions/selftest.py ARCHIVE        the last line is 'divisions: N wrong ones, all caught'
 
-source.py reads this repository's sources and the toolchain's with one line changed, and small sources of its own;
-archive.py reads the archive with a divide instruction in one of its functions, and the calls of tests/wrong/divisions.c.
+source.py reads this repository's sources and the toolchain's with one line changed, or with a function of LIBRARY left out, and
+small sources of its own; archive.py reads the archive with a divide instruction in one of its functions, and the calls of
+tests/wrong/divisions.c.
 """
 import contextlib
 import io
@@ -33,6 +34,27 @@ CHANGED_LIBRARY = [
     ('core/src/int/u16.rt', 'bytes[0] as u16 + bytes[1]', 'bytes[0] as u16 / 1 + bytes[1]', 'std::from_le_bytes', 'words::word'),
     ('core/src/slice/edits.rt', 'self[n - 1] = value;', 'self[n - 1 / 1] = value;', 'std::fill', 'words::clear'),
     ('std_alloc/src/shifts.rt', 'if dest <= start {', 'if dest / 1 <= start {', 'std::shift', 'words::shift_left'),
+    # The `next` of a `for` over a range, what it calls, and that of one over a slice and over its parts, which are counted.
+    ('core/src/iter/ranges.rt', 'x.forward(self.end);\n            Some(x)', 'x.forward(self.end);\n            let _y = 1 / 1;\n            Some(x)', 'std::next', 'words::all_zero'),
+    ('core/src/iter/steps.rt', 'fn forward(self, end: usize) -> usize {\n        self + 1', 'fn forward(self, end: usize) -> usize {\n        self + 1 / 1', 'std::forward', 'words::all_zero'),
+    ('core/src/iter/slices.rt', 'self.rest = &rest[1..];\n        Some(&rest[0])', 'self.rest = &rest[1 / 1..];\n        Some(&rest[0])', 'std::next', 'desk::read_screens'),
+    ('core/src/iter/slices.rt', 'rest.len() < self.size', 'rest.len() / 1 < self.size', 'std::next', 'runner::do_steps'),
+    ('core/src/iter/adapters.rt', 'self.count += 1;', 'self.count += 1 / 1;', 'std::next', 'runner::do_steps'),
+    # What copy_from_slice hands on, and what that calls.
+    ('core/src/slice/edits.rt', 'row.copy_in(0, src);', 'row.copy_in(0 / 1, src);', 'std::copy_over', 'desk::part_tested'),
+    ('core/src/ptr/copy_drop.rt', 'dst.add(i).write', 'dst.add(i / 1).write', 'std::copy_bits', 'desk::part_tested'),
+    # What a `?` calls.
+    ('core/src/result.rt', 'Err(F::from(residual.0))', 'let _y = 1 / 1;\n        Err(F::from(residual.0))', 'std::from_residual', 'runner::run'),
+]
+
+# What is said where LIBRARY lacks a function: its file, its name, what is said, and of what.
+LACKING = [
+    ('core/src/iter/ranges.rt', 'Range::next', 'has a Range, whose next is not found', 'words::all_zero'),
+    ('core/src/iter/slices.rt', 'Iter::next', 'std::into_iter has a Iter, whose next is not found', 'desk::read_screens'),
+    ('core/src/iter/slices.rt', 'Chunks::next', 'std::chunks has a Chunks, whose next is not found', 'runner::do_steps'),
+    ('core/src/iter/adapters.rt', 'Enumerate::next', 'std::enumerate has a Enumerate, whose next is not found', 'runner::do_steps'),
+    ('core/src/slice/edits.rt', 'copy_over', 'std::copy_from_slice calls copy_over, which is not found', 'desk::part_tested'),
+    ('core/src/slots/lends.rt', 'with_slots', 'std::copy_from_slice calls with_slots, which is not found', 'desk::part_tested'),
 ]
 
 # What a check says of a function that divides, and of one that does not.
@@ -50,6 +72,8 @@ SMALL = [
     ('u64::count_ones(std::num::wrapping_add_u64(a, 1))', '', PASSES),
     ('if (a) < 1 { return (a); } while (a) < 2 { match (a) { } } for b in (a)..3 { } Size(a)', '', PASSES),
     ('(b)[0..a].fill(u16::from_le_bytes([1, 2]))', '', PASSES),
+    ('for b in c { } a', 'fn last() -> usize { 1 / 2 }', PASSES),
+    ('with(a, twice)', 'fn with(a: usize, f: impl Fn(usize) -> usize) -> usize { f(a) }', PASSES),
     ('a / 16', '', DIVIDES),
     ('a % 16', '', DIVIDES),
     ('let mut b = a; b /= 16; b', '', DIVIDES),
@@ -65,6 +89,12 @@ SMALL = [
     ('size.half()', f"impl<'a> Size<'a> {{{HALF}}}\nimpl Other {{\n    fn half(self) {{ }}\n}}", DIVIDES),
     ('each::<Ring>(a)', f'impl Kind for Ring {{{HALF}}}', DIVIDES),
     ('each::<Ring>(a)', 'impl Kind for Ring {\n    fn half(a: [u8; 2]) -> usize { 1 }\n}', PASSES),
+    ('for b in c { } a', f'fn last() {{ }}\nimpl Iterator for Size {{{HALF.replace("half", "next")}}}', DIVIDES),
+    ('for (b, d) in c { } a', f'fn last() {{ }}\nimpl IntoIterator for Size {{{HALF.replace("half", "into_iter")}}}', DIVIDES),
+    ('c?; a', f'fn last() {{ }}\nimpl Try for Size {{{HALF.replace("half", "branch")}}}', DIVIDES),
+    ('with(a, half)', f'fn with(a: usize, f: impl Fn(usize) -> usize) -> usize {{ f(a) }}{HALF}', DIVIDES),
+    ('twice(div_ceil)', 'use std::num::div_ceil;', 'small::all calls div_ceil, which is not found'),
+    ('let b = std::mem::swap; a', '', 'small::all calls swap, which is not found'),
     ('absent(a)', '', 'small::all calls absent, which is not found'),
     ('usize::div_ceil(a, 2)', '', 'small::all calls div_ceil, which is not found'),
     ('u64::to_le_bytes(a)', '', 'small::all calls to_le_bytes, which is not found'),
@@ -146,8 +176,9 @@ def changed_sources(folder, library):
         text = file.read_text()
         expect(text.count(old) == 1, f'{old!r} does not stand once in {crate}')
         file.write_text(text.replace(old, new))
+        sources = source.Sources(folder, library)
         for start in function, 'host::*':
-            printed = of_source(folder, library, start)
+            printed = output_of(lambda: source.check(sources, [start]))
             expect(f'{function}, {DIVIDES}' in printed, f'{new!r} is not found from {start}', printed)
         file.write_text(text)
     return len(CHANGED)
@@ -162,11 +193,24 @@ def changed_libraries(folder, library):
         text = (folder / name).read_text()
         expect(text.count(old) == 1, f'{old!r} does not stand once in {name}')
         (folder / name).write_text(text.replace(old, new))
+        sources = source.Sources(source.ROOT, folder)
         for start in caller, 'host::*':
-            printed = of_source(source.ROOT, folder, start)
+            printed = output_of(lambda: source.check(sources, [start]))
             expect(f'{function}, {DIVIDES}' in printed, f'{new!r} is not found from {start}', printed)
         (folder / name).write_text(text)
     return len(CHANGED_LIBRARY)
+
+
+def lacking_library(library):
+    """Each function that LIBRARY lacks is missed, from a function that calls it and from the exported calls."""
+    for file, name, said, caller in LACKING:
+        source.LIBRARY[file].remove(name)
+        sources = source.Sources(source.ROOT, library)
+        for start in caller, 'host::*':
+            printed = output_of(lambda: source.check(sources, [start]))
+            expect(said in printed, f'{name} is not missed from {start}', printed)
+        source.LIBRARY[file].append(name)
+    return len(LACKING)
 
 
 def small_sources(folder, library):
@@ -228,8 +272,8 @@ def main():
         folders = [pathlib.Path(made) / name for name in ('changed', 'library', 'small', 'archive', 'calls')]
         for folder in folders:
             folder.mkdir()
-        caught = changed_sources(folders[0], library) + changed_libraries(folders[1], library) + small_sources(folders[2], library)
-        caught += changed_functions(folders[3], sys.argv[1]) + wrong_calls(folders[4])
+        caught = changed_sources(folders[0], library) + changed_libraries(folders[1], library) + lacking_library(library)
+        caught += small_sources(folders[2], library) + changed_functions(folders[3], sys.argv[1]) + wrong_calls(folders[4])
     print(f'divisions: {caught} wrong ones, all caught')
 
 

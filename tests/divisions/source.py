@@ -6,9 +6,10 @@ usage: tests/divisions/source.py FUNCTION ...
 A FUNCTION is named with its crate, as marks::mark_position; CRATE::* means every function that a crate exports to C. The
 sources are crates/ and, of the toolchain's libraries, std::num and the functions of LIBRARY below. Comments and contracts may
 divide: they are not run. A function counts as called where its name is a word of the text, in the same crate or one above it
-(crates.txt), and a method also where its type is: a generic function of a crate below may call it. So more may be read than is
-called; a call of a function that is not found is an error. The last line is 'divisions in the source: N functions, M divide',
-and the exit status is 0 only if M is 0.
+(crates.txt), and a method also where its type is: a generic function of a crate below may call it. A `for` counts as a call of
+every `into_iter` and `next`, and a `?` as one of `branch` and `from_residual`. So more may be read than is called; it is an error
+if a function that is called, or handed on by its name, is not found, or the `next` of an iterator that the library makes. The last
+line is 'divisions in the source: N functions, M divide', and the exit status is 0 only if M is 0.
 """
 import collections
 import functools
@@ -21,42 +22,68 @@ ROOT = pathlib.Path(__file__).resolve().parent.parent.parent
 
 COMMENT_OR_LITERAL = re.compile(r"""//[^\n]*|#!?\[[^\]]*\]|(?<!\w)b'(?:\\x..|\\.|[^'\\\n])'|(?<!\w)b"(?:\\.|[^"\\])*\"""")
 RENAMED = re.compile(r'^\s*(?:pub )?use\b[^;]*\sas\s', re.M)
-CLAUSE = re.compile(r'\b(?:requires|ensures)(?:\s+\w+)?\s*(?=\{)')
+CLAUSE = re.compile(r'\b(?:requires|ensures|ghost)\*?(?:\s+\w+)?\s*:?\s*(?=\{)')
 BRACKETED = re.compile(r'\[[^\]]*\]')
+IMPORT = re.compile(r'(?<!ghost )\buse\b([^;]*);')
+PATTERN = re.compile(r'\blet\b([^=;]*)|\bfor\b([^;]*?)\bin\b|\|([\w\s,&:]*)\||([^{},;=]*)=>')
 FUNCTION = re.compile(r'\b(extern\s+"C"\s+)?fn\s+(\w+)')
 CALL = re.compile(r'(\.?)\b(?:(\w+)::)?(\w+)\s*\(')
+# A value that is a name or a path alone.
+HANDED_ON = re.compile(r'(?<=[(,:=])\s*((?:\w+::)*)([a-z_]\w*)\s*(?=[,;)}])')
+# What calls functions without their names: the form, and the functions.
+FORMS = [(re.compile(r'\bfor\s+(?!<)[^;]*?\bin\b'), ['into_iter', 'next']), (re.compile(r'[\w)\]}]\s*\?'), ['branch', 'from_residual'])]
 KEYWORDS = {'if', 'while', 'for', 'match', 'return', 'in', 'let'}
 NUMBERS = {'u8', 'u16', 'u32', 'u64', 'u128', 'usize', 'i8', 'i16', 'i32', 'i64', 'isize'}
 BITS = {'count_ones', 'leading_zeros', 'trailing_zeros'}
-# copy_from_slice hands on a function by its name, which is not read here: archive.py reads what it becomes.
-METHODS = {'len', 'wrapping_add', 'copy_from_slice'} | BITS
+METHODS = {'len', 'wrapping_add'} | BITS
 
-# What the crates call of the toolchain's libraries beside std::num, and what that calls in turn: the functions of each file. Those
-# of BUILT_IN have no body, because the compiler makes them.
+# What the crates call of the toolchain's libraries beside std::num, and what that calls in turn: the functions of each file, or those
+# of one type in it. What a `for` may call is here for ranges, slices, arrays, options and iterators. Those of BUILT_IN have no body,
+# because the compiler makes them.
 LIBRARY = {
+    'core/src/array/each.rt': ['each'],
+    'core/src/array/into_iter.rt': ['at', 'empty', 'into_iter', 'new', 'next', 'put', 'take'],
     'core/src/clone/mod.rt': ['surely', 'clone'],
+    'core/src/convert/mod.rt': ['from'],
     'core/src/int/u16.rt': ['from_le_bytes'],
     'core/src/int/u64.rt': ['from_le_bytes'],
     'core/src/int/u128.rt': ['from_le_bytes'],
+    'core/src/iter/adapters.rt': ['Enumerate::next'],
     'core/src/iter/base.rt': ['enumerate'],
-    'core/src/iter/slices.rt': ['chunks'],
+    'core/src/iter/ranges.rt': ['Range::next', 'RangeInclusive::next'],
+    'core/src/iter/slices.rt': ['chunks', 'into_iter', 'Chunks::next', 'Iter::next', 'IterMut::next'],
+    'core/src/iter/sources.rt': ['into_iter', 'HeldMut::next', 'Once::next', 'OptionIter::next'],
+    'core/src/iter/steps.rt': ['below', 'forward'],
+    'core/src/iter/traits.rt': ['into_iter', 'next'],
+    'core/src/iter/upward.rt': ['RangeFrom::next', 'top'],
+    'core/src/mem.rt': ['replace'],
+    'core/src/mem/manually_drop.rt': ['new'],
     'core/src/ops/bounds.rt': ['start_bound', 'end_bound', 'as_ref'],
-    'core/src/option.rt': ['unwrap'],
+    'core/src/option.rt': ['as_ref', 'branch', 'from_residual', 'take', 'unwrap'],
+    'core/src/option/more.rt': ['as_mut'],
+    'core/src/ptr/copy_drop.rt': ['copy_bits'],
+    'core/src/result.rt': ['branch', 'from_residual'],
     'core/src/simd/chunks.rt': ['arrays'],
     'core/src/slice/arrays.rt': ['as_array', 'some', 'as_array_ref', 'first_unchecked'],
-    'core/src/slice/edits.rt': ['fill'],
+    'core/src/slice/edits.rt': ['copy_from_slice', 'copy_over', 'fill'],
+    'core/src/slice/iter_mut.rt': ['take_first'],
+    'core/src/slice/mod.rt': ['is_empty'],
     'core/src/slice/ranges.rt': ['range'],
+    'core/src/slots/bulk.rt': ['copy_in'],
+    'core/src/slots/lends.rt': ['with_slots'],
     'std/src/slices.rt': ['copy_within'],
     'std_alloc/src/part.rt': ['within'],
     'std_alloc/src/shifts.rt': ['shift', 'copy_down', 'copy_up'],
 }
-BUILT_IN = {'as_ptr', 'from_raw_parts', 'unreachable'}
+BUILT_IN = {'add', 'array_from', 'as_mut_ptr', 'as_ptr', 'from_raw_parts', 'from_raw_parts_mut', 'read', 'unreachable', 'write'}
+# The iterators that the compiler makes, of a..b, a..=b and a..
+RANGES = ['Range', 'RangeInclusive', 'RangeFrom']
 
 BLOCK = re.compile(r'\b(trait|impl)\b([^{;]*)\{')
 
-# A function: its crate, its name, its text from the name to the next function, whether it is exported to C, and the type whose
-# method it is, or ''.
-Function = collections.namedtuple('Function', 'crate name text exported owner')
+# A function: its crate, its name, its text from the name on (to the next function, or of a library to its end), whether it is
+# exported to C, the type whose method it is, or '', and the functions and modules that its file declares or imports.
+Function = collections.namedtuple('Function', 'crate name text exported owner known')
 
 
 def without_clauses(text):
@@ -91,20 +118,31 @@ def is_declared(text):
     return ';' in plain.partition('{')[0]
 
 
+def known_in(text):
+    """The names that a source declares for its functions, and imports, but for those of types."""
+    imported = ' '.join(IMPORT.findall(text))
+    return frozenset({head[2] for head in FUNCTION.finditer(text)}.union(re.findall(r'\b[a-z_]\w*\b(?!\s*::)', imported)))
+
+
+def owner_of(head, blocks):
+    """The kind of the block that a function stands in, and the type of an impl."""
+    return next(((kind, owner if kind == 'impl' else '') for start, stop, kind, owner in blocks if start <= head.start() < stop), ('', ''))
+
+
 def functions_of(crate, text):
     text = COMMENT_OR_LITERAL.sub(' ', text)
     if RENAMED.search(text):
         sys.exit(f'divisions: {crate} renames what it imports')
     text = without_clauses(text)
-    heads, blocks = list(FUNCTION.finditer(text)), list(blocks_of(text))
+    heads, blocks, known = list(FUNCTION.finditer(text)), list(blocks_of(text)), known_in(text)
     for head, end in zip(heads, [following.start() for following in heads[1:]] + [len(text)]):
         body = text[head.end():end]
-        kind, owner = next(((kind, owner) for start, stop, kind, owner in blocks if start <= head.start() < stop), ('', ''))
+        kind, owner = owner_of(head, blocks)
         if kind == 'trait' and is_declared(body):
             body = '{}'  # each impl has its own
         if '{' not in body:
             sys.exit(f'divisions: {crate}::{head[2]} has no body')
-        yield Function(crate, head[2], body, bool(head[1]), owner if kind == 'impl' else '')
+        yield Function(crate, head[2], body, bool(head[1]), owner, known)
 
 
 def functions_of_library(library):
@@ -112,15 +150,29 @@ def functions_of_library(library):
     yield from functions_of('std', (library / 'core' / 'src' / 'num.rt').read_text())
     for file, names in LIBRARY.items():
         text = without_clauses(COMMENT_OR_LITERAL.sub(' ', (library / file).read_text()))
-        found = set()
+        found, blocks, known = set(), list(blocks_of(text)), known_in(text)
         for head in FUNCTION.finditer(text):
             start = text.find('{', head.end())
+            _, owner = owner_of(head, blocks)
+            named = {head[2], f'{owner}::{head[2]}'} & set(names)
             # A method that its trait only declares ends in a semicolon.
-            if head[2] in names and ';' not in BRACKETED.sub(' ', text[head.end():start]):
-                found.add(head[2])
-                yield Function('std', head[2], text[start:after_closing(text, start)], False, '')
+            if named and ';' not in BRACKETED.sub(' ', text[head.end():start]):
+                found |= named
+                yield Function('std', head[2], text[head.end():after_closing(text, start)], False, owner, known)
         for name in set(names) - found:
             sys.exit(f'divisions: no function {name} in {file}')
+
+
+@functools.cache
+def iterators_of(library):
+    """The types of the libraries that are iterators."""
+    files = [file for part in ('core', 'std', 'std_alloc') for file in (library / part / 'src').rglob('*.rt')]
+    return {name for file in files for name in re.findall(r'\bIterator for (\w+)', file.read_text())}
+
+
+def variables_of(text):
+    """The words of a text's patterns: behind let and for, in a closure's bars, and before an arrow."""
+    return {word for found in PATTERN.findall(text) for part in found for word in re.findall(r'\w+', part)}
 
 
 def dependencies_of(lines):
@@ -138,6 +190,7 @@ class Sources:
             for file in sorted(folder.rglob('*.rt')):
                 self.functions += functions_of(folder.parent.name, file.read_text())
         self.functions += functions_of_library(library)
+        self.iterators = iterators_of(library)
         self.dependencies = dependencies_of((root / 'crates.txt').read_text().splitlines())
 
     @functools.cache
@@ -166,13 +219,25 @@ class Sources:
         return found
 
     def named_in(self, function):
-        """Every function that this one may call: those whose name is a word of its text."""
-        visible = self.visible(function.crate)
-        for dot, owner, name in CALL.findall(function.text):
+        """Every function that this one may call: those whose name is a word of its text, and those that its forms call."""
+        visible, text = self.visible(function.crate), function.text
+        parameters = set(re.findall(r'(\w+)\s*:(?!:)', text.partition('{')[0]))
+        functions = function.known - parameters - variables_of(text)
+        calls = [(dot, owner, name) for dot, owner, name in CALL.findall(text) if dot or owner or name not in parameters]
+        # What is handed on by its name: by a path, or by a name that its file has and that is no variable here.
+        calls += [('', owner[:-2], name) for owner, name in HANDED_ON.findall(text) if owner or name in functions]
+        for form, names in FORMS:
+            calls += [('', '', name) for name in names if form.search(text)]
+        for dot, owner, name in calls:
             built_in = name in KEYWORDS or name[0].isupper() or dot and name in METHODS or owner in NUMBERS and name in BITS
             if name not in visible and not built_in and not (function.crate == 'std' and name in BUILT_IN):
                 sys.exit(f'divisions: {function.crate}::{function.name} calls {name}, which is not found')
-        for word in re.findall(r'\w+', function.text):
+        words = re.findall(r'\w+', text) + [name for *_, name in calls]
+        made = [word for word in words if function.crate == 'std' and word in self.iterators]
+        for name in made + RANGES if 'next' in words else made:
+            if not any(method.name == 'next' for method in visible.get(name, [])):
+                sys.exit(f'divisions: {function.crate}::{function.name} has a {name}, whose next is not found')
+        for word in words:
             yield from visible.get(word, [])
 
     def reached(self, roots):
