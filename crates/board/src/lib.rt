@@ -74,6 +74,15 @@ impl Board {
     pub const MAX_WORDS: usize = 2403;
 
     pub const MAX_BYTES: usize = 2 * Board::MAX_WORDS;
+
+    // The words that a hall needs: 3 + L + S + P times the words of a record.
+    pub fn need<K: Records>(desks: u16, screens: u16, positions: u16) -> usize
+        ensures { result ≡ need_of K.kind (hall_of desks screens positions) }
+    {
+        let p = desks as usize;
+        let s = p * screens as usize;
+        HEADER + (positions as usize + (s + p * K::record_words(s)))
+    }
 }
 
 // What differs between boards: the records of their desks. The rules of a kind of board are a value, `kind`.
@@ -128,15 +137,6 @@ impl Records for Row {
     }
 
     ghost laws = { first_laws };
-}
-
-// The words that a hall needs: 3 + L + S + P times the words of a record.
-pub fn need<K: Records>(desks: u16, screens: u16, positions: u16) -> usize
-    ensures { result ≡ need_of K.kind (hall_of desks screens positions) }
-{
-    let p = desks as usize;
-    let s = p * screens as usize;
-    HEADER + (positions as usize + (s + p * K::record_words(s)))
 }
 
 // The limits of the hall.
@@ -234,7 +234,7 @@ fn read_header<K: Records>(t: &[u8], limits: Limits) -> Result<Hall, Reason>
     if !in_limits(limits, desks, screens, positions) {
         return Err(Reason::Unsound);
     }
-    if n < need::<K>(desks, screens, positions) {
+    if n < Board::need::<K>(desks, screens, positions) {
         return Err(Reason::Unsound);
     }
     let p = desks as usize;
@@ -343,7 +343,7 @@ pub fn opening<K: Records>(
     if !within(limits, desks, screens, positions) {
         return Err(Reason::OverLimits);
     }
-    if words < need::<K>(desks, screens, positions) {
+    if words < Board::need::<K>(desks, screens, positions) {
         return Err(Reason::TableShort);
     }
     Ok(0)
@@ -360,7 +360,7 @@ pub fn open<K: Records>(
     ensures { Opened K.kind (limits_of limits) (hall_of desks screens positions) t.old result t.new }
 {
     opening::<K>(limits, desks, screens, positions, t.len() >> 1)?;
-    let n = need::<K>(desks, screens, positions);
+    let n = Board::need::<K>(desks, screens, positions);
     clear(&mut t[0..2 * n]);
     put_word(t, DESKS, desks);
     put_word(t, SCREENS, screens);
