@@ -1,22 +1,19 @@
 -- The message number: an accepted step, and no other, moves it on; and what `next_in` finds.
-use Rattle.std.specs.Prelude.{Ok, Err}
 use Rattle.std.proofs.Common.{◌≡◌, ℕ, zero, suc, ◌+◌, ◌*◌, ◌<◌, true, false, List, length, get_or, set, sym, refl, ap, ◌∙◌, arith, eq-eqb}
 use mathlib.Core.Bool.{and-false}
+use lib.Dec.{eqb-suc-zero}
 use Rattle.rules.specs.Bytes.{words_of_bytes}
 use Rattle.rules.specs.Hall.{Limits}
 use Rattle.rules.specs.Messages.{next_in}
-use Rattle.rules.specs.Steps.{Call, Result, Step, ◌numbered◌, ◌sends◌, accept, advance, decide, perform, first_no, in_range, perform_step, refuse, step_questions}
+use Rattle.rules.specs.Steps.{Call, Result, Step, ◌numbered◌, ◌sends◌, accept, advance, decide, perform, first_no, in_range, perform_step, step_questions}
 use Rattle.rules.specs.Table.{hall_in, in_hall, next_word, within}
 use Rattle.board.specs.Kind.{Kind, Laws, first, next_of}
 use Rattle.rules.proofs.Laws.History.StepEffects.{in_range_lem}
 use Rattle.rules.proofs.Laws.Lists.Bools.{and_left}
 use Rattle.rules.proofs.Laws.Table.TableSteps.{known_inside}
-use Rattle.words.specs.Written.{Written}
 use Rattle.words.proofs.Laws.{length-words, written_then}
-use Rattle.reply.specs.Answer.{number_of}
-use Rattle.reply.specs.declared.Reason.{Reason}
-use Rattle.reply.proofs.Numbers.{not_0}
-use Rattle.board.specs.Results.{Performed, Stepped, admitted_step}
+use Rattle.reply.specs.Answer.{Reply, table_result}
+use Rattle.board.specs.Results.{Matches, Performed, Stepped, admitted_step, moved_on}
 use Rattle.board.specs.declared.Location.{Location}
 use Rattle.board.specs.declared.Hall.{Hall as Numbers}
 use Rattle.board.proofs.AdmissionLaws.{AdmitsCall, SoundHall, admitted, asked, number_word, refused_step}
@@ -34,66 +31,36 @@ module _ {kind : Kind} (laws : Laws kind) {limits : Limits} {t : List ℕ} {mess
       let range = in_range_lem desk (hall_in t).desks a.admits_desk.yes_desk in
       rw (a.admits_desk.yes_desk, number_word laws limits t call a.admits_desk.yes_sound range.0 range.1, eq-eqb message (get_or t (next_of kind (hall_in t) desk) 0) a.is_next)
 
-  abbrev whole : Result (List ℕ)
-  whole = kind.step limits t (desk sends step numbered message)
-
-  -- accepted: the word of the number holds the next one, too
-  accepted_numbered : {session : ℕ} {after : List ℕ} → accept session after ≡ admitted_step kind limits t desk step
-      → accept session (set after p.next (advance message)) ≡ whole
+  numbered_step : moved_on p.next message (admitted_step kind limits t desk step) ≡ kind.step limits t call
   unfolding admitted_step
-  accepted_numbered {session} {after} done = by_number own_asked refl
+  numbered_step = by_number_lem own_asked refl
     where
-      by_number : (n : ℕ) → own_asked ≡ n → accept session (set after p.next (advance message)) ≡ whole
-      by_number zero q =
-          let d : accept session after ≡ accept (perform_step (hall_in t) (kind.state t) desk step).session (kind.after t desk step) = rw q at done in
-          (λ i. accept (d i).answer.session (set (d i).after ((admitted laws a.admits_desk).next_is i) (advance (a.is_next i))))
+      moved : ℕ → Result (List ℕ)
+      moved n = moved_on p.next message (decide n t (perform_step (hall_in t) (kind.state t) desk step).session (kind.after t desk step))
+
+      by_number_lem : (n : ℕ) → own_asked ≡ n → moved own_asked ≡ kind.step limits t call
+      by_number_lem zero q =
+          ap moved q
+          ∙ (λ i. accept (perform_step (hall_in t) (kind.state t) desk step).session (set (kind.after t desk step) ((admitted laws a.admits_desk).next_is i) (advance (a.is_next i))))
           ∙ sym (laws.steps limits t call a.admits_desk.yes_sound ∙ ap (λ (m : ℕ). decide m t (perform (hall_in t) (kind.state t) call).session (set (kind.after t desk step) (next_of kind (hall_in t) desk) (advance (get_or t (next_of kind (hall_in t) desk) 0)))) (all_asked ∙ q))
-      by_number (suc n) q =
-          let d : accept session after ≡ refuse (suc n) t = rw q at done in
-          absurd (omega (arith, ap (λ (r : Result (List ℕ)). r.answer.number) d))
-
-  -- refused: that is all
-  refused_numbered : {n : ℕ} {after : List ℕ} → record { answer = record { number = suc n; session = 0 }; after = after } ≡ admitted_step kind limits t desk step
-      → record { answer = record { number = suc n; session = 0 }; after = after } ≡ whole
-  unfolding admitted_step
-  refused_numbered {n} {after} done = by_number own_asked refl
-    where
-      left : Result (List ℕ)
-      left = record { answer = record { number = suc n; session = 0 }; after = after }
-
-      by_number : (m : ℕ) → own_asked ≡ m → left ≡ whole
-      by_number zero q =
-          let d : left ≡ accept (perform_step (hall_in t) (kind.state t) desk step).session (kind.after t desk step) = rw q at done in
-          absurd (omega (arith, ap (λ (r : Result (List ℕ)). r.answer.number) d))
-      by_number (suc m) q =
-          let d : left ≡ refuse (suc m) t = rw q at done in
-          d ∙ sym (refused_step laws limits t call m a.admits_desk.yes_sound (all_asked ∙ q))
+      by_number_lem (suc n) q = ap moved q ∙ rw (eqb-suc-zero n) (sym (refused_step laws limits t call n a.admits_desk.yes_sound (all_asked ∙ q)))
 
 -- the step on bytes: its own function, then `move_on`, for which the number is there
 pub number_in_bytes : {kind : Kind} (laws : Laws kind) {limits : Limits} (before between : List ℕ) {message desk : ℕ} {p : Location} → AdmitsCall kind limits (words_of_bytes before) message desk p
     → length between ≡ length before → 2 * p.next + 1 < length between
 number_in_bytes laws before between a long = omega (arith, (admitted laws a.admits_desk).number_there, length-words before, long)
 
-pub stepped : {kind : Kind} (laws : Laws kind) {limits : Limits} {before between after : List ℕ} {message desk session : ℕ} {p : Location}
-    → AdmitsCall kind limits (words_of_bytes before) message desk p → (step : Step) → Performed kind limits desk step before (Ok session) between → length between ≡ length before
-    → Written between (set (words_of_bytes between) p.next (advance message)) after
-    → Stepped kind limits (desk sends step numbered message) before (Ok session) after
-stepped laws {before = before} {between} {after} {message} {session = session} {p = p} a step done long moved =
+pub stepped : {kind : Kind} (laws : Laws kind) {limits : Limits} {before between after : List ℕ} {message desk : ℕ} {p : Location} {r x : Reply}
+    → AdmitsCall kind limits (words_of_bytes before) message desk p → (step : Step) → Performed kind limits desk step before r between → length between ≡ length before
+    → Matches (moved_on p.next message (table_result r (words_of_bytes between))) between x after
+    → Stepped kind limits (desk sends step numbered message) before x after
+stepped laws {before = before} {between} {after} {message} {p = p} a step done long moved =
     record {
-      words = ap (accept session) moved.holds ∙ accepted_numbered laws a step done.words;
-      last = (written_then {first = before} {before = between} {after = after} (record { holds = refl; last = done.last }) long moved).last;
+      words = moved.words ∙ ap (moved_on p.next message) done.words ∙ numbered_step laws a step;
+      last =
+          (written_then {first = before} {before = between} {after = after} (record { holds = refl; last = done.last }) long (record { holds = refl; last = moved.last })
+          ).last;
     }
-
-pub not_stepped : {kind : Kind} (laws : Laws kind) {limits : Limits} {before after : List ℕ} {message desk : ℕ} {p : Location} {reason : Reason}
-    → AdmitsCall kind limits (words_of_bytes before) message desk p → (step : Step) → Performed kind limits desk step before (Err reason) after
-    → Stepped kind limits (desk sends step numbered message) before (Err reason) after
-not_stepped {kind} laws {limits} {before} {after} {message} {desk} {reason = reason} a step done = by_number (number_of reason) refl
-  where
-    by_number : (n : ℕ) → number_of reason ≡ n → Stepped kind limits (desk sends step numbered message) before (Err reason) after
-    by_number zero none = absurd (not_0 reason none)
-    by_number (suc n) is =
-        let refused : (number : ℕ) → Result (List ℕ) = λ number. record { answer = record { number = number; session = 0 }; after = words_of_bytes after } in
-        record { words = ap refused is ∙ refused_numbered laws a step (sym (ap refused is) ∙ done.words); last = done.last }
 
 -- ---- the next message number of desk d in a sound table
 module _ {limits : Limits} {t : List ℕ} {h : Numbers} (hall : SoundHall first limits t h) (d : ℕ) where

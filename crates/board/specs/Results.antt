@@ -1,10 +1,10 @@
 -- A call on a table sent as bytes, compared with the rules on its words.
-use Rattle.std.specs.Prelude.{◌≡◌, ℕ, ◌*◌, List, length, drop}
+use Rattle.std.specs.Prelude.{◌≡◌, ℕ, ◌*◌, cond, List, length, drop, ◌==◌, slice_set}
 use Rattle.std.proofs.Math.Option.{Option}
 use Rattle.rules.specs.Bytes.{words_of_bytes}
 use Rattle.rules.specs.Hall.{Hall, Limits}
 use Rattle.rules.specs.Runs.{answer_request}
-use Rattle.rules.specs.Steps.{Call, Collect, Drop, Result, Retire, Step, Swap, Take, decide, first_no, perform_step, step_questions}
+use Rattle.rules.specs.Steps.{Call, Collect, Drop, Result, Retire, Step, Swap, Take, advance, decide, first_no, perform_step, step_questions}
 use Rattle.rules.specs.Table.{hall_in}
 use Rattle.board.specs.Kind.{Kind}
 use Rattle.reply.specs.Answer.{Reply, table_result}
@@ -36,6 +36,13 @@ admitted_step kind limits table d step =
 
 abbrev pub Performed : Kind → Limits → ℕ → Step → List ℕ → Reply → List ℕ → Type 0
 Performed kind limits d step before = Matches (admitted_step kind limits (words_of_bytes before) d step) before
+
+-- The same result, but after an acceptance the word at this offset holds the message number after this one.
+abbrev pub moved_on : ℕ → ℕ → Result (List ℕ) → Result (List ℕ)
+moved_on next message result = record {
+  answer = result.answer;
+  after = cond (result.answer.number == 0) (slice_set result.after next (advance message)) result.after;
+}
 
 -- A step of the code, as one of the rules.
 abbrev pub step_of : Sent → Step

@@ -1,21 +1,20 @@
 #![tactic(auto)]
 
-ghost use Rattle.std.specs.Prelude.{◌≡◌, ◌+◌, ◌-◌, ◌*◌, ◌<◌, ◌≤◌, length, set, take, drop as drop_words, [], ◌∷◌};
+ghost use Rattle.std.specs.Prelude.{◌≡◌, ◌+◌, ◌-◌, ◌*◌, ◌<◌, ◌≤◌, length, take, drop as drop_words, [], ◌∷◌};
 ghost use Rattle.rules.specs.Bytes.{words_of_bytes};
 ghost use Rattle.rules.specs.Hall.{hall_limits, hall_of, max_all_screens, max_desks, max_positions, training_limits};
 ghost use Rattle.rules.specs.Lists.{chunks, every};
 ghost use Rattle.rules.specs.Messages.{next_in};
 ghost use Rattle.rules.specs.Runs.{request_for};
-ghost use Rattle.rules.specs.Steps.{Collect, Drop, Retire, Swap, Take, ◌numbered◌, ◌sends◌, advance, collect_seeing, in_range};
-ghost use Rattle.words.specs.Written.{Written};
+ghost use Rattle.rules.specs.Steps.{Collect, Drop, Retire, Swap, Take, ◌numbered◌, ◌sends◌, collect_seeing, in_range};
 ghost use Rattle.rules.specs.Table.{header_words, in_hall, in_limits, max_words};
 ghost use Rattle.board.specs.Kind.{Kind, Laws, RetiredAs, SoundRecord, first, need_of, start_for};
 ghost use Rattle.board.specs.FirstLaws.{first_laws};
 ghost use Rattle.limits.specs.Room.{limits_of};
-ghost use Rattle.reply.specs.Answer.{answer_of};
+ghost use Rattle.reply.specs.Answer.{answer_of, table_result};
 ghost use Rattle.board.specs.Admission.{Admits, admission_of, header_of, screen_for, soundness_of};
 ghost use Rattle.board.specs.Opening.{OpeningAnswer};
-ghost use Rattle.board.specs.Results.{Opened, Performed, Requested, Stepped, step_of};
+ghost use Rattle.board.specs.Results.{Matches, Opened, Performed, Requested, Stepped, moved_on, step_of};
 
 use codes::Code;
 use desk::{OWED, SCANNED, collect_record, record_words, retire_record, sound_record, tail_offset};
@@ -75,6 +74,15 @@ impl Board {
     pub const MAX_WORDS: usize = 2403;
 
     pub const MAX_BYTES: usize = 2 * Board::MAX_WORDS;
+
+    // The words that a hall needs: 3 + L + S + P times the words of a record.
+    pub fn need<K: Records>(desks: u16, screens: u16, positions: u16) -> usize
+        ensures { result ≡ need_of K.kind (hall_of desks screens positions) }
+    {
+        let p = desks as usize;
+        let s = p * screens as usize;
+        HEADER + (positions as usize + (s + p * K::record_words(s)))
+    }
 }
 
 // What differs between boards: the records of their desks. The rules of a kind of board are a value, `kind`.
@@ -129,15 +137,6 @@ impl Records for Row {
     }
 
     ghost laws = { first_laws };
-}
-
-// The words that a hall needs: 3 + L + S + P times the words of a record.
-pub fn need<K: Records>(desks: u16, screens: u16, positions: u16) -> usize
-    ensures { result ≡ need_of K.kind (hall_of desks screens positions) }
-{
-    let p = desks as usize;
-    let s = p * screens as usize;
-    HEADER + (positions as usize + (s + p * K::record_words(s)))
 }
 
 // The limits of the hall.
@@ -235,7 +234,7 @@ fn read_header<K: Records>(t: &[u8], limits: Limits) -> Result<Hall, Reason>
     if !in_limits(limits, desks, screens, positions) {
         return Err(Reason::Unsound);
     }
-    if n < need::<K>(desks, screens, positions) {
+    if n < Board::need::<K>(desks, screens, positions) {
         return Err(Reason::Unsound);
     }
     let p = desks as usize;
@@ -344,7 +343,7 @@ pub fn opening<K: Records>(
     if !within(limits, desks, screens, positions) {
         return Err(Reason::OverLimits);
     }
-    if words < need::<K>(desks, screens, positions) {
+    if words < Board::need::<K>(desks, screens, positions) {
         return Err(Reason::TableShort);
     }
     Ok(0)
@@ -361,7 +360,7 @@ pub fn open<K: Records>(
     ensures { Opened K.kind (limits_of limits) (hall_of desks screens positions) t.old result t.new }
 {
     opening::<K>(limits, desks, screens, positions, t.len() >> 1)?;
-    let n = need::<K>(desks, screens, positions);
+    let n = Board::need::<K>(desks, screens, positions);
     clear(&mut t[0..2 * n]);
     put_word(t, DESKS, desks);
     put_word(t, SCREENS, screens);
@@ -369,13 +368,15 @@ pub fn open<K: Records>(
     Ok(0)
 }
 
-// Ends an accepted step: the desk's next message number, word `next`, becomes the one after the step's; 0 comes after 65,535.
-// Precondition: the table has that word.
-fn move_on(t: &mut [u8], next: usize, message: u16)
+// Ends an admitted step, given its reply: after an acceptance the desk's next message number, word `next`, is the one after the call's; 0
+// comes after 65,535. Precondition: the table has that word.
+pub fn move_on(t: &mut [u8], next: usize, message: u16, r: Reply) -> Reply
     requires { 2 * next + 1 < length t.old }
-    ensures { Written t.old (set (words_of_bytes t.old) next (advance message)) t.new }
+    ensures { Matches (moved_on next message (table_result r (words_of_bytes t.old))) t.old result t.new }
 {
+    let session = r?;
     put_word(t, next, message.wrapping_add(1));
+    Ok(session)
 }
 
 // Take, of an admitted desk. Precondition, here and for the other steps: the table is sound in a room with these limits, it has the desk,
@@ -555,9 +556,8 @@ fn step_in<K: Records>(
     ensures { Stepped K.kind (limits_of limits) (desk sends step_of step numbered message) t.old result t.new }
 {
     let location = admit::<K>(t, limits, hall, message, desk)?;
-    let session = step_at::<K>(t, limits, desk, location, step)?;
-    move_on(t, location.next, message);
-    Ok(session)
+    let reply = step_at::<K>(t, limits, desk, location, step);
+    move_on(t, location.next, message, reply)
 }
 
 // A step: the table is asked whether it is sound, and the step is done in its hall.

@@ -1,10 +1,10 @@
--- `board::need` meets its contract.
+-- `board::Board::need` meets its contract.
 use Rattle.std.proofs.Common.{ℕ, ◌+◌, ◌*◌, ◌≤◌, ap, mul-le-mul, arith}
 use Rattle.rules.specs.Table.{width_for, header_words}
 use Rattle.board.specs.Kind.{Laws}
-use Rattle.board.proofs.need.Goals as goal
-use Rattle.board.proofs.need.Given.{Over}
-use Rattle.board.proofs.need.Goals.{Start, After-record_words}
+use Rattle.board.proofs.Board.need.Goals as goal
+use Rattle.board.proofs.Board.need.Given.{Over}
+use Rattle.board.proofs.Board.need.Goals.{Start, After-record_words}
 
 laws : (g : Over) → Laws g.K.Records.kind
 laws g = g.met.K.Records.laws
