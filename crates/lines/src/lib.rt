@@ -11,7 +11,9 @@ ghost use Rattle.buffer.specs.Put.{Fits, Put};
 
 use buffer::Buffer;
 
-// The decimal digits of a number. (Most numbers of a line have one digit, and it is put faster by itself.)
+// The decimal digits of a number. (Most numbers of a line have one digit, and it is put faster by itself. Inlined, as what puts a line is, so
+// that the buffer's length stays in a register.)
+#[inline(always)]
 fn put_digits(out: &mut Buffer<'_>, value: u64)
     requires { Fits out.old (decimal value) }
     ensures { Put out.old out.new (decimal value) }
@@ -25,6 +27,7 @@ fn put_digits(out: &mut Buffer<'_>, value: u64)
 }
 
 // A number in decimal and the byte after it, a space or the end of the line.
+#[inline(always)]
 fn put_number(out: &mut Buffer<'_>, value: u64, after: u8)
     requires { Fits out.old (decimal value ++ (after ∷ [])) }
     ensures { Put out.old out.new (decimal value ++ (after ∷ [])) }
@@ -35,6 +38,7 @@ fn put_number(out: &mut Buffer<'_>, value: u64, after: u8)
 
 // The line of a record: record number, step code, reply number, session.
 // Precondition: the line fits (the caller keeps room for the longest line).
+#[inline(always)]
 pub fn put_line(out: &mut Buffer<'_>, index: u64, code: u64, number: u64, session: u64)
     requires { Fits out.old (line index code number session) }
     ensures { Put out.old out.new (line index code number session) }

@@ -207,6 +207,7 @@ pub struct Cursor<'a> {
 
 impl<'a> Cursor<'a> {
     // A number whose last byte was read: refused if it is over the limit, and then if it is padded and that is barred.
+    #[inline(always)]
     fn judge(&mut self, value: u32, padded: bool, next: usize, limit: u16) -> Result<u16, Refusal>
         ensures value { number_result result self.new.at ≡ judged (padding_of self.old.format.padding) limit self.old.at value padded next }
         ensures same { SameSheet self.old self.new }
@@ -223,7 +224,8 @@ impl<'a> Cursor<'a> {
     }
 
     // Reads a number: groups of seven bits, lowest first; the top bit of a byte (128) says that another follows. A refused number leaves
-    // the cursor where it was.
+    // the cursor where it was. (Inlined, as its parts and the readers of fields are, so that the cursor of a record stays in registers.)
+    #[inline(always)]
     pub fn read_number(&mut self, limit: u16) -> Result<u16, Refusal>
         ensures value { number_result result self.new.at ≡ (format_of self.old.format).read_number limit self.old.sheet.now self.old.at }
         ensures same { SameSheet self.old self.new }
@@ -246,6 +248,7 @@ impl<'a> Cursor<'a> {
     }
 
     // Reads a field that follows the code; one that does not is 0 and has no byte.
+    #[inline(always)]
     fn read_field(&mut self, code: Code, field: Field, limit: u16) -> Result<u16, Refusal>
         ensures value { number_result result self.new.at ≡ decode_field (format_of self.old.format).read_number (follows_code (code_of code) (column_of field)) limit self.old.sheet.now self.old.at }
         ensures same { SameSheet self.old self.new }
@@ -258,6 +261,7 @@ impl<'a> Cursor<'a> {
     }
 
     // Reads the fields after the desk.
+    #[inline(always)]
     fn read_rest(&mut self, code: Code, desk: u16) -> Result<Record, Refusal>
         ensures value { parsed_at record_of result self.new.at ≡ decode_rest (format_of self.old.format) (code_of code) desk self.old.sheet.now self.old.at }
         ensures same { SameSheet self.old self.new }
@@ -275,6 +279,7 @@ impl<'a> Cursor<'a> {
     }
 
     // Reads the fields of a record whose code was read.
+    #[inline(always)]
     fn read_fields(&mut self, code: Code) -> Result<Record, Refusal>
         ensures value { parsed_at record_of result self.new.at ≡ decode_fields (format_of self.old.format) (code_of code) self.old.sheet.now self.old.at }
         ensures same { SameSheet self.old self.new }
