@@ -1,5 +1,6 @@
 -- The message number: an accepted step, and no other, moves it on; and what `next_in` finds.
-use Rattle.std.proofs.Common.{◌≡◌, ℕ, zero, suc, ◌+◌, ◌*◌, ◌<◌, true, false, List, length, get_or, set, sym, refl, ap, ◌∙◌, arith, eq-eqb}
+use Rattle.std.specs.Prelude.{Err}
+use Rattle.std.proofs.Common.{◌≡◌, ℕ, zero, suc, ◌+◌, ◌*◌, ◌<◌, true, false, List, length, get_or, set, sym, refl, ap, ◌∙◌, arith, eq-eqb, ne_eqb}
 use mathlib.Core.Bool.{and-false}
 use lib.Dec.{eqb-suc-zero}
 use Rattle.rules.specs.Bytes.{words_of_bytes}
@@ -12,7 +13,9 @@ use Rattle.rules.proofs.Laws.History.StepEffects.{in_range_lem}
 use Rattle.rules.proofs.Laws.Lists.Bools.{and_left}
 use Rattle.rules.proofs.Laws.Table.TableSteps.{known_inside}
 use Rattle.words.proofs.Laws.{length-words, written_then}
-use Rattle.reply.specs.Answer.{Reply, table_result}
+use Rattle.reply.specs.Answer.{Reply, number_of, table_result}
+use Rattle.reply.specs.declared.Reason.{Reason}
+use Rattle.reply.proofs.Numbers.{not_0}
 use Rattle.board.specs.Results.{Matches, Performed, Stepped, admitted_step, moved_on}
 use Rattle.board.specs.declared.Location.{Location}
 use Rattle.board.specs.declared.Hall.{Hall as Numbers}
@@ -61,6 +64,15 @@ stepped laws {before = before} {between} {after} {message} {p = p} a step done l
           (written_then {first = before} {before = between} {after = after} (record { holds = refl; last = done.last }) long (record { holds = refl; last = moved.last })
           ).last;
     }
+
+-- a step that its own questions refuse: that is all
+pub not_stepped : {kind : Kind} (laws : Laws kind) {limits : Limits} {before after : List ℕ} {message desk : ℕ} {p : Location} {reason : Reason}
+    → AdmitsCall kind limits (words_of_bytes before) message desk p → (step : Step) → Performed kind limits desk step before (Err reason) after
+    → Stepped kind limits (desk sends step numbered message) before (Err reason) after
+not_stepped laws {after = after} {message} {p = p} {reason} a step done =
+    let stays : table_result (Err reason) (words_of_bytes after) ≡ moved_on p.next message (table_result (Err reason) (words_of_bytes after)) =
+    rw (ne_eqb (number_of reason) 0 (not_0 reason)) in
+    record { words = stays ∙ ap (moved_on p.next message) done.words ∙ numbered_step laws a step; last = done.last }
 
 -- ---- the next message number of desk d in a sound table
 module _ {limits : Limits} {t : List ℕ} {h : Numbers} (hall : SoundHall first limits t h) (d : ℕ) where
