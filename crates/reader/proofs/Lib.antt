@@ -1,3 +1,4 @@
 -- Laws that the proofs cite.
 pub mod NumberLaws
 pub mod Laws
+pub mod Reasons
