@@ -1,5 +1,5 @@
--- No reason has the number of an acceptance.
-use Rattle.std.proofs.Common.{◌≡◌, ℕ, arith}
+-- No reason has the number of an acceptance, and none has one over 23.
+use Rattle.std.proofs.Common.{◌≡◌, ◌≤◌, ℕ, arith}
 use Rattle.reply.specs.Answer.{number_of}
 use Rattle.reply.specs.declared.Reason.{Reason}
 use Rattle.reply.specs.declared.Reason.TheVariants.{BadDesks, BadPositions, BadScreens, Ends, NoCode, NoDesk, NoPosition, NoRoom, NoScreen, OtherMessage}
@@ -30,3 +30,28 @@ not_0 WrongDesk none = omega arith
 not_0 WrongEdition none = omega arith
 not_0 OverLimits none = omega arith
 not_0 OtherMessage none = omega arith
+
+pub at_most_23 : (reason : Reason) → number_of reason ≤ 23
+at_most_23 BadDesks = omega arith
+at_most_23 BadScreens = omega arith
+at_most_23 BadPositions = omega arith
+at_most_23 TableShort = omega arith
+at_most_23 Unsound = omega arith
+at_most_23 NoDesk = omega arith
+at_most_23 NoScreen = omega arith
+at_most_23 NoPosition = omega arith
+at_most_23 ScreenFull = omega arith
+at_most_23 PositionEmpty = omega arith
+at_most_23 ScreenEmpty = omega arith
+at_most_23 Owing = omega arith
+at_most_23 OwesNothing = omega arith
+at_most_23 NoRoom = omega arith
+at_most_23 Ends = omega arith
+at_most_23 TooLarge = omega arith
+at_most_23 NoCode = omega arith
+at_most_23 TooLong = omega arith
+at_most_23 Padded = omega arith
+at_most_23 WrongDesk = omega arith
+at_most_23 WrongEdition = omega arith
+at_most_23 OverLimits = omega arith
+at_most_23 OtherMessage = omega arith
