@@ -2,3 +2,4 @@
 pub mod NumberLaws
 pub mod Laws
 pub mod Reasons
+pub mod ReasonCases

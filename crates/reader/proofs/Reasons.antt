@@ -1,10 +1,10 @@
--- What ends a reading has the number of a reason. The law is for a caller that keeps a `Reason` in refusals of its own.
-use Rattle.std.specs.Prelude.{◌≡◌, refl, ℕ, ◌+◌, Bool, true, false, cond, not, List, [], Option, Err, leb, eqb, length, drop}
+-- What ends a reading has the number of a reason. The laws are for callers that keep a `Reason` in refusals of their own.
+use Rattle.std.specs.Prelude.{◌≡◌, refl, ℕ, Bool, true, false, cond, not, List, Option, Err, leb, eqb, length, drop}
 use Rattle.std.proofs.Common.{subst, sym}
-use Rattle.rules.specs.Numbers.{Groups, Padding, Parsed, allows, bind, decode_groups, decode_number, groups_in, is_padded, max_number, overlong, parsed, refusal_of, refused, terminated}
+use Rattle.rules.specs.Numbers.{Groups, Padding, Parsed, allows, bind, decode_groups, decode_number, groups_in, is_padded, max_number, overlong, parsed, refused, terminated}
 use Rattle.rules.specs.Numbers.{truncated, value_of}
 use Rattle.sheet_rules.specs.Edition1.{Format, decode_field, decode_fields, decode_header, decode_record, decode_rest, with_code}
-use Rattle.sheet_rules.specs.Edition2.{Version, check_desk, decode_header2, decode_record2, decode_shorthand, decode_written_out, desk_before, edition_for}
+use Rattle.sheet_rules.specs.Edition2.{Version, check_desk, decode_header2, decode_record2, desk_before, edition_for}
 use Rattle.sheet_rules.specs.Edition2.{expect_number, is_shorthand, repeats, stands_for, version1, version2}
 use Rattle.sheet_rules.specs.Sheet.{Carried, Record, begin_sheet, desk_field, follows, is_code, max_bytes, position_field, screen_field, session_field}
 use Rattle.reply.specs.Answer.{number_of}
@@ -14,8 +14,6 @@ use Rattle.reader.specs.Results.{carried_of, edition_of, format_of, header_resul
 use Rattle.reader.specs.declared.Edition.{Edition as ReaderEdition}
 use Rattle.reader.specs.declared.Format.{Format as ReaderFormat}
 use Rattle.reader.specs.declared.Refusal.{Refusal as ReaderRefusal}
-use Rattle.reader.specs.declared.Version.{Version as ReaderVersion}
-use Rattle.reader.specs.declared.Version.TheVariants.{One, Two}
 
 -- The number is that of a reason.
 abbrev pub OfReason : ℕ → Type 0
@@ -44,13 +42,8 @@ coded_has_reason code (refused refusal) has = has
 
 -- ---- Numbers.
 groups_has_reason : (padding : Padding) (limit at : ℕ) (groups : Groups) → HasReason (decode_groups padding limit at groups)
-groups_has_reason padding limit at (terminated groups) = by_questions (leb (value_of groups) limit) (allows padding (is_padded groups))
-  where
-    by_questions : (small accepted : Bool)
-        → HasReason (cond small (cond accepted (parsed (value_of groups) (at + length groups)) (refused (refusal_of 0 19 at))) (refused (refusal_of 0 16 at)))
-    by_questions true true = tt
-    by_questions true false = (Padded, refl)
-    by_questions false accepted = (TooLarge, refl)
+groups_has_reason padding limit at (terminated groups) =
+    cond_has_reason (leb (value_of groups) limit) _ _ (cond_has_reason (allows padding (is_padded groups)) _ _ tt (Padded, refl)) (TooLarge, refl)
 groups_has_reason padding limit at truncated = (Ends, refl)
 groups_has_reason padding limit at overlong = (TooLarge, refl)
 
@@ -66,61 +59,51 @@ module _ (format : Format) (numbers : (limit : ℕ) (sheet : List ℕ) (at : ℕ
 
   rest_has_reason : (code desk : ℕ) (sheet : List ℕ) (at : ℕ) → HasReason (decode_rest format code desk sheet at)
   rest_has_reason code desk sheet at =
-      bind_has_reason (decode_field format.read_number (follows code screen_field) max_number sheet at) _
-      (field_has_reason (follows code screen_field) max_number sheet at) λ screen after_screen.
-      bind_has_reason (decode_field format.read_number (follows code position_field) max_number sheet after_screen) _
-      (field_has_reason (follows code position_field) max_number sheet after_screen) λ position after_position.
-      bind_has_reason (decode_field format.read_number (follows code session_field) format.limits.sessions sheet after_position) _
-      (field_has_reason (follows code session_field) format.limits.sessions sheet after_position) λ session after_session. tt
+      bind_has_reason _ _ (field_has_reason (follows code screen_field) max_number sheet at) λ screen after_screen.
+      bind_has_reason _ _ (field_has_reason (follows code position_field) max_number sheet after_screen) λ position after_position.
+      bind_has_reason _ _ (field_has_reason (follows code session_field) format.limits.sessions sheet after_position) λ session after_session. tt
 
   fields_has_reason : (code : ℕ) (sheet : List ℕ) (at : ℕ) → HasReason (decode_fields format code sheet at)
   fields_has_reason code sheet at =
-      bind_has_reason (decode_field format.read_number (follows code desk_field) max_number sheet at) _
-      (field_has_reason (follows code desk_field) max_number sheet at) λ desk after_desk. rest_has_reason code desk sheet after_desk
+      bind_has_reason _ _ (field_has_reason (follows code desk_field) max_number sheet at) λ desk after_desk. rest_has_reason code desk sheet after_desk
 
   record_1_has_reason : (sheet : List ℕ) (at : ℕ) → HasReason (decode_record format sheet at)
   unfolding decode_record
   record_1_has_reason sheet at =
-      bind_has_reason (format.read_number max_number sheet at) _ (numbers max_number sheet at) λ code after_code.
-      cond_has_reason (is_code code) _ _
-      (coded_has_reason code (decode_fields format code sheet after_code) (fields_has_reason code sheet after_code)) (NoCode, refl)
+      bind_has_reason _ _ (numbers max_number sheet at) λ code after_code.
+      cond_has_reason (is_code code) _ _ (coded_has_reason code _ (fields_has_reason code sheet after_code)) (NoCode, refl)
 
   header_1_has_reason : (sheet : List ℕ) (at : ℕ) → HasReason (decode_header format.read_number sheet at)
   unfolding decode_header
   header_1_has_reason sheet at =
-      bind_has_reason (format.read_number max_number sheet at) _ (numbers max_number sheet at) λ desks after_desks.
-      bind_has_reason (format.read_number max_number sheet after_desks) _ (numbers max_number sheet after_desks) λ screens after_screens.
-      bind_has_reason (format.read_number max_number sheet after_screens) _ (numbers max_number sheet after_screens) λ positions after_positions. tt
+      bind_has_reason _ _ (numbers max_number sheet at) λ desks after_desks.
+      bind_has_reason _ _ (numbers max_number sheet after_desks) λ screens after_screens.
+      bind_has_reason _ _ (numbers max_number sheet after_screens) λ positions after_positions. tt
 
   expected_has_reason : (expected : ℕ) (sheet : List ℕ) (at : ℕ) → HasReason (expect_number format.read_number expected sheet at)
   expected_has_reason expected sheet at =
-      bind_has_reason (format.read_number max_number sheet at) _ (numbers max_number sheet at) λ value next.
-      cond_has_reason (eqb value expected) _ _ tt (WrongEdition, refl)
+      bind_has_reason _ _ (numbers max_number sheet at) λ value next. cond_has_reason (eqb value expected) _ _ tt (WrongEdition, refl)
 
   header_2_has_reason : (sheet : List ℕ) (at : ℕ) → HasReason (decode_header2 format.read_number sheet at)
   unfolding decode_header2
   header_2_has_reason sheet at =
-      bind_has_reason (expect_number format.read_number 0 sheet at) _ (expected_has_reason 0 sheet at) λ zero after_zero.
-      bind_has_reason (expect_number format.read_number 2 sheet after_zero) _ (expected_has_reason 2 sheet after_zero) λ edition after_edition.
+      bind_has_reason _ _ (expected_has_reason 0 sheet at) λ zero after_zero.
+      bind_has_reason _ _ (expected_has_reason 2 sheet after_zero) λ edition after_edition.
       header_1_has_reason sheet after_edition
 
   checked_has_reason : (shorthand : Bool) (carried : Carried) (found : Parsed Record) → HasReason found
       → HasReason (bind found (check_desk shorthand carried))
   checked_has_reason shorthand carried found has =
-      bind_has_reason found (check_desk shorthand carried) has λ entry next.
+      bind_has_reason _ _ has λ entry next.
       cond_has_reason (cond shorthand (repeats carried entry.desk) (not (repeats carried entry.desk))) _ _ tt (WrongDesk, refl)
 
   record_2_has_reason : (carried : Carried) (sheet : List ℕ) (at : ℕ) → HasReason (decode_record2 format carried sheet at)
   unfolding decode_record2
   record_2_has_reason carried sheet at =
-      bind_has_reason (format.read_number max_number sheet at) _ (numbers max_number sheet at) λ code after_code.
+      bind_has_reason _ _ (numbers max_number sheet at) λ code after_code.
       cond_has_reason (is_shorthand code) _ _
-      (coded_has_reason (stands_for code) (decode_shorthand format carried (stands_for code) sheet after_code)
-      (checked_has_reason true carried (decode_rest format (stands_for code) (desk_before carried) sheet after_code)
-      (rest_has_reason (stands_for code) (desk_before carried) sheet after_code)))
-      (cond_has_reason (is_code code) _ _
-      (coded_has_reason code (decode_written_out format carried code sheet after_code)
-      (checked_has_reason false carried (decode_fields format code sheet after_code) (fields_has_reason code sheet after_code))) (NoCode, refl))
+      (coded_has_reason (stands_for code) _ (checked_has_reason true carried _ (rest_has_reason (stands_for code) (desk_before carried) sheet after_code)))
+      (cond_has_reason (is_code code) _ _ (coded_has_reason code _ (checked_has_reason false carried _ (fields_has_reason code sheet after_code))) (NoCode, refl))
 
   edition_record_has_reason : (version : Version) (carried : Carried) (sheet : List ℕ) (at : ℕ) → HasReason ((edition_for version format).decode_record carried sheet at)
   edition_record_has_reason version1 carried sheet at = record_1_has_reason sheet at
@@ -155,12 +138,3 @@ record_refused edition carried sheet at read = subst HasReason (sym read) (recor
 pub sheet_refused : (edition : ReaderEdition) (sheet : List ℕ) {refusal : ReaderRefusal} → header_result (Err refusal) ≡ begin_sheet (edition_of edition) sheet
     → OfReason refusal.number
 sheet_refused edition sheet read = subst HasReason (sym read) (sheet_has_reason edition sheet)
-
--- A computed case: in a sheet without bytes the first number ends too soon.
-pub empty_ends : (edition : ReaderEdition) → begin_sheet (edition_of edition) [] ≡ refused (refusal_of 0 (number_of Ends) 0)
-unfolding decode_header decode_header2 decode_number
-empty_ends edition = by_version edition.version
-  where
-    by_version : (version : ReaderVersion) → (edition_for (version_of version) (format_of edition.format)).decode_header [] 0 ≡ refused (refusal_of 0 15 0)
-    by_version One = refl
-    by_version Two = refl
