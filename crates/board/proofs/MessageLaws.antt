@@ -65,7 +65,7 @@ stepped laws {before = before} {between} {after} {message} {p = p} a step done l
           ).last;
     }
 
--- a step that its own questions refuse: that is all
+-- a step that its own questions refuse: the rules refuse it, and no number moves on
 pub not_stepped : {kind : Kind} (laws : Laws kind) {limits : Limits} {before after : List ℕ} {message desk : ℕ} {p : Location} {reason : Reason}
     → AdmitsCall kind limits (words_of_bytes before) message desk p → (step : Step) → Performed kind limits desk step before (Err reason) after
     → Stepped kind limits (desk sends step numbered message) before (Err reason) after

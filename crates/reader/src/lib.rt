@@ -100,7 +100,7 @@ pub fn archive_edition(limits: Limits) -> Edition
 }
 
 // What ends a reading: the code that its line shows (0 if no code was read), the reply number, and the offset of the first byte of the
-// number that is refused (0 if none is). The number of what the readers return is that of a `Reason` (proofs/Reasons).
+// number that is refused (0 if none is). A refusal that a reader returns has the number of a `Reason` (proofs/Reasons).
 #[derive(Clone, Copy)]
 pub struct Refusal {
     pub code: u16,
